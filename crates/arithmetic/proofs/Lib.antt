@@ -1,0 +1,2 @@
+pub mod NarrowBits
+pub mod NarrowCases

@@ -1,0 +1,112 @@
+-- The answers of `magnitude`, by the exponent's field.
+use mathlib.Core.Path.{_≡_, refl, sym, ap, _∙_, subst}
+use mathlib.Core.Bool.{Bool, true, false, cond, not}
+use Prim.Native.Nat.{ℕ, zero, suc, _+_, _-_, _*_, _/_, _%_, _^_, _≤_, _<_}
+use native.Mathlib.Nat.{le-trans, add-comm}
+use native.Mathlib.Omega.{arith}
+use lib.Ieee.{Float, nan, inf, fin, binary32, binary64, ofFields, ofBits, toBits, nanBits, isNan, ne, fits, top}
+use lib.Ieee.Compare.{differs-from-itself}
+use lib.Ieee.Bits.{ofBits-toBits, toBits-lt, nanBits-is, nanBits-above, is-false}
+use lib.Dec.{T, leb, eqb}
+use borrow.Author.Tests.{leb-true, leb-false, eq-eqb, eqb-true, not-false, le-ltb}
+use lib.Ieee.Nearest.{closest}
+use lib.Ieee.Exact.{HasValue}
+use Rattle.arithmetic.specs.Narrow.{narrowed, NarrowsTo}
+use Rattle.arithmetic.proofs.NarrowBits.{value-normal, value-small, low-bits, none-bits, high-bits, over-bits, infinite, closest-le}
+
+pub case-none : (field frac : ℕ) → field < 873 → frac < 2 ^ 52 → NarrowsTo field frac 0
+case-none zero frac h b = record { small = omega arith; is = λ s. none-bits s _ frac 0 925 (value-small s frac) (omega arith) (omega arith) (omega arith) }
+case-none (suc x) frac h b =
+    record { small = omega arith; is = λ s. none-bits s _ (2 ^ 52 + frac) x (925 - x) (value-normal s x frac (omega arith)) (omega arith) (omega arith) (omega arith) }
+
+pub case-low : (field frac r : ℕ) → 873 ≤ field → field < 897 → frac < 2 ^ 52 → r ≡ closest (frac + 2 ^ 52) (2 ^ (926 - field)) → NarrowsTo field frac r
+case-low zero frac r g h b e = absurd (omega arith)
+case-low (suc x) frac r g h b e =
+    let t : frac + 2 ^ 52 ≡ 2 ^ 52 + frac = add-comm frac (2 ^ 52) in
+    let f : r ≡ closest (2 ^ 52 + frac) (2 ^ (926 - suc x)) = rw t at e in
+    let l = closest-le (2 ^ 52 + frac) (926 - suc x) (omega arith) (omega arith) in
+    record {
+      small = rw f (le-trans l (omega arith));
+      is = λ s. rw f (low-bits s _ (2 ^ 52 + frac) x (926 - suc x) (value-normal s x frac (omega arith)) (omega arith) (omega arith) (omega arith));
+    }
+
+pub case-high : (field frac q : ℕ) → 897 ≤ field → field ≤ 1150 → frac < 2 ^ 52 → q ≡ closest (frac + 2 ^ 52) (2 ^ 29) → NarrowsTo field frac ((field - 897) * 2 ^ 23 + q)
+case-high zero frac q g h b e = absurd (omega arith)
+case-high (suc x) frac q g h b e =
+    let t : frac + 2 ^ 52 ≡ 2 ^ 52 + frac = add-comm frac (2 ^ 52) in
+    let f : q ≡ closest (2 ^ 52 + frac) (2 ^ 29) = rw t at e in
+    let l = closest-le (2 ^ 52 + frac) 29 (omega arith) (omega arith) in
+    let k = suc x - 897 in
+    let y : x ≡ 896 + k = omega arith in
+    record {
+      small = let m : q ≤ 2 ^ 24 = rw f l in omega arith;
+      is = λ s.
+          let v = subst (λ (z : ℕ). HasValue (ofFields binary64 s (suc x) frac) s ((2 ^ 52 + frac) * 2 ^ z) (2 ^ 1074)) y (value-normal s x frac (omega arith)) in
+          rw f (high-bits s _ (2 ^ 52 + frac) k v (omega arith) (omega arith) (omega arith));
+    }
+
+pub case-over : (field frac : ℕ) → 1150 < field → field < 2047 → frac < 2 ^ 52 → NarrowsTo field frac 0x7f80_0000
+case-over zero frac g h b = absurd (omega arith)
+case-over (suc x) frac g h b =
+    let k = suc x - 897 in
+    let y : x ≡ 896 + k = omega arith in
+    record {
+      small = omega arith;
+      is = λ s.
+          let v = subst (λ (z : ℕ). HasValue (ofFields binary64 s (suc x) frac) s ((2 ^ 52 + frac) * 2 ^ z) (2 ^ 1074)) y (value-normal s x frac (omega arith)) in
+          over-bits s _ (2 ^ 52 + frac) k v (omega arith) (omega arith) (omega arith);
+    }
+
+pub case-inf : (field frac : ℕ) → field ≡ 2047 → frac ≡ 0 → NarrowsTo field frac 0x7f80_0000
+unfolding narrowed ofFields
+case-inf field frac e f = record { small = omega arith; is = λ s. rw (e, f) (infinite s ∙ of-inf s) }
+  where
+    of-inf : (s : Bool) → inf s ≡ narrowed (ofFields binary64 s 2047 0)
+    of-inf s = refl
+
+-- ---- the sign, and the two fields of a value's own pattern
+
+pub no-nan : (x : Float) → ne x x ≡ false → T (not (isNan x))
+unfolding ne isNan
+no-nan nan h = subst T h tt
+no-nan (inf s) h = tt
+no-nan (fin s m e) h = tt
+
+pub nan-narrows : (x : Float) → ne x x ≡ true → nan ≡ narrowed x
+unfolding narrowed
+nan-narrows x h = rw (differs-from-itself x (subst T (sym h) tt))
+
+of-fields : (n : ℕ) → ofFields binary64 (leb (2 ^ 63) n) (n % 2 ^ 63 / 2 ^ 52) (n % 2 ^ 52) ≡ ofBits binary64 n
+unfolding ofBits
+of-fields n = refl
+
+sign-is : (b : ℕ) → b < 2 ^ 64 → b / 2 ^ 63 * 2 ^ 31 ≡ cond (leb (2 ^ 63) b) (2 ^ 31) 0
+sign-is b h = go (leb (2 ^ 63) b) refl
+  where
+    go : (t : Bool) → leb (2 ^ 63) b ≡ t → b / 2 ^ 63 * 2 ^ 31 ≡ cond t (2 ^ 31) 0
+    go true e = let l = leb-true (2 ^ 63) b e in omega arith
+    go false e = let l = leb-false (2 ^ 63) b e in omega arith
+
+module _ (x : Float) (fit : T (fits binary64 x)) (no : T (not (isNan x))) where
+  pub bits-lt : toBits binary64 x < 2 ^ 64
+  bits-lt = toBits-lt binary64 x fit
+
+  pub no-payload : toBits binary64 x % 2 ^ 63 / 2 ^ 52 ≡ 2047 → toBits binary64 x % 2 ^ 52 ≡ 0
+  unfolding nanBits
+  no-payload e =
+      let n = toBits binary64 x in
+      let q : nanBits binary64 n ≡ false = nanBits-is binary64 n ∙ ap isNan (ofBits-toBits binary64 x fit) ∙ is-false (isNan x) no in
+      let p : not (eqb (n % 2 ^ 52) 0) ≡ false = rw (eq-eqb _ _ e) at q in
+      eqb-true (n % 2 ^ 52) 0 (not-false (eqb (n % 2 ^ 52) 0) p)
+
+  pub narrow-is : (r : ℕ) → NarrowsTo (toBits binary64 x % 2 ^ 63 / 2 ^ 52) (toBits binary64 x % 2 ^ 52) r → ofBits binary32 (toBits binary64 x / 2 ^ 63 * 2 ^ 31 + r) ≡ narrowed x
+  narrow-is r h =
+      let n = toBits binary64 x in
+      rw (sign-is n bits-lt) (h .is (leb (2 ^ 63) n) ∙ ap narrowed (of-fields n ∙ ofBits-toBits binary64 x fit))
+
+  pub narrow-small : (r : ℕ) → r ≤ 0x7f80_0000 → T (not (nanBits binary32 (toBits binary64 x / 2 ^ 63 * 2 ^ 31 + r)))
+  narrow-small r h =
+      let n = toBits binary64 x in
+      let l = bits-lt in
+      let m : (n / 2 ^ 63 * 2 ^ 31 + r) % 2 ^ 31 ≤ 0x7f80_0000 = omega arith in
+      rw (nanBits-above, le-ltb _ _ m) tt

@@ -1,0 +1,3 @@
+mod narrowing;
+
+pub use narrowing::narrow;

@@ -1,0 +1,11 @@
+pub mod Units
+pub mod Value
+pub mod Operation
+pub mod Interval
+pub mod Size
+pub mod Exact
+pub mod Order
+pub mod Error
+pub mod Checker
+pub mod Nearest
+pub mod Pattern
