@@ -3,13 +3,7 @@ ghost use mathlib.Core.Path.{_≡_};
 ghost use Prim.Native.Nat.{_<_, _≤_, _^_};
 ghost use lib.Ieee.Nearest.{closest};
 ghost use Rattle.arithmetic.specs.Narrow.{narrowed, NarrowsTo};
-
-fn power(k: u64) -> u64
-    requires { ⌜ k < 64 ⌝ }
-    ensures { λ r. ⌜ r ≡ 2 ^ k ⌝ }
-{
-    1u64 << k
-}
+use crate::bits::power;
 
 // m / 2^drop to the nearest whole number, half to even.
 fn nearest_of(m: u64, drop: u64) -> u64

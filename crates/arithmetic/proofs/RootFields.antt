@@ -1,0 +1,149 @@
+-- The fields of a value's pattern, at any format, and which values have a root of their own.
+use mathlib.Core.Path.{_≡_, refl, sym, ap, _∙_, subst}
+use mathlib.Core.Bool.{Bool, true, false, cond, not}
+use Prim.Native.Nat.{ℕ, zero, suc, _+_, _-_, _*_, _/_, _%_, _^_, _≤_, _<_}
+use native.Mathlib.Nat.{mul-div-cancel, mul-one, zero-mul, zero-lt-suc, mul-pos}
+use native.Mathlib.Omega.{arith}
+use lib.Dec.{T, leb, ltb, eqb, lt→ltb}
+use lib.Pow.{pow-pos}
+use lib.Ieee.{Float, nan, inf, fin, Format, binary64, prec, low, up, down, ofFields, ofBits, toBits, fits, isNan, hid, ones, top, lt, eq, ne, nanBits}
+use lib.IntN.{ℤ, pos}
+use lib.Ieee.Fits.{down-pos, up-pos}
+use lib.Ieee.Exact.{HasValue, odd-sign}
+use lib.Ieee.Bits.{ofBits-toBits, nanBits-above}
+use lib.Ieee.Scale.{finite}
+use lib.Ieee.Positive.{positive, value-pos}
+use lib.Ieee.Compare.{differs-from-itself}
+use borrow.Author.Tests.{ltb-false, eq-eqb, ne-eqb, eqb-true, le-ltb, lt-ltb}
+use Rattle.arithmetic.specs.Root.{rootUnits, rootOf}
+
+apart : true ≡ false → ⊥
+apart e = let z : _≡_ {A = ℕ} 0 1 = cc in omega arith
+
+pub no-nan : (x : Float) → ne x x ≡ false → T (not (isNan x))
+unfolding ne isNan
+no-nan nan h = subst T h tt
+no-nan (inf s) h = tt
+no-nan (fin s m e) h = tt
+
+-- +0
+abbrev pub nought : Float
+nought = fin false 0 (pos 0)
+
+none : (u d : ℕ) → 0 * u * 1 ≡ 0 * 1 * d
+none u d = omega arith
+
+some : (m : ℕ) (e : ℤ) → 0 < suc m * up e * 1
+some m e = let h : 0 < suc m * up e = mul-pos (zero-lt-suc m) (up-pos e) in omega arith
+
+plus-lt : (m : ℕ) (e : ℤ) → lt (fin false m e) nought ≡ false
+unfolding lt
+plus-lt m e = le-ltb (m * up e * 1) (0 * 1 * down e) (omega arith)
+
+zero-lt : (e : ℤ) → lt (fin true 0 e) nought ≡ false
+unfolding lt
+zero-lt e = le-ltb 0 (0 * up e * 1 + 0 * 1 * down e) (omega arith)
+
+minus-lt : (m : ℕ) (e : ℤ) → lt (fin true (suc m) e) nought ≡ true
+unfolding lt
+minus-lt m e = lt-ltb 0 (suc m * up e * 1 + 0 * 1 * down e) (let h = some m e in omega arith)
+
+zero-eq : (s : Bool) (e : ℤ) → eq (fin s 0 e) nought ≡ true
+unfolding eq
+zero-eq true e = rw (eq-eqb _ _ (none (up e) (down e)), eq-eqb (0 * up e * 1) 0 (omega arith))
+zero-eq false e = rw (eq-eqb _ _ (none (up e) (down e)))
+
+more-eq : (s : Bool) (m : ℕ) (e : ℤ) → eq (fin s (suc m) e) nought ≡ false
+unfolding eq
+more-eq s m e = rw (ne-eqb (suc m * up e * 1) (0 * 1 * down e) (λ (h : suc m * up e * 1 ≡ 0 * 1 * down e). let k = some m e in omega arith))
+
+-- ---- the values with a root of their own
+
+pub root-nan : (f : Format) (x : Float) → ne x x ≡ true → x ≡ rootOf f x
+unfolding rootOf
+root-nan f x h = rw (differs-from-itself x (subst T (sym h) tt))
+
+pub root-below : (f : Format) (x : Float) → lt x nought ≡ true → nan ≡ rootOf f x
+unfolding rootOf lt
+root-below f nan h = absurd (apart (sym h))
+root-below f (inf true) h = refl
+root-below f (inf false) h = absurd (apart (sym h))
+root-below f (fin true zero e) h = absurd (apart (sym h ∙ zero-lt e))
+root-below f (fin true (suc m) e) h = refl
+root-below f (fin false m e) h = absurd (apart (sym h ∙ plus-lt m e))
+
+pub root-zero : (f : Format) (x : Float) → eq x nought ≡ true → x ≡ rootOf f x
+unfolding rootOf eq
+root-zero f nan h = refl
+root-zero f (inf s) h = absurd (apart (sym h))
+root-zero f (fin s zero e) h = refl
+root-zero f (fin s (suc m) e) h = absurd (apart (sym h ∙ more-eq s m e))
+
+pub root-infinite : (f : Format) (x : Float) → T (not (finite x)) → ne x x ≡ false → lt x nought ≡ false → x ≡ rootOf f x
+unfolding rootOf lt ne
+root-infinite f nan n h l = refl
+root-infinite f (inf true) n h l = absurd (apart l)
+root-infinite f (inf false) n h l = refl
+root-infinite f (fin s m e) n h l = absurd n
+
+pub root-of-value : (f : Format) (x : Float) (a : ℕ) → T (positive x) → HasValue x false a (2 ^ low f) → rootOf f x ≡ rootUnits f a
+unfolding rootOf
+root-of-value f nan a p h = absurd p
+root-of-value f (inf s) a p h = absurd p
+root-of-value f (fin true m e) a p h = absurd p
+root-of-value f (fin false zero e) a p h = absurd p
+root-of-value f (fin false (suc m) e) a p h = ap (rootUnits f) (ap (λ (z : ℕ). z / down e) (h .1) ∙ mul-div-cancel a (down-pos e))
+
+-- ---- finite, not below 0 and not 0
+
+pub positive-is : (x : Float) (s : Bool) (a c : ℕ) → HasValue x s a c → lt x nought ≡ false → eq x nought ≡ false → T (positive x)
+positive-is nan s a c h l n = absurd h
+positive-is (inf t) s a c h l n = absurd h
+positive-is (fin true zero e) s a c h l n = absurd (apart (sym (zero-eq true e) ∙ n))
+positive-is (fin true (suc m) e) s a c h l n = absurd (apart (sym (minus-lt m e) ∙ l))
+positive-is (fin false zero e) s a c h l n = absurd (apart (sym (zero-eq false e) ∙ n))
+positive-is (fin false (suc m) e) s a c h l n = lt→ltb 0 (suc m) (zero-lt-suc m)
+
+pub sign-plus : (x : Float) (s : Bool) (a c : ℕ) → T (positive x) → HasValue x s a c → HasValue x false a c
+sign-plus nan s a c p h = absurd p
+sign-plus (inf t) s a c p h = absurd p
+sign-plus (fin true m e) s a c p h = absurd p
+sign-plus (fin false m e) s a c p h = (refl, h .1)
+
+-- ---- the fields
+
+value-fields : (f : Format) (s : Bool) (x t : ℕ) → (suc x ≡ ones f → ⊥) → HasValue (ofFields f s (suc x) t) s ((hid f + t) * 2 ^ x) (2 ^ low f)
+unfolding ofFields
+value-fields f s x t n = rw (ne-eqb (suc x) (ones f) n) (odd-sign (prec f) s (hid f + t) x (low f))
+
+value-low : (f : Format) (s : Bool) (t : ℕ) → HasValue (ofFields f s 0 t) s (t * 2 ^ 0) (2 ^ low f)
+unfolding ofFields
+value-low f s t = odd-sign (prec f) s t 0 (low f)
+
+not-finite : (f : Format) (s : Bool) (x t : ℕ) → suc x ≡ ones f → T (not (finite (ofFields f s (suc x) t)))
+unfolding ofFields
+not-finite f s x t e = rw (eq-eqb (suc x) (ones f) e) (go (eqb t 0))
+  where
+    go : (b : Bool) → T (not (finite (cond b (inf s) nan)))
+    go true = tt
+    go false = tt
+
+module _ (f : Format) (x : Float) (fit : T (fits f x)) where
+  b : ℕ
+  b = toBits f x
+
+  of-fields : ofFields f (leb (top f) b) (b % top f / hid f) (b % hid f) ≡ x
+  unfolding b ofBits
+  of-fields = ofBits-toBits f x fit
+
+  pub fields-value : (y : ℕ) → toBits f x % top f / hid f ≡ suc y → (suc y ≡ ones f → ⊥) → HasValue x (leb (top f) (toBits f x)) ((hid f + toBits f x % hid f) * 2 ^ y) (2 ^ low f)
+  unfolding b
+  fields-value y e n = subst (λ (v : Float). HasValue v (leb (top f) b) ((hid f + b % hid f) * 2 ^ y) (2 ^ low f)) (rw e at of-fields) (value-fields f (leb (top f) b) y (b % hid f) n)
+
+  pub fields-low : toBits f x % top f / hid f ≡ 0 → HasValue x (leb (top f) (toBits f x)) (toBits f x % hid f * 2 ^ 0) (2 ^ low f)
+  unfolding b
+  fields-low e = subst (λ (v : Float). HasValue v (leb (top f) b) (b % hid f * 2 ^ 0) (2 ^ low f)) (rw e at of-fields) (value-low f (leb (top f) b) (b % hid f))
+
+  pub fields-infinite : (y : ℕ) → toBits f x % top f / hid f ≡ suc y → suc y ≡ ones f → T (not (finite x))
+  unfolding b
+  fields-infinite y e n = subst (λ (v : Float). T (not (finite v))) (rw e at of-fields) (not-finite f (leb (top f) b) y (b % hid f) n)
