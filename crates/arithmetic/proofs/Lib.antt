@@ -1,6 +1,7 @@
+pub mod Fields
 pub mod RootDigits
 pub mod RootRounded
-pub mod RootFields
+pub mod RootTests
 pub mod RootCases
 pub mod RootNearest
 pub mod RootLaws

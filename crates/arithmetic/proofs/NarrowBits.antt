@@ -16,19 +16,8 @@ use lib.Ieee.Exact.{HasValue, odd-sign}
 use lib.Ieee.Scale.{round-same}
 use lib.Ieee.Bits.{ofBits-toBits}
 use Rattle.arithmetic.specs.Narrow.{narrowed}
-use Rattle.float_laws.proofs.Pattern.{dropped, size-is, units-bits}
+use Rattle.float_laws.proofs.Pattern.{dropped, drops, units-bits}
 use Rattle.float_laws.proofs.Nearest.{rounds-down}
-
--- the value of the fields
-pub value-normal : (s : Bool) (x t : ℕ) → x < 2046 → HasValue (ofFields binary64 s (suc x) t) s ((2 ^ 52 + t) * 2 ^ x) (2 ^ 1074)
-unfolding ofFields
-value-normal s x t h =
-    let ne : suc x ≡ 2047 → ⊥ = λ e. omega arith in
-    rw (ne-eqb (suc x) 2047 ne) (odd-sign 53 s (2 ^ 52 + t) x 1074)
-
-pub value-small : (s : Bool) (t : ℕ) → HasValue (ofFields binary64 s 0 t) s (t * 2 ^ 0) (2 ^ 1074)
-unfolding ofFields
-value-small s t = odd-sign 53 s t 0 1074
 
 narrow-round : (x : Float) (s : Bool) (a : ℕ) → HasValue x s a (2 ^ 1074) → narrowed x ≡ round binary32 s a (2 ^ 1074)
 unfolding narrowed
@@ -36,19 +25,6 @@ narrow-round nan s a h = absurd h
 narrow-round (inf t) s a h = absurd h
 narrow-round (fin t m e) s a h =
     ap (λ (b : Bool). round binary32 b (m * up e) (down e)) (h .0) ∙ round-same binary32 s (m * up e) (down e) a (2 ^ 1074) (down-pos e) (pow-pos 1074) (h .1)
-
--- how many digits are dropped, by two bounds
-drops : (n den k : ℕ) → 0 < den → n < 2 ^ (24 + k) * den → (k ≡ 0) ⊎ (2 ^ (23 + k) * den ≤ n) → dropped binary32 n den ≡ k
-drops n den k D hi lo =
-    let b : n / den < 2 ^ (24 + k) = div-lt-iff-lt-mul D .1 hi in
-    ⊎-elim
-    (λ (z : k ≡ 0). let c : size (n / den) ≤ 24 + k = size-le (n / den) (24 + k) b in omega arith)
-    (λ (l : 2 ^ (23 + k) * den ≤ n).
-    let a : 2 ^ (23 + k) ≤ n / den = le-div-iff-mul-le D .1 l in
-    let e : 24 + k ≡ suc (23 + k) = omega arith in
-    let c = size-is (n / den) (23 + k) a (rw e at b) in
-    omega arith)
-    lo
 
 -- M * 2 ^ x smallest values of an f64, at an f32: `gone` digits of M are dropped, at k
 module _ (m x gone k : ℕ) (e : x + 149 + gone ≡ 1074 + k) (small : m < 2 ^ 53) (w : 29 ≤ gone) (full : (k ≡ 0) ⊎ ((gone ≡ 29) × (2 ^ 52 ≤ m))) where
@@ -84,7 +60,7 @@ module _ (m x gone k : ℕ) (e : x + 149 + gone ≡ 1074 + k) (small : m < 2 ^ 5
   unfolding n
   round-units s =
       round-is binary32 s (m * 2 ^ x) (2 ^ 1074)
-      ∙ ap (λ (z : ℕ). units binary32 s (closest n (2 ^ 1074 * 2 ^ z)) z) (drops n (2 ^ 1074) k (pow-pos 1074) n-lt n-ge)
+      ∙ ap (λ (z : ℕ). units binary32 s (closest n (2 ^ 1074 * 2 ^ z)) z) (drops binary32 n (2 ^ 1074) k (pow-pos 1074) n-lt n-ge)
       ∙ ap (λ (z : ℕ). units binary32 s z k) kept-is
 
 pow-le-back : (a l : ℕ) → 2 ^ a ≤ 2 ^ l → a ≤ l

@@ -12,10 +12,14 @@ use borrow.Author.Tests.{leb-true, leb-false, eq-eqb, eqb-true, not-false, le-lt
 use lib.Ieee.Nearest.{closest}
 use lib.Ieee.Exact.{HasValue}
 use Rattle.arithmetic.specs.Narrow.{narrowed, NarrowsTo}
-use Rattle.arithmetic.proofs.NarrowBits.{value-normal, value-small, low-bits, none-bits, high-bits, over-bits, infinite, closest-le}
+use Rattle.arithmetic.proofs.Fields.{value-fields, value-low, of-fields}
+use Rattle.arithmetic.proofs.NarrowBits.{low-bits, none-bits, high-bits, over-bits, infinite, closest-le}
+
+value-normal : (s : Bool) (x t : ℕ) → x < 2046 → HasValue (ofFields binary64 s (suc x) t) s ((2 ^ 52 + t) * 2 ^ x) (2 ^ 1074)
+value-normal s x t h = value-fields binary64 s x t (λ (e : suc x ≡ 2047). omega arith)
 
 pub case-none : (field frac : ℕ) → field < 873 → frac < 2 ^ 52 → NarrowsTo field frac 0
-case-none zero frac h b = record { small = omega arith; is = λ s. none-bits s _ frac 0 925 (value-small s frac) (omega arith) (omega arith) (omega arith) }
+case-none zero frac h b = record { small = omega arith; is = λ s. none-bits s _ frac 0 925 (value-low binary64 s frac) (omega arith) (omega arith) (omega arith) }
 case-none (suc x) frac h b =
     record { small = omega arith; is = λ s. none-bits s _ (2 ^ 52 + frac) x (925 - x) (value-normal s x frac (omega arith)) (omega arith) (omega arith) (omega arith) }
 
@@ -66,19 +70,9 @@ case-inf field frac e f = record { small = omega arith; is = λ s. rw (e, f) (in
 
 -- ---- the sign, and the two fields of a value's own pattern
 
-pub no-nan : (x : Float) → ne x x ≡ false → T (not (isNan x))
-unfolding ne isNan
-no-nan nan h = subst T h tt
-no-nan (inf s) h = tt
-no-nan (fin s m e) h = tt
-
 pub nan-narrows : (x : Float) → ne x x ≡ true → nan ≡ narrowed x
 unfolding narrowed
 nan-narrows x h = rw (differs-from-itself x (subst T (sym h) tt))
-
-of-fields : (n : ℕ) → ofFields binary64 (leb (2 ^ 63) n) (n % 2 ^ 63 / 2 ^ 52) (n % 2 ^ 52) ≡ ofBits binary64 n
-unfolding ofBits
-of-fields n = refl
 
 sign-is : (b : ℕ) → b < 2 ^ 64 → b / 2 ^ 63 * 2 ^ 31 ≡ cond (leb (2 ^ 63) b) (2 ^ 31) 0
 sign-is b h = go (leb (2 ^ 63) b) refl
@@ -102,7 +96,7 @@ module _ (x : Float) (fit : T (fits binary64 x)) (no : T (not (isNan x))) where
   pub narrow-is : (r : ℕ) → NarrowsTo (toBits binary64 x % 2 ^ 63 / 2 ^ 52) (toBits binary64 x % 2 ^ 52) r → ofBits binary32 (toBits binary64 x / 2 ^ 63 * 2 ^ 31 + r) ≡ narrowed x
   narrow-is r h =
       let n = toBits binary64 x in
-      rw (sign-is n bits-lt) (h .is (leb (2 ^ 63) n) ∙ ap narrowed (of-fields n ∙ ofBits-toBits binary64 x fit))
+      rw (sign-is n bits-lt) (h .is (leb (2 ^ 63) n) ∙ ap narrowed (of-fields binary64 x fit))
 
   pub narrow-small : (r : ℕ) → r ≤ 0x7f80_0000 → T (not (nanBits binary32 (toBits binary64 x / 2 ^ 63 * 2 ^ 31 + r)))
   narrow-small r h =

@@ -17,7 +17,8 @@ use Rattle.arithmetic.specs.RootSteps.{RootOf}
 use Rattle.arithmetic.specs.Root.{rootUnits, rootOf}
 use Rattle.arithmetic.specs.RootSteps.{RootsTo}
 use Rattle.arithmetic.proofs.RootRounded.{root-pattern, half-small}
-use Rattle.arithmetic.proofs.RootFields.{nought, positive-is, sign-plus, fields-value, fields-low, root-of-value}
+use Rattle.arithmetic.proofs.Fields.{fields-value, fields-low}
+use Rattle.arithmetic.proofs.RootTests.{nought, positive-is, sign-plus, root-of-value}
 
 -- ---- the places from the leading digit of m up to prec, by the zeros of a word of v digits that stand before it
 
@@ -52,7 +53,8 @@ doubled p M zero h l = let s = pow-suc 2 p in (omega arith, omega arith)
 doubled p M (suc zero) h l = let s = pow-suc 2 p in (omega arith, omega arith)
 doubled p M (suc (suc o)) h l = absurd (omega arith)
 
-wide : (f : Format) → (2 * prec f ≤ low f) × (2 < emax f) × (emax f + prec f ≡ low f + 2)
+-- what is used of the formats' numbers
+pub wide : (f : Format) → (2 * prec f ≤ low f) × (2 < emax f) × (emax f + prec f ≡ low f + 2)
 wide binary32 = (omega arith, omega arith, refl)
 wide binary64 = (omega arith, omega arith, refl)
 

@@ -1,4 +1,5 @@
--- A root digit by digit: two digits of the radicand come down, at any number of places.
+-- A root digit by digit, at any number of places: two digits of the number n under the root come down at a time, and after i of p places `RootOf` holds of the digits of n that came down.
+-- One step (`digit`) is `omega`'s: from root² + rem to (2 * root + b)² + rem' of four times that number and two digits more.
 use mathlib.Core.Path.{_≡_, refl, sym, ap, _∙_, subst}
 use Prim.Native.Nat.{ℕ, zero, suc, _+_, _-_, _*_, _/_, _%_, _^_, _≤_, _<_}
 use native.Mathlib.Nat.{one-mul, mod-eq-of-lt, pow-suc, lt-trans, div-eq-of-lt, div-one, div-div-eq-div-mul, div-add-mod', mul-mod-left, mul-assoc}
@@ -7,9 +8,6 @@ use native.Mathlib.Omega.{arith}
 use lib.Pow.{pow-lt, pow-mono, pow-pos, pow-add, shl-shr}
 use lib.Ieee.Nearest.{div-same}
 use Rattle.arithmetic.specs.RootSteps.{RootOf}
-
-pub shifted : (k : ℕ) → k < 64 → 1 * 2 ^ k % 2 ^ 64 ≡ 2 ^ k
-shifted k h = rw one-mul (mod-eq-of-lt (pow-lt h))
 
 -- ---- the digits of m * 2 ^ 54
 
@@ -56,6 +54,3 @@ grows i r r' h k = rw (add-one, pow-suc) (omega arith)
 
 pub within : (i r : ℕ) → i < 54 → r < 2 ^ i → r < 2 ^ 54
 within i r h k = let p : 2 ^ i < 2 ^ 54 = pow-lt h in lt-trans k p
-
-pub within25 : (i r : ℕ) → i < 25 → r < 2 ^ i → r < 2 ^ 54
-within25 i r h k = within i r (lt-trans h (omega arith)) k

@@ -17,7 +17,7 @@ use borrow.Author.Tests.{eqb-true, eqb-false}
 use Rattle.arithmetic.specs.Root.{wholeRoot}
 use Rattle.arithmetic.specs.Root.{rootUnits, rootOf, NearestRoot}
 use Rattle.arithmetic.proofs.RootRounded.{Floor, sq-lt, whole-floor}
-use Rattle.arithmetic.proofs.RootFields.{root-of-value}
+use Rattle.arithmetic.proofs.RootTests.{root-of-value}
 use Rattle.arithmetic.proofs.RootNearest.{held}
 
 pub root-fits : (f : Format) (x : Float) → T (fits f x) → T (fits f (rootOf f x))

@@ -19,8 +19,9 @@ use borrow.Author.Tests.{ltb-true, ltb-false}
 use Rattle.arithmetic.specs.RootSteps.{RootOf}
 use Rattle.arithmetic.specs.Root.{wholeRoot}
 use Rattle.arithmetic.specs.Root.{rootUnits, rootOf, NearestRoot}
-use Rattle.arithmetic.proofs.RootRounded.{Floor, sq-lt, whole-floor, even-or-odd, root-ge, root-value, square-ge, square-gt, square-lt}
-use Rattle.arithmetic.proofs.RootFields.{root-of-value}
+use Rattle.arithmetic.proofs.RootRounded.{Floor, sq-lt, whole-floor, even-or-odd, half-even, half-odd, root-ge, root-value, square-ge, square-gt, square-lt}
+use Rattle.arithmetic.proofs.RootTests.{root-of-value}
+use Rattle.arithmetic.proofs.RootCases.{wide}
 
 -- ---- a value of the format is M * 2 ^ j smallest values, M of its digits
 
@@ -99,12 +100,6 @@ multiple f c t d h =
 
 -- ---- the half-way points
 
-half-even : (h : ℕ) → (2 * h + 1) / 2 ≡ h
-half-even h = omega arith
-
-half-odd : (h : ℕ) → (2 * h + 1 + 1) / 2 ≡ suc h
-half-odd h = omega arith
-
 module _ (P W c : ℕ) (mult : P * W ≤ c → (w : ℕ) × (c ≡ w * (W * 2))) (some : 0 < W) where
   up-even : (h : ℕ) → P ≤ 2 * h → h * (W * 2) < c → 2 * (suc (2 * h) * W) ≤ h * (W * 2) + c
   up-even h p l =
@@ -180,10 +175,6 @@ record Normal (f : Format) (a : ℕ) : Type 0 where
   hi : m < 2 ^ suc (prec f)
   is : a * 2 ^ low f ≡ m * 2 ^ suc (prec f) * 2 ^ (2 * t)
   fine : prec f + t < low f + emax f
-
-wide : (f : Format) → (2 * prec f ≤ low f) × (0 < emax f)
-wide binary32 = (omega arith, omega arith)
-wide binary64 = (omega arith, omega arith)
 
 pow-lt-back : (a l : ℕ) → 2 ^ a < 2 ^ l → a < l
 pow-lt-back a l h = lt-of-not-le (λ (g : l ≤ a). not-le-of-lt h (pow-mono g))

@@ -15,7 +15,7 @@ use lib.Ieee.Digits.{size-lt}
 use lib.Ieee.Fits.{two, round-is}
 use lib.Ieee.Nearest.{closest, closest-same}
 use borrow.Author.Tests.{leb-true, leb-false, eqb-true, eqb-false, ltb-true, ltb-false}
-use Rattle.float_laws.proofs.Pattern.{dropped, size-is, round-pattern}
+use Rattle.float_laws.proofs.Pattern.{dropped, drops, round-pattern}
 use Rattle.float_laws.proofs.Nearest.{rounds-down, rounds-up}
 use Rattle.arithmetic.specs.RootSteps.{RootOf}
 use Rattle.arithmetic.specs.Root.{grown, wholeRoot}
@@ -88,16 +88,6 @@ closest-is n u q h l = go (leb (q * u) n) refl q refl
         let y : u < n % u * 2 = rw (d .1) (omega arith) in
         sym (rounds-up n u (omega arith) (λ j. omega arith)) ∙ ap (λ (z : ℕ). z + 1) (d .0) ∙ add-one w ∙ i
 
-pub drops : (f : Format) (n den k : ℕ) → 0 < den → n < 2 ^ (prec f + k) * den → 2 ^ (prec f - 1 + k) * den ≤ n → dropped f n den ≡ k
-drops f n den k D hi lo =
-    let t = two f in
-    let j = prec f - 1 + k in
-    let e : prec f + k ≡ suc j = omega arith in
-    let b : n / den < 2 ^ suc j = div-lt-iff-lt-mul D .1 (rw e at hi) in
-    let a : 2 ^ j ≤ n / den = le-div-iff-mul-le D .1 lo in
-    let c = size-is (n / den) j a b in
-    omega arith
-
 pub rounds-to : (f : Format) (num den q k : ℕ) → dropped f (num * 2 ^ low f) den ≡ k → closest (num * 2 ^ low f) (den * 2 ^ k) ≡ q → q * 2 ^ k < 2 ^ (low f + suc (emax f))
     → ofBits f (k * hid f + q) ≡ round f false num den
 rounds-to f num den q k e c fine =
@@ -151,10 +141,10 @@ even-or-odd r = go (ltb (r % 2) 1) refl
     go true e = let l = ltb-true (r % 2) 1 e in inl (omega arith)
     go false e = let l = ltb-false (r % 2) 1 e in inr (omega arith)
 
-half-even : (h : ℕ) → (2 * h + 1) / 2 ≡ h
+pub half-even : (h : ℕ) → (2 * h + 1) / 2 ≡ h
 half-even h = omega arith
 
-half-odd : (h : ℕ) → (2 * h + 1 + 1) / 2 ≡ suc h
+pub half-odd : (h : ℕ) → (2 * h + 1 + 1) / 2 ≡ suc h
 half-odd h = omega arith
 
 abbrev Between : (r W x : ℕ) → Type 0
@@ -301,7 +291,7 @@ module _ (f : Format) (m t a r q : ℕ) (root : RootOf (m * 2 ^ suc (prec f)) r 
       let k : suc r ≤ 2 ^ p * 2 = subst (λ (z : ℕ). suc r ≤ z) (pow-suc 2 p) root-lt in
       drops f (num * L) (2 * L) (suc t) (mul-pos (omega arith) l)
       (subst (λ (z : ℕ). num * L < z * (2 * L)) (sym s) (bound-lt num r (2 ^ p) W L l (num-lt n N r R W w F G at) k))
-      (subst (λ (z : ℕ). z * (2 * L) ≤ num * L) (sym v) (bound-ge num r (2 ^ p) W L (num-ge n N r R W w F G at) root-ge))
+      (inr (subst (λ (z : ℕ). z * (2 * L) ≤ num * L) (sym v) (bound-ge num r (2 ^ p) W L (num-ge n N r R W w F G at) root-ge)))
 
   pub half-small : (r + 1) / 2 ≤ 2 ^ prec f
   half-small = half-le r (2 ^ prec f) (subst (λ (z : ℕ). suc r ≤ z) (pow-suc 2 (prec f)) root-lt)

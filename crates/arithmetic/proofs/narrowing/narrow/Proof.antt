@@ -1,6 +1,7 @@
 use lib.Dec.{T}
 use lib.Ieee.{fits, binary64}
-use Rattle.arithmetic.proofs.NarrowCases.{no-nan, nan-narrows, no-payload, bits-lt, narrow-is, narrow-small}
+use Rattle.arithmetic.proofs.Fields.{no-nan}
+use Rattle.arithmetic.proofs.NarrowCases.{nan-narrows, no-payload, bits-lt, narrow-is, narrow-small}
 use lib.Ieee.{ofBits, div}
 use native.Mathlib.Omega.{arith}
 use borrow.Author.Needs.{needs}

@@ -2,7 +2,8 @@ use mathlib.Core.Path.{_≡_, refl}
 use native.Mathlib.Omega.{arith}
 use lib.Dec.{T}
 use lib.Ieee.{fits, binary64, ofBits, div}
-use Rattle.arithmetic.proofs.RootFields.{no-nan, root-nan, root-below, root-zero, root-infinite, fields-infinite}
+use Rattle.arithmetic.proofs.Fields.{no-nan, fields-infinite}
+use Rattle.arithmetic.proofs.RootTests.{root-nan, root-below, root-zero, root-infinite}
 use Rattle.arithmetic.proofs.RootCases.{no-nan-bits, low-pos, low-root, high-root}
 use borrow.Author.Needs.{needs}
 use Rattle.arithmetic.proofs.square_root.root.Statement.{statement}

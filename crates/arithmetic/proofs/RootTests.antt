@@ -1,4 +1,4 @@
--- The fields of a value's pattern, at any format, and which values have a root of their own.
+-- What the tests of `root` say of its argument, at any format: which values have a root of their own (NaN, below 0, a zero, the infinity), and that what is left is finite and above 0.
 use mathlib.Core.Path.{_≡_, refl, sym, ap, _∙_, subst}
 use mathlib.Core.Bool.{Bool, true, false, cond, not}
 use Prim.Native.Nat.{ℕ, zero, suc, _+_, _-_, _*_, _/_, _%_, _^_, _≤_, _<_}
@@ -19,12 +19,6 @@ use Rattle.arithmetic.specs.Root.{rootUnits, rootOf}
 
 apart : true ≡ false → ⊥
 apart e = let z : _≡_ {A = ℕ} 0 1 = cc in omega arith
-
-pub no-nan : (x : Float) → ne x x ≡ false → T (not (isNan x))
-unfolding ne isNan
-no-nan nan h = subst T h tt
-no-nan (inf s) h = tt
-no-nan (fin s m e) h = tt
 
 -- +0
 abbrev pub nought : Float
@@ -109,41 +103,3 @@ sign-plus nan s a c p h = absurd p
 sign-plus (inf t) s a c p h = absurd p
 sign-plus (fin true m e) s a c p h = absurd p
 sign-plus (fin false m e) s a c p h = (refl, h .1)
-
--- ---- the fields
-
-value-fields : (f : Format) (s : Bool) (x t : ℕ) → (suc x ≡ ones f → ⊥) → HasValue (ofFields f s (suc x) t) s ((hid f + t) * 2 ^ x) (2 ^ low f)
-unfolding ofFields
-value-fields f s x t n = rw (ne-eqb (suc x) (ones f) n) (odd-sign (prec f) s (hid f + t) x (low f))
-
-value-low : (f : Format) (s : Bool) (t : ℕ) → HasValue (ofFields f s 0 t) s (t * 2 ^ 0) (2 ^ low f)
-unfolding ofFields
-value-low f s t = odd-sign (prec f) s t 0 (low f)
-
-not-finite : (f : Format) (s : Bool) (x t : ℕ) → suc x ≡ ones f → T (not (finite (ofFields f s (suc x) t)))
-unfolding ofFields
-not-finite f s x t e = rw (eq-eqb (suc x) (ones f) e) (go (eqb t 0))
-  where
-    go : (b : Bool) → T (not (finite (cond b (inf s) nan)))
-    go true = tt
-    go false = tt
-
-module _ (f : Format) (x : Float) (fit : T (fits f x)) where
-  b : ℕ
-  b = toBits f x
-
-  of-fields : ofFields f (leb (top f) b) (b % top f / hid f) (b % hid f) ≡ x
-  unfolding b ofBits
-  of-fields = ofBits-toBits f x fit
-
-  pub fields-value : (y : ℕ) → toBits f x % top f / hid f ≡ suc y → (suc y ≡ ones f → ⊥) → HasValue x (leb (top f) (toBits f x)) ((hid f + toBits f x % hid f) * 2 ^ y) (2 ^ low f)
-  unfolding b
-  fields-value y e n = subst (λ (v : Float). HasValue v (leb (top f) b) ((hid f + b % hid f) * 2 ^ y) (2 ^ low f)) (rw e at of-fields) (value-fields f (leb (top f) b) y (b % hid f) n)
-
-  pub fields-low : toBits f x % top f / hid f ≡ 0 → HasValue x (leb (top f) (toBits f x)) (toBits f x % hid f * 2 ^ 0) (2 ^ low f)
-  unfolding b
-  fields-low e = subst (λ (v : Float). HasValue v (leb (top f) b) (b % hid f * 2 ^ 0) (2 ^ low f)) (rw e at of-fields) (value-low f (leb (top f) b) (b % hid f))
-
-  pub fields-infinite : (y : ℕ) → toBits f x % top f / hid f ≡ suc y → suc y ≡ ones f → T (not (finite x))
-  unfolding b
-  fields-infinite y e n = subst (λ (v : Float). T (not (finite v))) (rw e at of-fields) (not-finite f (leb (top f) b) y (b % hid f) n)
