@@ -1,9 +1,11 @@
--- The root is the nearest value, at any format.
+-- The root is the value of the format nearest to the exact one, and the only one that is (`root-is`), at any format.
+-- With x = a smallest values, a * 2 ^ low is m * 2 ^ (prec + 1) * 4 ^ t (`normal`), whose root lies between r * 2 ^ t and (r + 1) * 2 ^ t for an r of prec + 1 digits. The value b = (r + 1) / 2 * 2 ^ (t + 1) is one of the two,
+-- and another value c is a whole step of 2 ^ (t + 1) away from b wherever it has prec digits, so the root is on b's side of (b + c) / 2 (`up-all`, `down-odd-at`, `down-even-at`).
 use mathlib.Core.Path.{_≡_, refl, sym, ap, _∙_, subst}
 use mathlib.Core.Logic.{_⊎_, inl, inr, ⊎-elim}
 use mathlib.Core.Bool.{Bool, true, false, _&&_}
 use Prim.Native.Nat.{ℕ, zero, suc, _+_, _-_, _*_, _/_, _%_, _^_, _≤_, _<_}
-use native.Mathlib.Nat.{le-refl, le-trans, le-of-eq, lt-of-lt-of-le, lt-of-le-of-lt, lt-of-not-le, not-le-of-lt, lt-irrefl, le-of-suc-le-suc, lt-trans, le-antisymm, add-comm, mul-le-mul, mul-le-mul-right, mul-lt-mul-of-pos-right, lt-of-mul-lt-mul-right, mul-assoc, mul-comm, mul-one, mul-pos, zero-mul, mul-right-comm, pow-suc, zero-lt-suc, eq-of-mul-eq-mul-right}
+use native.Mathlib.Nat.{le-refl, le-trans, le-of-eq, lt-of-lt-of-le, lt-of-le-of-lt, lt-of-not-le, not-le-of-lt, lt-irrefl, le-of-suc-le-suc, le-of-lt, lt-trans, le-antisymm, add-comm, mul-le-mul, mul-le-mul-right, mul-lt-mul-of-pos-right, lt-of-mul-lt-mul-right, mul-assoc, mul-comm, mul-one, mul-pos, zero-mul, mul-right-comm, pow-suc, zero-lt-suc, eq-of-mul-eq-mul-right}
 use native.Mathlib.Omega.{arith}
 use lib.IntN.{ℤ, pos, negsuc}
 use lib.Dec.{T, leb, ltb, eqb, leb→le, ltb→lt}
@@ -15,12 +17,13 @@ use lib.Ieee.Digits.{size-lt, size-le, size-reaches}
 use lib.Ieee.Fits.{and-l, and-r, two, down-pos}
 use lib.Ieee.Exact.{HasValue}
 use lib.Ieee.Positive.{positive, positive-of-value, value-pos}
+use Rattle.float_laws.proofs.Value.{mag, units-of, mag-of}
 use borrow.Author.Tests.{ltb-true, ltb-false}
 use Rattle.arithmetic.specs.RootSteps.{RootOf}
 use Rattle.arithmetic.specs.Root.{wholeRoot}
 use Rattle.arithmetic.specs.Root.{rootUnits, rootOf, NearestRoot}
 use Rattle.arithmetic.proofs.RootRounded.{Floor, sq-lt, whole-floor, even-or-odd, half-even, half-odd, root-ge, root-value, square-ge, square-gt, square-lt}
-use Rattle.arithmetic.proofs.RootTests.{root-of-value}
+use Rattle.arithmetic.proofs.RootTests.{root-of-value, root-fits}
 use Rattle.arithmetic.proofs.RootCases.{wide}
 
 -- ---- a value of the format is M * 2 ^ j smallest values, M of its digits
@@ -217,6 +220,36 @@ normal f a A d =
     let ex : p - 1 + suc p + 2 * t < low f + suc (emax f) + low f = pow-lt-back _ _ (lt-of-le-of-lt big small) in
     record { m = m; t = t; lo = lo; hi = hi; is = is; fine = omega arith }
 
+-- ---- the square of the root, by bounds: r times W is at most the root of N and at most b, and r + 1 times W is above the one and not below the other
+
+-- b is the root of N but for one part in P / 3 of the squares
+pub record SquareNear (P N b : ℕ) : Type 0 where
+  pub above : b * b * P ≤ N * (P + 3)
+  pub below : N * P ≤ b * b * (P + 3)
+
+next-square : (r P : ℕ) → 0 < P → P ≤ r → suc r * suc r * P ≤ r * r * (P + 3)
+next-square r P o h =
+    let a : (2 * r + 1) * P ≤ (2 * r + 1) * r = mul-le-mul (le-refl (2 * r + 1)) h in
+    let c : 1 * r ≤ r * r = mul-le-mul-right r (le-trans o h) in
+    omega arith
+
+-- u and v lie both between r * W and (r + 1) * W, given by their squares
+squares-near : (r P W u v : ℕ) → 0 < P → P ≤ r → r * W * (r * W) ≤ v → u ≤ suc r * W * (suc r * W) → u * P ≤ v * (P + 3)
+squares-near r P W u v o h lo hi =
+    let a : suc r * suc r * P * (W * W) ≤ r * r * (P + 3) * (W * W) = mul-le-mul-right (W * W) (next-square r P o h) in
+    let c : u * P ≤ suc r * W * (suc r * W) * P = mul-le-mul-right P hi in
+    let d : r * W * (r * W) * (P + 3) ≤ v * (P + 3) = mul-le-mul-right (P + 3) lo in
+    omega arith
+
+half-bounds : (r W : ℕ) → (r * W ≤ (r + 1) / 2 * (W * 2)) × ((r + 1) / 2 * (W * 2) ≤ suc r * W)
+half-bounds r W =
+    let q = (r + 1) / 2 in
+    let i : r ≤ q * 2 = omega arith in
+    let j : q * 2 ≤ suc r = omega arith in
+    let a : r * W ≤ q * 2 * W = mul-le-mul-right W i in
+    let c : q * 2 * W ≤ suc r * W = mul-le-mul-right W j in
+    (omega arith, omega arith)
+
 -- ---- the theorem
 
 floor-root : (n : ℕ) → RootOf n (wholeRoot (size n) n) (n - wholeRoot (size n) n * wholeRoot (size n) n)
@@ -267,6 +300,18 @@ module _ (f : Format) (a : ℕ) (d : Normal f a) where
       go (inl e) = below-sq (a * 2 ^ low f) (r * 2 ^ d .t) (b + c) (square-ge f (d .m) (d .t) a r _ R (d .lo) (d .hi) (d .is) (d .fine)) (down-even-at (2 ^ prec f) (2 ^ d .t) c (multiple f c (d .t) k) (pow-pos (d .t)) r (r / 2) e l)
       go (inr e) = below-sq' (a * 2 ^ low f) (r * 2 ^ d .t) (b + c) (square-gt f (d .m) (d .t) a r _ R (d .lo) (d .hi) (d .is) (d .fine) (odd-is r e)) (down-odd-at (2 ^ prec f) (2 ^ d .t) c (multiple f c (d .t) k) (pow-pos (d .t)) r (r / 2) (2 ^ (prec f - 1)) (half-power f) ge e l)
 
+  b-near : SquareNear (2 ^ prec f) (a * 2 ^ low f) b
+  unfolding b
+  b-near =
+      let W = 2 ^ d .t in
+      let P = 2 ^ prec f in
+      let h = half-bounds r W in
+      let lt : a * 2 ^ low f < suc r * W * (suc r * W) = square-lt f (d .m) (d .t) a r _ R (d .lo) (d .hi) (d .is) (d .fine) in
+      record {
+        above = squares-near r P W (b * b) (a * 2 ^ low f) (pow-pos (prec f)) ge (square-ge f (d .m) (d .t) a r _ R (d .lo) (d .hi) (d .is) (d .fine)) (mul-le-mul (h .1) (h .1));
+        below = squares-near r P W (a * 2 ^ low f) (b * b) (pow-pos (prec f)) ge (mul-le-mul (h .0) (h .0)) (le-of-lt lt);
+      }
+
   above-zero : T (positive (rootUnits f a))
   unfolding b
   above-zero =
@@ -286,34 +331,32 @@ module _ (f : Format) (a : ℕ) (d : Normal f a) where
       }
 
 -- what a value above 0 is, in smallest values
-pub held : (f : Format) (x : Float) → T (fits f x) → T (positive x) → (a : ℕ) × HasValue x false a (2 ^ low f)
+held : (f : Format) (x : Float) → T (fits f x) → T (positive x) → HasValue x false (mag f x) (2 ^ low f)
 held f nan t p = absurd p
 held f (inf s) t p = absurd p
 held f (fin true m e) t p = absurd p
-held f (fin false zero e) t p = absurd p
-held f (fin false (suc m) (pos k)) t p = (suc m * 2 ^ k * 2 ^ low f, (refl, sym (mul-one (suc m * 2 ^ k * 2 ^ low f))))
-held f (fin false (suc m) (negsuc k)) t p =
-    let d = few-digits f false m (negsuc k) t in
-    let l : suc k ≤ low f = pow-le-back (suc k) (low f) (d .1) in
-    let g = low f - suc k in
-    let v : low f ≡ g + suc k = omega arith in
-    (suc m * 2 ^ g, (refl, ap (λ (z : ℕ). z * 2 ^ low f) (mul-one (suc m)) ∙ ap (λ (z : ℕ). suc m * z) (ap (λ (z : ℕ). 2 ^ z) v ∙ pow-add 2 g (suc k)) ∙ sym (mul-assoc (suc m) (2 ^ g) (2 ^ suc k))))
+held f (fin false m e) t p = (refl, units-of f (fin false m e) (record { finite = tt; fits = t }))
 
--- the root of a value above 0 is the nearest
-pub root-nearest : (f : Format) (x : Float) → T (fits f x) → T (positive x) → NearestRoot f x (rootOf f x)
-root-nearest f x t p =
-    let u = held f x t p in
-    let a = u .0 in
-    let pos-a = value-pos x a (2 ^ low f) p (pow-pos (low f)) (u .1) in
-    subst (λ (y : Float). NearestRoot f x y) (sym (root-of-value f x a p (u .1))) (nearest-units f a (normal f a pos-a (digits-of f x false a t (u .1))) x (u .1))
+module _ (f : Format) (x : Float) (t : T (fits f x)) (p : T (positive x)) where
+  some : 0 < mag f x
+  some = value-pos x (mag f x) (2 ^ low f) p (pow-pos (low f)) (held f x t p)
 
--- finite and above 0: the root neither overflows nor vanishes
-pub root-positive : (f : Format) (x : Float) → T (fits f x) → T (positive x) → T (positive (rootOf f x))
-root-positive f x t p =
-    let u = held f x t p in
-    let a = u .0 in
-    let pos-a = value-pos x a (2 ^ low f) p (pow-pos (low f)) (u .1) in
-    subst (λ (y : Float). T (positive y)) (sym (root-of-value f x a p (u .1))) (above-zero f a (normal f a pos-a (digits-of f x false a t (u .1))))
+  form : Normal f (mag f x)
+  form = normal f (mag f x) some (digits-of f x false (mag f x) t (held f x t p))
+
+  -- the root of a value above 0 is the nearest
+  pub root-nearest : NearestRoot f x (rootOf f x)
+  root-nearest = subst (λ (y : Float). NearestRoot f x y) (sym (root-of-value f x (mag f x) p (held f x t p))) (nearest-units f (mag f x) form x (held f x t p))
+
+  -- finite and above 0: the root neither overflows nor vanishes
+  pub root-positive : T (positive (rootOf f x))
+  root-positive = subst (λ (y : Float). T (positive y)) (sym (root-of-value f x (mag f x) p (held f x t p))) (above-zero f (mag f x) form)
+
+  -- the root in smallest values, and how near its square is
+  pub root-squared : SquareNear (2 ^ prec f) (mag f x * 2 ^ low f) (mag f (rootOf f x))
+  root-squared =
+      let v = subst (λ (y : Float). HasValue y false (b f (mag f x) form) (2 ^ low f)) (sym (root-of-value f x (mag f x) p (held f x t p))) (value f (mag f x) form) in
+      subst (λ (z : ℕ). SquareNear (2 ^ prec f) (mag f x * 2 ^ low f) z) (sym (mag-of f (rootOf f x) false _ v .1)) (b-near f (mag f x) form)
 
 -- ---- and no other value is
 
@@ -333,6 +376,7 @@ not-above f x y z t u n m l =
     let q' : (n .b + m .b) * (n .b + m .b) < 4 * (n .a * 2 ^ low f) = rw (e, add-comm (n .b) (m .b)) q in
     lt-irrefl (4 * (n .a * 2 ^ low f)) (lt-trans p q')
 
+-- two values that are nearest are one
 pub nearest-one : (f : Format) (x y z : Float) → T (fits f y) → T (fits f z) → NearestRoot f x y → NearestRoot f x z → y ≡ z
 nearest-one f x y z t u n m =
     let l = le-of-not-lt' (m .b) (n .b) (λ h. not-above f x z y u t m n h) in
@@ -342,3 +386,7 @@ nearest-one f x y z t u n m =
   where
     le-of-not-lt' : (a b : ℕ) → (a < b → ⊥) → b ≤ a
     le-of-not-lt' a b h = le-of-suc-le-suc (lt-of-not-le (λ (g : suc a ≤ b). h g))
+
+-- The theorem that specs/Root.antt points to: of a value above 0 `rootOf` is nearest to the exact root, and no other value of the format is.
+pub root-is : (f : Format) (x : Float) → T (fits f x) → T (positive x) → NearestRoot f x (rootOf f x) × ((y : Float) → T (fits f y) → NearestRoot f x y → y ≡ rootOf f x)
+root-is f x t p = (root-nearest f x t p, λ y u n. nearest-one f x y (rootOf f x) u (root-fits f x t) n (root-nearest f x t p))

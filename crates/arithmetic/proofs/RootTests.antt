@@ -8,7 +8,7 @@ use lib.Dec.{T, leb, ltb, eqb, lt→ltb}
 use lib.Pow.{pow-pos}
 use lib.Ieee.{Float, nan, inf, fin, Format, binary64, prec, low, up, down, ofFields, ofBits, toBits, fits, isNan, hid, ones, top, lt, eq, ne, nanBits}
 use lib.IntN.{ℤ, pos}
-use lib.Ieee.Fits.{down-pos, up-pos}
+use lib.Ieee.Fits.{down-pos, up-pos, round-fits, nan-fits, inf-fits}
 use lib.Ieee.Exact.{HasValue, odd-sign}
 use lib.Ieee.Bits.{ofBits-toBits, nanBits-above}
 use lib.Ieee.Scale.{finite}
@@ -103,3 +103,14 @@ sign-plus nan s a c p h = absurd p
 sign-plus (inf t) s a c p h = absurd p
 sign-plus (fin true m e) s a c p h = absurd p
 sign-plus (fin false m e) s a c p h = (refl, h .1)
+
+-- ---- a root is a value of the format
+
+pub root-fits : (f : Format) (x : Float) → T (fits f x) → T (fits f (rootOf f x))
+unfolding rootOf rootUnits
+root-fits f nan t = nan-fits f
+root-fits f (inf true) t = nan-fits f
+root-fits f (inf false) t = inf-fits f false
+root-fits f (fin s zero e) t = t
+root-fits f (fin true (suc m) e) t = nan-fits f
+root-fits f (fin false (suc m) e) t = round-fits f false _ (2 * 2 ^ low f)
