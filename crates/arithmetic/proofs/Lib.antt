@@ -7,3 +7,4 @@ pub mod RootNearest
 pub mod RootLaws
 pub mod NarrowBits
 pub mod NarrowCases
+pub mod NarrowLaws
