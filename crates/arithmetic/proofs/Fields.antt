@@ -1,8 +1,8 @@
 -- A value's pattern as its sign, exponent's field and fraction, at any format, and the value that these stand for: m * 2 ^ j smallest values, with the leading digit put on where the field is not 0.
 -- Root and narrowing both start here.
-use mathlib.Core.Path.{_≡_, refl, sym, ap, _∙_, subst}
+use mathlib.Core.Path.{_≡_, subst}
 use mathlib.Core.Bool.{Bool, true, false, cond, not}
-use Prim.Native.Nat.{ℕ, zero, suc, _+_, _-_, _*_, _/_, _%_, _^_, _≤_, _<_}
+use Prim.Native.Nat.{ℕ, suc, _+_, _*_, _/_, _%_, _^_}
 use lib.Dec.{T, leb, eqb}
 use lib.Ieee.{Float, nan, inf, fin, Format, prec, low, ofFields, ofBits, toBits, fits, isNan, hid, ones, top, ne}
 use lib.Ieee.Exact.{HasValue, odd-sign}

@@ -1,22 +1,22 @@
--- Narrowing an f64, by the digits that its pattern has.
-use mathlib.Core.Path.{_≡_, refl, sym, ap, _∙_, subst}
+-- The f32 pattern that an f64 of m * 2 ^ x smallest values narrows to. `gone` digits of m are dropped and k is the f32's own exponent, x + 149 + gone = 1074 + k: the fraction rounded for f32 and m / 2 ^ gone are then the same quotient (`cross`),
+-- so `closest m (2 ^ gone)` is what is kept, and it is added to the exponent's field, a carry too, up to the infinity's (`pattern`).
+use mathlib.Core.Path.{_≡_, refl, sym, ap, _∙_}
 use mathlib.Core.Logic.{_⊎_, inl, inr, ⊎-elim}
 use mathlib.Core.Bool.{Bool, true, false, cond}
-use Prim.Native.Nat.{ℕ, zero, suc, _+_, _-_, _*_, _/_, _%_, _^_, _≤_, _<_, compare}
-use native.Mathlib.Nat.{mul-assoc, le-trans, le-of-eq, lt-of-lt-of-le, lt-of-le-of-lt, mul-lt-mul-of-pos-right, mul-le-mul-right, le-div-iff-mul-le, div-lt-iff-lt-mul, div-eq-of-lt, mod-eq-of-lt, mul-one, mul-le-mul-left, le-antisymm, add-assoc, le-of-suc-le-suc, lt-of-not-le, lt-irrefl}
+use Prim.Native.Nat.{ℕ, suc, _+_, _*_, _/_, _%_, _^_, _≤_, _<_, compare}
+use native.Mathlib.Nat.{mul-assoc, le-trans, le-of-eq, lt-of-lt-of-le, lt-of-le-of-lt, mul-lt-mul-of-pos-right, mul-le-mul-right, le-div-iff-mul-le, div-lt-iff-lt-mul, div-eq-of-lt, mod-eq-of-lt, mul-le-mul-left, le-antisymm, add-assoc, le-of-suc-le-suc, lt-of-not-le, lt-irrefl}
 use native.Mathlib.Omega.{arith}
-use borrow.Author.Tests.{ne-eqb, le-ltb, lt-ltb, ltb-true, ltb-false}
-use lib.Dec.{T, ltb, eqb}
+use borrow.Author.Tests.{le-ltb, lt-ltb, ltb-true, ltb-false}
+use lib.Dec.{T, ltb}
 use lib.Pow.{pow-add, pow-pos, pow-mono, pow-lt}
-use lib.Ieee.{Float, nan, inf, fin, binary32, binary64, prec, emax, low, up, down, size, nearest, odd, units, round, hid, ones, top, ofFields, toBits, ofBits, fits}
-use lib.Ieee.Digits.{size-le}
-use lib.Ieee.Fits.{odd-fits, down-pos, round-is, round-fits, nearest-le}
+use lib.Ieee.{Float, nan, inf, fin, binary32, up, down, units, round, top, ofBits, fits}
+use lib.Ieee.Fits.{odd-fits, down-pos, round-is, nearest-le}
 use lib.Ieee.Nearest.{closest, closest-same, nearest-ge}
-use lib.Ieee.Exact.{HasValue, odd-sign}
+use lib.Ieee.Exact.{HasValue}
 use lib.Ieee.Scale.{round-same}
 use lib.Ieee.Bits.{ofBits-toBits}
 use Rattle.arithmetic.specs.Narrow.{narrowed}
-use Rattle.float_laws.proofs.Pattern.{dropped, drops, units-bits}
+use Rattle.float_laws.proofs.Pattern.{drops, units-bits}
 use Rattle.float_laws.proofs.Nearest.{rounds-down}
 
 narrow-round : (x : Float) (s : Bool) (a : ℕ) → HasValue x s a (2 ^ 1074) → narrowed x ≡ round binary32 s a (2 ^ 1074)

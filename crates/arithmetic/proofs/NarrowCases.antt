@@ -1,14 +1,15 @@
--- The answers of `magnitude`, by the exponent's field.
+-- The answers of `magnitude`, one law for each range of the exponent's field: `case-none` to 872 (under half the smallest f32), `case-low` to 896 (subnormal), `case-high` to 1150, `case-top` beyond. Each gives the record `NarrowsTo`,
+-- which holds for either sign; then the sign's bit and the fields of a value's own pattern.
 use mathlib.Core.Path.{_≡_, refl, sym, ap, _∙_, subst}
 use mathlib.Core.Bool.{Bool, true, false, cond, not}
 use Prim.Native.Nat.{ℕ, zero, suc, _+_, _-_, _*_, _/_, _%_, _^_, _≤_, _<_}
-use native.Mathlib.Nat.{le-trans, add-comm}
+use native.Mathlib.Nat.{le-antisymm, le-of-suc-le-suc, le-trans, add-comm}
 use native.Mathlib.Omega.{arith}
-use lib.Ieee.{Float, nan, inf, fin, binary32, binary64, ofFields, ofBits, toBits, nanBits, isNan, ne, fits, top}
+use lib.Ieee.{Float, nan, inf, binary32, binary64, ofFields, ofBits, toBits, nanBits, isNan, ne, fits}
 use lib.Ieee.Compare.{differs-from-itself}
 use lib.Ieee.Bits.{ofBits-toBits, toBits-lt, nanBits-is, nanBits-above, is-false}
-use lib.Dec.{T, leb, eqb}
-use borrow.Author.Tests.{leb-true, leb-false, eq-eqb, eqb-true, not-false, le-ltb}
+use lib.Dec.{T, leb, ltb, eqb}
+use borrow.Author.Tests.{leb-true, leb-false, eq-eqb, eqb-true, not-false, le-ltb, ltb-true, ltb-false}
 use lib.Ieee.Nearest.{closest}
 use lib.Ieee.Exact.{HasValue}
 use Rattle.arithmetic.specs.Narrow.{narrowed, NarrowsTo}
@@ -49,7 +50,7 @@ case-high (suc x) frac q g h b e =
           rw f (high-bits s _ (2 ^ 52 + frac) k v (omega arith) (omega arith) (omega arith));
     }
 
-pub case-over : (field frac : ℕ) → 1150 < field → field < 2047 → frac < 2 ^ 52 → NarrowsTo field frac 0x7f80_0000
+case-over : (field frac : ℕ) → 1150 < field → field < 2047 → frac < 2 ^ 52 → NarrowsTo field frac 0x7f80_0000
 case-over zero frac g h b = absurd (omega arith)
 case-over (suc x) frac g h b =
     let k = suc x - 897 in
@@ -61,12 +62,20 @@ case-over (suc x) frac g h b =
           over-bits s _ (2 ^ 52 + frac) k v (omega arith) (omega arith) (omega arith);
     }
 
-pub case-inf : (field frac : ℕ) → field ≡ 2047 → frac ≡ 0 → NarrowsTo field frac 0x7f80_0000
+case-inf : (field frac : ℕ) → field ≡ 2047 → frac ≡ 0 → NarrowsTo field frac 0x7f80_0000
 unfolding narrowed ofFields
 case-inf field frac e f = record { small = omega arith; is = λ s. rw (e, f) (infinite s ∙ of-inf s) }
   where
     of-inf : (s : Bool) → inf s ≡ narrowed (ofFields binary64 s 2047 0)
     of-inf s = refl
+
+-- too large for an f32, or the infinity itself
+pub case-top : (field frac : ℕ) → 1150 < field → field < 2048 → frac < 2 ^ 52 → (field ≡ 2047 → frac ≡ 0) → NarrowsTo field frac 0x7f80_0000
+case-top field frac g h b z = go (ltb field 2047) refl
+  where
+    go : (t : Bool) → ltb field 2047 ≡ t → NarrowsTo field frac 0x7f80_0000
+    go true e = case-over field frac g (ltb-true field 2047 e) b
+    go false e = let i : field ≡ 2047 = le-antisymm (le-of-suc-le-suc h) (ltb-false field 2047 e) in case-inf field frac i (z i)
 
 -- ---- the sign, and the two fields of a value's own pattern
 

@@ -1,13 +1,13 @@
 -- What callers use of narrowing: it is one rounding to f32 of a value counted in f64's smallest values (`narrow-Is`), so it keeps the order (`narrow-mono`) and keeps a value within every bound that is itself an f32 (`narrow-within`).
-use mathlib.Core.Path.{_≡_, refl, sym, ap, _∙_, subst}
+use mathlib.Core.Path.{_≡_, sym, ap, _∙_}
 use mathlib.Core.Bool.{Bool, true, false}
 use mathlib.Core.Logic.{_⊎_, inl, inr}
-use Prim.Native.Nat.{ℕ, zero, suc, _+_, _-_, _*_, _/_, _^_, _≤_, _<_}
+use Prim.Native.Nat.{ℕ, suc, _+_, _-_, _*_, _^_, _≤_, _<_}
 use native.Mathlib.Nat.{le-trans, le-of-eq, lt-of-le-of-lt, lt-of-lt-of-le, mul-assoc, mul-le-mul-right, mul-lt-mul-of-pos-right}
 use native.Mathlib.Omega.{arith}
 use lib.Dec.{T}
 use lib.Pow.{pow-add, pow-pos, pow-mono}
-use lib.Ieee.{Float, nan, inf, fin, binary32, binary64, prec, emax, low, up, down, round, le}
+use lib.Ieee.{Float, nan, inf, fin, binary32, binary64, prec, emax, low, up, down, le}
 use lib.Ieee.Fits.{down-pos}
 use lib.Ieee.Scale.{finite, overflow}
 use Rattle.float_laws.proofs.Units.{rnd, rnd-le, rnd-exact}

@@ -1,11 +1,11 @@
 -- A root digit by digit, at any number of places: two digits of the number n under the root come down at a time, and after i of p places `RootOf` holds of the digits of n that came down.
 -- One step (`digit`) is `omega`'s: from root² + rem to (2 * root + b)² + rem' of four times that number and two digits more.
-use mathlib.Core.Path.{_≡_, refl, sym, ap, _∙_, subst}
-use Prim.Native.Nat.{ℕ, zero, suc, _+_, _-_, _*_, _/_, _%_, _^_, _≤_, _<_}
-use native.Mathlib.Nat.{one-mul, mod-eq-of-lt, pow-suc, lt-trans, div-eq-of-lt, div-one, div-div-eq-div-mul, div-add-mod', mul-mod-left, mul-assoc}
+use mathlib.Core.Path.{_≡_, sym, ap, _∙_, subst}
+use Prim.Native.Nat.{ℕ, suc, _+_, _-_, _*_, _/_, _%_, _^_, _≤_, _<_}
+use native.Mathlib.Nat.{pow-suc, lt-trans, div-eq-of-lt, div-one, div-div-eq-div-mul, div-add-mod', mul-mod-left, mul-assoc}
 use native.Mathlib.Numerals.{add-one}
 use native.Mathlib.Omega.{arith}
-use lib.Pow.{pow-lt, pow-mono, pow-pos, pow-add, shl-shr}
+use lib.Pow.{pow-lt, pow-pos, pow-add, shl-shr}
 use lib.Ieee.Nearest.{div-same}
 use Rattle.arithmetic.specs.RootSteps.{RootOf}
 

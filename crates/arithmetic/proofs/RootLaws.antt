@@ -4,14 +4,14 @@ use mathlib.Core.Path.{_≡_, refl, sym, ap, _∙_, subst}
 use mathlib.Core.Bool.{Bool, true, false, cond}
 use mathlib.Core.Logic.{_⊎_, inl, inr, ⊎-elim}
 use Prim.Native.Nat.{ℕ, zero, suc, _+_, _-_, _*_, _/_, _^_, _≤_, _<_}
-use native.Mathlib.Nat.{le-refl, mul-le-mul, le-trans, le-of-eq, lt-of-le-of-lt, le-of-suc-le-suc, lt-irrefl, eq-or-lt-of-le, mul-pos, mul-le-mul-right, le-antisymm, le-of-mul-le-mul-right, zero-mul, zero-div, zero-lt-suc}
+use native.Mathlib.Nat.{le-refl, mul-le-mul, le-trans, lt-of-le-of-lt, le-of-suc-le-suc, lt-irrefl, eq-or-lt-of-le, mul-pos, mul-le-mul-right, le-antisymm, le-of-mul-le-mul-right, zero-mul, zero-div, zero-lt-suc}
 use native.Mathlib.Omega.{arith}
 use lib.IntN.{ℤ}
 use lib.Dec.{T, eqb, lt→ltb}
-use lib.Pow.{pow-add, pow-pos}
-use lib.Ieee.{Float, nan, inf, fin, Format, binary32, binary64, prec, low, up, down, size, round, fits, le}
+use lib.Pow.{pow-pos}
+use lib.Ieee.{Float, nan, inf, fin, Format, binary32, binary64, prec, low, up, down, size, fits, le}
 use lib.Ieee.Digits.{size-lt}
-use lib.Ieee.Fits.{up-pos, down-pos}
+use lib.Ieee.Fits.{up-pos}
 use lib.Ieee.Scale.{finite}
 use lib.Ieee.Positive.{positive, positive-finite, first-pos}
 use borrow.Author.Tests.{eqb-true, eqb-false}
@@ -21,7 +21,7 @@ use Rattle.float_laws.proofs.Operation.{Is, round-Is}
 use Rattle.float_laws.proofs.Exact.{is-le}
 use Rattle.float_laws.proofs.Interval.{In, le→parts}
 use Rattle.arithmetic.specs.Root.{wholeRoot, rootUnits, rootOf}
-use Rattle.arithmetic.proofs.RootRounded.{Floor, sq-lt, whole-floor}
+use Rattle.arithmetic.proofs.RootRounded.{WholePart, sq-lt, whole-is}
 use Rattle.arithmetic.proofs.RootTests.{root-fits}
 use Rattle.arithmetic.proofs.RootNearest.{root-positive, root-squared, SquareNear}
 
@@ -31,7 +31,7 @@ use Rattle.arithmetic.proofs.RootNearest.{root-positive, root-squared, 
 abbrev doubled : ℕ → ℕ → ℕ
 doubled n r = 2 * r + cond (eqb (r * r) n) 0 1
 
-doubled-mono : (n n' r r' : ℕ) → Floor n r → Floor n' r' → n ≤ n' → doubled n r ≤ doubled n' r'
+doubled-mono : (n n' r r' : ℕ) → WholePart n r → WholePart n' r' → n ≤ n' → doubled n r ≤ doubled n' r'
 doubled-mono n n' r r' F G h =
     ⊎-elim same more (eq-or-lt-of-le le)
   where
@@ -55,7 +55,7 @@ doubled-mono n n' r r' F G h =
     same : r ≡ r' → doubled n r ≤ doubled n' r'
     same e = go (eqb (r * r) n) (eqb (r' * r') n') (eqb-false (r * r) n) (eqb-true (r' * r') n') e
 
-doubled-none : (r : ℕ) → Floor 0 r → doubled 0 r ≡ 0
+doubled-none : (r : ℕ) → WholePart 0 r → doubled 0 r ≡ 0
 doubled-none zero F = refl
 doubled-none (suc r) F = let a = F .at-most in absurd (omega arith)
 
@@ -72,11 +72,11 @@ unfolding halves
 halves-mono f a b h =
     let n = a * 2 ^ low f in
     let m = b * 2 ^ low f in
-    doubled-mono n m (wholeRoot (size n) n) (wholeRoot (size m) m) (whole-floor (size n) n (size-lt n)) (whole-floor (size m) m (size-lt m)) (mul-le-mul-right (2 ^ low f) h)
+    doubled-mono n m (wholeRoot (size n) n) (wholeRoot (size m) m) (whole-is (size n) n (size-lt n)) (whole-is (size m) m (size-lt m)) (mul-le-mul-right (2 ^ low f) h)
 
 halves-none : (f : Format) → halves f 0 ≡ 0
 unfolding halves
-halves-none f = ap (λ (n : ℕ). doubled n (wholeRoot (size n) n)) (zero-mul (2 ^ low f)) ∙ doubled-none (wholeRoot (size 0) 0) (whole-floor (size 0) 0 (size-lt 0))
+halves-none f = ap (λ (n : ℕ). doubled n (wholeRoot (size n) n)) (zero-mul (2 ^ low f)) ∙ doubled-none (wholeRoot (size 0) 0) (whole-is (size 0) 0 (size-lt 0))
 
 -- ---- one rounding
 

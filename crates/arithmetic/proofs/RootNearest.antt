@@ -2,7 +2,7 @@
 -- With x = a smallest values, a * 2 ^ low is m * 2 ^ (prec + 1) * 4 ^ t (`normal`), whose root lies between r * 2 ^ t and (r + 1) * 2 ^ t for an r of prec + 1 digits. The value b = (r + 1) / 2 * 2 ^ (t + 1) is one of the two,
 -- and another value c is a whole step of 2 ^ (t + 1) away from b wherever it has prec digits, so the root is on b's side of (b + c) / 2 (`up-all`, `down-odd-at`, `down-even-at`).
 use mathlib.Core.Path.{_≡_, refl, sym, ap, _∙_, subst}
-use mathlib.Core.Logic.{_⊎_, inl, inr, ⊎-elim}
+use mathlib.Core.Logic.{_⊎_, inl, inr}
 use mathlib.Core.Bool.{Bool, true, false, _&&_}
 use Prim.Native.Nat.{ℕ, zero, suc, _+_, _-_, _*_, _/_, _%_, _^_, _≤_, _<_}
 use native.Mathlib.Nat.{le-refl, le-trans, le-of-eq, lt-of-lt-of-le, lt-of-le-of-lt, lt-of-not-le, not-le-of-lt, lt-irrefl, le-of-suc-le-suc, le-of-lt, lt-trans, le-antisymm, add-comm, mul-le-mul, mul-le-mul-right, mul-lt-mul-of-pos-right, lt-of-mul-lt-mul-right, mul-assoc, mul-comm, mul-one, mul-pos, zero-mul, mul-right-comm, pow-suc, zero-lt-suc, eq-of-mul-eq-mul-right}
@@ -10,7 +10,7 @@ use native.Mathlib.Omega.{arith}
 use lib.IntN.{ℤ, pos, negsuc}
 use lib.Dec.{T, leb, ltb, eqb, leb→le, ltb→lt}
 use lib.Pow.{pow-add, pow-pos, pow-mono, pow-lt}
-use lib.Ieee.{Float, nan, inf, fin, Format, binary32, binary64, prec, emax, low, up, down, size, fits, hid, ofBits}
+use lib.Ieee.{Float, nan, inf, fin, Format, prec, emax, low, up, down, size, fits, hid, ofBits}
 use lib.Ieee.Bits.{ofBits-toBits}
 use Rattle.float_laws.proofs.Pattern.{bits-of}
 use lib.Ieee.Digits.{size-lt, size-le, size-reaches}
@@ -22,7 +22,7 @@ use borrow.Author.Tests.{ltb-true, ltb-false}
 use Rattle.arithmetic.specs.RootSteps.{RootOf}
 use Rattle.arithmetic.specs.Root.{wholeRoot}
 use Rattle.arithmetic.specs.Root.{rootUnits, rootOf, NearestRoot}
-use Rattle.arithmetic.proofs.RootRounded.{Floor, sq-lt, whole-floor, even-or-odd, half-even, half-odd, root-ge, root-value, square-ge, square-gt, square-lt}
+use Rattle.arithmetic.proofs.RootRounded.{whole-is, even-or-odd, half-even, half-odd, root-ge, root-value, square-ge, square-gt, square-lt}
 use Rattle.arithmetic.proofs.RootTests.{root-of-value, root-fits}
 use Rattle.arithmetic.proofs.RootCases.{wide}
 
@@ -252,9 +252,9 @@ half-bounds r W =
 
 -- ---- the theorem
 
-floor-root : (n : ℕ) → RootOf n (wholeRoot (size n) n) (n - wholeRoot (size n) n * wholeRoot (size n) n)
-floor-root n =
-    let h = whole-floor (size n) n (size-lt n) in
+whole-root : (n : ℕ) → RootOf n (wholeRoot (size n) n) (n - wholeRoot (size n) n * wholeRoot (size n) n)
+whole-root n =
+    let h = whole-is (size n) n (size-lt n) in
     let a = h .at-most in
     let b = h .above in
     record { square = omega arith; below = omega arith }
@@ -274,7 +274,7 @@ module _ (f : Format) (a : ℕ) (d : Normal f a) where
 
   R : RootOf (d .m * 2 ^ suc (prec f)) r (n - r * r)
   unfolding n r
-  R = floor-root n
+  R = whole-root n
 
   b : ℕ
   b = (r + 1) / 2 * (2 ^ d .t * 2)

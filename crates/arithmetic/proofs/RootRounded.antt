@@ -1,20 +1,22 @@
--- The root of a fraction rounded, at any format, by a root of prec + 1 digits.
+-- The pattern of a rounded root, at any format, from prec + 1 digits of it (`root-pattern`).
+-- The number a * 2 ^ low under the root is n * W * W with n = m * 2 ^ (prec + 1) and W = 2 ^ t. The root R of the whole then lies from r * W to (r + 1) * W, r the root of n, and of the prec + 1 digits of r the last is rounded: an even r is
+-- kept, and an odd r goes up, since n is even and so r * r is not n (`odd-inexact`). What `round` drops and keeps is found by these bounds (`closest-is`, `drops`).
 use mathlib.Core.Path.{_≡_, refl, sym, ap, _∙_, subst}
-use mathlib.Core.Logic.{_⊎_, inl, inr, ⊎-elim}
+use mathlib.Core.Logic.{_⊎_, inl, inr}
 use mathlib.Core.Bool.{Bool, true, false, cond}
 use Prim.Native.Nat.{ℕ, zero, suc, _+_, _-_, _*_, _/_, _%_, _^_, _≤_, _<_}
-use native.Mathlib.Nat.{le-refl, le-trans, le-of-eq, lt-of-lt-of-le, lt-of-le-of-lt, lt-of-not-le, not-le-of-lt, lt-irrefl, le-antisymm, le-of-suc-le-suc, mul-le-mul, mul-le-mul-right, mul-pos, mul-lt-mul-of-pos-right, mul-assoc, mul-comm, mul-mod-left, pow-suc, pow-succ', zero-add, zero-mul, le-div-iff-mul-le, div-lt-iff-lt-mul, div-eq-of-lt-le, div-add-mod', eq-of-mul-eq-mul-right}
+use native.Mathlib.Nat.{le-trans, le-of-eq, lt-of-lt-of-le, lt-of-le-of-lt, lt-of-not-le, not-le-of-lt, lt-irrefl, le-antisymm, le-of-suc-le-suc, mul-le-mul, mul-le-mul-right, mul-pos, mul-lt-mul-of-pos-right, mul-assoc, mul-mod-left, pow-suc, zero-add, zero-mul, div-eq-of-lt-le, div-add-mod', eq-of-mul-eq-mul-right}
 use native.Mathlib.Omega.{arith}
 use native.Mathlib.Numerals.{add-one}
 use lib.Dec.{leb, ltb, eqb}
-use lib.Pow.{pow-add, pow-pos, pow-mono, pow-lt}
-use lib.Ieee.{Format, prec, emax, low, size, units, round, hid, top, ofBits, Float}
+use lib.Pow.{pow-add, pow-pos, pow-lt}
+use lib.Ieee.{Format, prec, emax, low, size, units, round, hid, ofBits, Float}
 use lib.Ieee.Exact.{HasValue, units-val}
 use lib.Arith.{lt-of-le-ne}
 use lib.Ieee.Digits.{size-lt}
 use lib.Ieee.Fits.{two, round-is}
 use lib.Ieee.Nearest.{closest, closest-same}
-use borrow.Author.Tests.{leb-true, leb-false, eqb-true, eqb-false, ltb-true, ltb-false}
+use borrow.Author.Tests.{leb-true, leb-false, eqb-true, ltb-true, ltb-false}
 use Rattle.float_laws.proofs.Pattern.{dropped, drops, round-pattern}
 use Rattle.float_laws.proofs.Nearest.{rounds-down, rounds-up}
 use Rattle.arithmetic.specs.RootSteps.{RootOf}
@@ -26,20 +28,13 @@ use Rattle.arithmetic.specs.Root.{rootUnits}
 pub sq-lt : (x y : ℕ) → x * x < y * y → x < y
 sq-lt x y h = lt-of-not-le (λ (g : y ≤ x). not-le-of-lt h (mul-le-mul g g))
 
-pub sq-le : (x y : ℕ) → x * x ≤ y * y → x ≤ y
-sq-le x y h = le-of-suc-le-suc (lt-of-not-le (λ (g : suc y ≤ x). let a : suc y * suc y ≤ x * x = mul-le-mul g g in lt-irrefl (y * y) (omega arith)))
-
 -- r is the whole part of the root of n
-pub record Floor (n r : ℕ) : Type 0 where
+pub record WholePart (n r : ℕ) : Type 0 where
   pub at-most : r * r ≤ n
   pub above : n < suc r * suc r
 
-pub root-floor : {n r q : ℕ} → RootOf n r q → Floor n r
-root-floor {n} {r} {q} h = let a = h .square in let b = h .below in record { at-most = omega arith; above = omega arith }
-
-pub floor-one : {n r r' : ℕ} → Floor n r → Floor n r' → r ≡ r'
-floor-one {n} {r} {r'} h k =
-    le-antisymm (le-of-suc-le-suc (sq-lt r (suc r') (lt-of-le-of-lt (h .at-most) (k .above)))) (le-of-suc-le-suc (sq-lt r' (suc r) (lt-of-le-of-lt (k .at-most) (h .above))))
+pub root-whole : {n r q : ℕ} → RootOf n r q → WholePart n r
+root-whole {n} {r} {q} h = let a = h .square in let b = h .below in record { at-most = omega arith; above = omega arith }
 
 grown-at-most : (n s : ℕ) → s * s ≤ n / 4 → 2 * s * (2 * s) ≤ n
 grown-at-most n s h = omega arith
@@ -47,17 +42,17 @@ grown-at-most n s h = omega arith
 grown-above : (n s : ℕ) → n / 4 < suc s * suc s → n < suc (suc (2 * s)) * suc (suc (2 * s))
 grown-above n s h = omega arith
 
-grown-floor : (n s : ℕ) → Floor (n / 4) s → Floor n (grown n (2 * s))
-grown-floor n s h = go (leb (suc (2 * s) * suc (2 * s)) n) refl
+grown-is : (n s : ℕ) → WholePart (n / 4) s → WholePart n (grown n (2 * s))
+grown-is n s h = go (leb (suc (2 * s) * suc (2 * s)) n) refl
   where
-    go : (b : Bool) → leb (suc (2 * s) * suc (2 * s)) n ≡ b → Floor n (cond b (suc (2 * s)) (2 * s))
+    go : (b : Bool) → leb (suc (2 * s) * suc (2 * s)) n ≡ b → WholePart n (cond b (suc (2 * s)) (2 * s))
     go true e = record { at-most = leb-true _ _ e; above = grown-above n s (h .above) }
     go false e = record { at-most = grown-at-most n s (h .at-most); above = leb-false _ _ e }
 
-pub whole-floor : (k n : ℕ) → n < 2 ^ k → Floor n (wholeRoot k n)
+pub whole-is : (k n : ℕ) → n < 2 ^ k → WholePart n (wholeRoot k n)
 unfolding wholeRoot
-whole-floor zero n h = record { at-most = omega arith; above = omega arith }
-whole-floor (suc k) n h = let p = pow-suc 2 k in grown-floor n (wholeRoot k (n / 4)) (whole-floor k (n / 4) (omega arith))
+whole-is zero n h = record { at-most = omega arith; above = omega arith }
+whole-is (suc k) n h = let p = pow-suc 2 k in grown-is n (wholeRoot k (n / 4)) (whole-is k (n / 4) (omega arith))
 
 -- ---- what `round` keeps and drops, by bounds
 
@@ -163,7 +158,7 @@ between r h W x w a b c (inr e) =
     subst (λ (z : ℕ). Between z W x) (sym e) (rw (half-odd h) (between-odd h W x w (rw e at d) (rw e at b)))
 
 -- n is m * 2 ^ (prec + 1), N is n * W * W, W is 2 ^ t
-module _ (n N r R W : ℕ) (w : 0 < W) (F : Floor n r) (G : Floor N R) (e : N ≡ n * (W * W)) where
+module _ (n N r R W : ℕ) (w : 0 < W) (F : WholePart n r) (G : WholePart N R) (e : N ≡ n * (W * W)) where
   big-ge : r * W ≤ R
   big-ge =
       let a : r * r * (W * W) ≤ n * (W * W) = mul-le-mul-right (W * W) (F .at-most) in
@@ -232,13 +227,13 @@ module _ (f : Format) (m t a r q : ℕ) (root : RootOf (m * 2 ^ suc (prec f)) r 
   abbrev W : ℕ
   W = 2 ^ t
 
-  F : Floor n r
+  F : WholePart n r
   unfolding n
-  F = root-floor root
+  F = root-whole root
 
-  G : Floor N R
+  G : WholePart N R
   unfolding R
-  G = whole-floor (size N) N (size-lt N)
+  G = whole-is (size N) N (size-lt N)
 
   at : N ≡ n * (W * W)
   unfolding N n

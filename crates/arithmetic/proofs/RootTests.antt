@@ -1,20 +1,18 @@
 -- What the tests of `root` say of its argument, at any format: which values have a root of their own (NaN, below 0, a zero, the infinity), and that what is left is finite and above 0.
 use mathlib.Core.Path.{_≡_, refl, sym, ap, _∙_, subst}
-use mathlib.Core.Bool.{Bool, true, false, cond, not}
-use Prim.Native.Nat.{ℕ, zero, suc, _+_, _-_, _*_, _/_, _%_, _^_, _≤_, _<_}
-use native.Mathlib.Nat.{mul-div-cancel, mul-one, zero-mul, zero-lt-suc, mul-pos}
+use mathlib.Core.Bool.{Bool, true, false, not}
+use Prim.Native.Nat.{ℕ, zero, suc, _+_, _*_, _/_, _^_, _<_}
+use native.Mathlib.Nat.{mul-div-cancel, zero-lt-suc, mul-pos}
 use native.Mathlib.Omega.{arith}
-use lib.Dec.{T, leb, ltb, eqb, lt→ltb}
-use lib.Pow.{pow-pos}
-use lib.Ieee.{Float, nan, inf, fin, Format, binary64, prec, low, up, down, ofFields, ofBits, toBits, fits, isNan, hid, ones, top, lt, eq, ne, nanBits}
+use lib.Dec.{T, lt→ltb}
+use lib.Ieee.{Float, nan, inf, fin, Format, low, up, down, fits, lt, eq, ne}
 use lib.IntN.{ℤ, pos}
 use lib.Ieee.Fits.{down-pos, up-pos, round-fits, nan-fits, inf-fits}
-use lib.Ieee.Exact.{HasValue, odd-sign}
-use lib.Ieee.Bits.{ofBits-toBits, nanBits-above}
+use lib.Ieee.Exact.{HasValue}
 use lib.Ieee.Scale.{finite}
-use lib.Ieee.Positive.{positive, value-pos}
+use lib.Ieee.Positive.{positive}
 use lib.Ieee.Compare.{differs-from-itself}
-use borrow.Author.Tests.{ltb-false, eq-eqb, ne-eqb, eqb-true, le-ltb, lt-ltb}
+use borrow.Author.Tests.{eq-eqb, ne-eqb, le-ltb, lt-ltb}
 use Rattle.arithmetic.specs.Root.{rootUnits, rootOf}
 
 apart : true ≡ false → ⊥

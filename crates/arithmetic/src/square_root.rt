@@ -106,7 +106,7 @@ pub fn root(x: f64) -> f64
     f64::from_bits(pattern(frac + 0x10_0000_0000_0000, field - 1))
 }
 
-// The root of a * a + b * b, each operation rounded: 3 and 4 give 5. Not the library's hypot, which rounds once and does not overflow in between.
+// The root of a * a + b * b, each operation rounded: 3 and 4 give 5. Unlike the library's hypot the squares may overflow or vanish on the way.
 pub fn hypot(a: f64, b: f64) -> f64
     ensures { λ r. ⌜ r ≡ hypotOf a b ⌝ }
 {

@@ -1,3 +1,4 @@
+-- A shift of 1 by k places, k below 64, loses no digit.
 use Rattle.float_laws.proofs.Nearest.{shifted}
 use borrow.Author.Needs.{needs}
 use Rattle.arithmetic.proofs.bits.power.Statement.{statement}

@@ -1,3 +1,4 @@
+-- The fields of x's own pattern go to `magnitude`, whose contract holds for either sign; the sign's bit is put on (`narrow-is`). `fit1`, `fit2`: x fits its format, where a law asks for it.
 use lib.Dec.{T}
 use lib.Ieee.{fits, binary64}
 use Rattle.arithmetic.proofs.Fields.{no-nan}

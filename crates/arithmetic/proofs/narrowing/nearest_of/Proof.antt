@@ -1,3 +1,4 @@
+-- The three ways out are the three ways of a rounded quotient: the remainder doubled is below the divisor, is the divisor, or is above it.
 use Rattle.float_laws.proofs.Nearest.{rounds-down, rounds-even, rounds-up}
 use lib.Ieee.Nearest.{closest}
 use lib.Pow.{pow-pos}

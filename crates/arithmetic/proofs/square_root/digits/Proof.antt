@@ -1,3 +1,4 @@
+-- Invariant: after i of 54 places `RootOf` holds of the digits of m * 2 ^ 54 that came down, and the root has at most i digits. One turn is `root-next`. Measure: the places left.
 use Rattle.arithmetic.specs.RootSteps.{RootOf}
 use mathlib.Core.Path.{_≡_}
 use native.Mathlib.Nat.{le-antisymm}

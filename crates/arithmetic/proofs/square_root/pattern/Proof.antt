@@ -1,5 +1,6 @@
+-- The root's pattern by `pattern-is`, from the leading digit at bit 52 (`places`) and 54 digits of the root (`digits`). The other needs are that nothing overflows 64 bits.
 use lib.Ieee.{binary64}
-use Prim.Native.Nat.{suc-le-suc, _+_, _-_, _%_, _*_, _^_, _<_}
+use Prim.Native.Nat.{suc-le-suc, _+_, _-_, _%_, _*_, _^_}
 use native.Mathlib.Omega.{arith}
 use Rattle.arithmetic.proofs.RootCases.{doubled, pattern-is}
 use borrow.Author.Needs.{needs}

@@ -1,5 +1,4 @@
-use Prim.Native.Nat.{_+_, _≤_, _<_, _^_, _-_, _*_, ℕ, suc}
-use mathlib.Core.Path.{_≡_}
+-- 64 - 1 - j zeros stand before m's leading digit 2 ^ j in a word of 64, and the first 11 of them are beyond bit 52: what is left moves the digit there (`placed`).
 use native.Mathlib.Omega.{arith}
 use lib.Count.{leadingZeros, leading-top, leading-le}
 use Rattle.arithmetic.proofs.RootCases.{enough, placed}

@@ -1,4 +1,5 @@
-use mathlib.Core.Path.{_≡_, refl}
+-- Each `return` is a law of RootTests or RootCases, at the tests on its way. `fit4` to `fit6`: the argument fits its format, where a law asks for it.
+use mathlib.Core.Path.{refl}
 use native.Mathlib.Omega.{arith}
 use lib.Dec.{T}
 use lib.Ieee.{fits, binary64, ofBits, div}

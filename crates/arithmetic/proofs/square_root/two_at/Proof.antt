@@ -1,3 +1,4 @@
+-- Place i of m * 2 ^ 54 is a place of m above the 54 zeros (`two-early`), or one of the zeros (`two-late`).
 use Prim.Native.Nat.{_-_, _*_}
 use lib.Pow.{pow-pos}
 use Rattle.arithmetic.proofs.RootDigits.{two-early, two-late}
