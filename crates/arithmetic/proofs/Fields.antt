@@ -40,15 +40,19 @@ not-finite f s x t e = rw (eq-eqb (suc x) (ones f) e) (go (eqb t 0))
 -- ---- the fields of a value's own pattern
 
 module _ (f : Format) (x : Float) (fit : T (fits f x)) where
+  -- the sign, field and fraction of a value's own pattern stand for it
   pub of-fields : ofFields f (leb (top f) (toBits f x)) (toBits f x % top f / hid f) (toBits f x % hid f) ≡ x
   unfolding ofBits
   of-fields = ofBits-toBits f x fit
 
+  -- a normal value, by its field and fraction
   pub fields-value : (y : ℕ) → toBits f x % top f / hid f ≡ suc y → (suc y ≡ ones f → ⊥) → HasValue x (leb (top f) (toBits f x)) ((hid f + toBits f x % hid f) * 2 ^ y) (2 ^ low f)
   fields-value y e n = let b = toBits f x in subst (λ (v : Float). HasValue v (leb (top f) b) ((hid f + b % hid f) * 2 ^ y) (2 ^ low f)) (rw e at of-fields) (value-fields f (leb (top f) b) y (b % hid f) n)
 
+  -- a subnormal or a zero
   pub fields-low : toBits f x % top f / hid f ≡ 0 → HasValue x (leb (top f) (toBits f x)) (toBits f x % hid f * 2 ^ 0) (2 ^ low f)
   fields-low e = let b = toBits f x in subst (λ (v : Float). HasValue v (leb (top f) b) (b % hid f * 2 ^ 0) (2 ^ low f)) (rw e at of-fields) (value-low f (leb (top f) b) (b % hid f))
 
+  -- a field of ones: an infinity or a NaN
   pub fields-infinite : (y : ℕ) → toBits f x % top f / hid f ≡ suc y → suc y ≡ ones f → T (not (finite x))
   fields-infinite y e n = let b = toBits f x in subst (λ (v : Float). T (not (finite v))) (rw e at of-fields) (not-finite f (leb (top f) b) y (b % hid f) n)

@@ -8,7 +8,7 @@ use native.Mathlib.Nat.{mul-assoc, le-trans, le-of-eq, lt-of-lt-of-le, lt-of-le-
 use native.Mathlib.Omega.{arith}
 use borrow.Author.Tests.{le-ltb, lt-ltb, ltb-true, ltb-false}
 use lib.Dec.{T, ltb}
-use lib.Pow.{pow-add, pow-pos, pow-mono, pow-lt}
+use lib.Pow.{pow-add, pow-pos, pow-mono}
 use lib.Ieee.{Float, nan, inf, fin, binary32, up, down, units, round, top, ofBits, fits}
 use lib.Ieee.Fits.{odd-fits, down-pos, round-is, nearest-le}
 use lib.Ieee.Nearest.{closest, closest-same, nearest-ge}
@@ -16,6 +16,7 @@ use lib.Ieee.Exact.{HasValue}
 use lib.Ieee.Scale.{round-same}
 use lib.Ieee.Bits.{ofBits-toBits}
 use Rattle.arithmetic.specs.Narrow.{narrowed}
+use Rattle.float_laws.proofs.Exact.{exponent}
 use Rattle.float_laws.proofs.Pattern.{drops, units-bits}
 use Rattle.float_laws.proofs.Nearest.{rounds-down}
 
@@ -56,15 +57,13 @@ module _ (m x gone k : ℕ) (e : x + 149 + gone ≡ 1074 + k) (small : m < 2 ^ 5
   kept-is : closest n (2 ^ 1074 * 2 ^ k) ≡ closest m (2 ^ gone)
   kept-is = closest-same n (2 ^ 1074 * 2 ^ k) m (2 ^ gone) (rw (← pow-add 2 1074 k) (pow-pos (1074 + k))) (pow-pos gone) cross
 
+  -- what `round` makes of the value: m without `gone` digits, at the exponent k
   pub round-units : (s : Bool) → round binary32 s (m * 2 ^ x) (2 ^ 1074) ≡ units binary32 s (closest m (2 ^ gone)) k
   unfolding n
   round-units s =
       round-is binary32 s (m * 2 ^ x) (2 ^ 1074)
       ∙ ap (λ (z : ℕ). units binary32 s (closest n (2 ^ 1074 * 2 ^ z)) z) (drops binary32 n (2 ^ 1074) k (pow-pos 1074) n-lt n-ge)
       ∙ ap (λ (z : ℕ). units binary32 s z k) kept-is
-
-pow-le-back : (a l : ℕ) → 2 ^ a ≤ 2 ^ l → a ≤ l
-pow-le-back a l h = le-of-suc-le-suc (lt-of-not-le (λ (g : suc l ≤ a). lt-irrefl (2 ^ l) (lt-of-lt-of-le (pow-lt g) h)))
 
 -- the pattern of what is kept, a carry into the infinity's too
 units-fit : (s : Bool) (q k : ℕ) → q ≤ 2 ^ 24 → q * 2 ^ k < 2 ^ 277 → T (fits binary32 (units binary32 s q k))
@@ -75,6 +74,7 @@ units-over : (s : Bool) (q k : ℕ) → 2 ^ 277 ≤ q * 2 ^ k → units binary32
 unfolding units
 units-over s q k l = rw (le-ltb (q * 2 ^ k) (2 ^ 277) l)
 
+-- the infinity's pattern
 pub infinite : (s : Bool) → ofBits binary32 (cond s (top binary32) 0 + 0x7f80_0000) ≡ inf s
 unfolding ofBits
 infinite true = refl
@@ -86,7 +86,7 @@ infinite' true = refl
 infinite' false = refl
 
 deep : (j : ℕ) → 2 ^ 277 ≤ 2 ^ (24 + j) → 253 ≤ j
-deep j u = let v : 277 ≤ 24 + j = pow-le-back 277 (24 + j) u in omega arith
+deep j u = let v : 277 ≤ 24 + j = exponent 277 (24 + j) u in omega arith
 
 split : (a b : ℕ) → (a < b) ⊎ (b ≤ a)
 split a b = go (ltb a b) refl
@@ -112,6 +112,7 @@ pattern s q k h w r =
 
 -- ---- the answers of the code
 
+-- 24 digits are kept, or one more by a carry
 pub closest-le : (m gone : ℕ) → m < 2 ^ 53 → 29 ≤ gone → closest m (2 ^ gone) ≤ 2 ^ 24
 closest-le m gone h w =
     let u = 2 ^ gone in
@@ -138,6 +139,7 @@ low-bits s v m x gone h e b w =
     let t : cond s (top binary32) 0 + 0 * 2 ^ 23 + closest m (2 ^ gone) ≡ cond s (top binary32) 0 + closest m (2 ^ gone) = omega arith in
     (rw t at p) ∙ sym (narrow-round v s (m * 2 ^ x) h ∙ round-units m x gone 0 z b w (inl refl) s)
 
+-- so small that nothing is kept
 pub none-bits : (s : Bool) (v : Float) (m x gone : ℕ) → HasValue v s (m * 2 ^ x) (2 ^ 1074) → x + 149 + gone ≡ 1074 → m < 2 ^ 53 → 54 ≤ gone
     → ofBits binary32 (cond s (top binary32) 0 + 0) ≡ narrowed v
 none-bits s v m x gone h e b w =
@@ -152,6 +154,7 @@ high-bits s v m k h b c r =
     (rw (add-assoc (cond s (top binary32) 0) (k * 2 ^ 23) (closest m (2 ^ 29))) at p)
     ∙ sym (narrow-round v s (m * 2 ^ (896 + k)) h ∙ round-units m (896 + k) 29 k z b (omega arith) (inr (refl, c)) s)
 
+-- too large: the infinity
 pub over-bits : (s : Bool) (v : Float) (m k : ℕ) → HasValue v s (m * 2 ^ (896 + k)) (2 ^ 1074) → m < 2 ^ 53 → 2 ^ 52 ≤ m → 254 ≤ k
     → ofBits binary32 (cond s (top binary32) 0 + 0x7f80_0000) ≡ narrowed v
 over-bits s v m k h b c r =

@@ -91,9 +91,11 @@ sign-is b h = go (leb (2 ^ 63) b) refl
     go false e = let l = leb-false (2 ^ 63) b e in omega arith
 
 module _ (x : Float) (fit : T (fits binary64 x)) (no : T (not (isNan x))) where
+  -- a pattern is a word of 64 bits
   pub bits-lt : toBits binary64 x < 2 ^ 64
   bits-lt = toBits-lt binary64 x fit
 
+  -- a field of ones has no fraction, for x is no NaN
   pub no-payload : toBits binary64 x % 2 ^ 63 / 2 ^ 52 ≡ 2047 → toBits binary64 x % 2 ^ 52 ≡ 0
   unfolding nanBits
   no-payload e =
@@ -102,11 +104,13 @@ module _ (x : Float) (fit : T (fits binary64 x)) (no : T (not (isNan x))) where
       let p : not (eqb (n % 2 ^ 52) 0) ≡ false = rw (eq-eqb _ _ e) at q in
       eqb-true (n % 2 ^ 52) 0 (not-false (eqb (n % 2 ^ 52) 0) p)
 
+  -- the sign's bit put on
   pub narrow-is : (r : ℕ) → NarrowsTo (toBits binary64 x % 2 ^ 63 / 2 ^ 52) (toBits binary64 x % 2 ^ 52) r → ofBits binary32 (toBits binary64 x / 2 ^ 63 * 2 ^ 31 + r) ≡ narrowed x
   narrow-is r h =
       let n = toBits binary64 x in
       rw (sign-is n bits-lt) (h .is (leb (2 ^ 63) n) ∙ ap narrowed (of-fields binary64 x fit))
 
+  -- and the pattern is no NaN's
   pub narrow-small : (r : ℕ) → r ≤ 0x7f80_0000 → T (not (nanBits binary32 (toBits binary64 x / 2 ^ 63 * 2 ^ 31 + r)))
   narrow-small r h =
       let n = toBits binary64 x in

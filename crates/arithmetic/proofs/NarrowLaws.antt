@@ -42,6 +42,7 @@ minus-part : (s : Bool) (n : ℕ) → sn s n ≡ sn s n - sp s n
 minus-part true n = omega arith
 minus-part false n = omega arith
 
+-- narrowing is one rounded operation: x over `step`, in f32's smallest values
 pub narrow-Is : (x : Float) → Real binary64 x → Is binary32 (narrowed x) (pl binary64 x) (mi binary64 x) step
 unfolding narrowed pl mi
 narrow-Is nan r = absurd (r .finite)
@@ -57,6 +58,7 @@ narrow-Is (fin s m e) r =
 spread : (P N Q R c : ℕ) → P + R ≤ Q + N → P * c + R * c ≤ Q * c + N * c
 spread P N Q R c h = let k : (P + R) * c ≤ (Q + N) * c = mul-le-mul-right c h in omega arith
 
+-- narrowing keeps the order, of values that do not overflow
 pub narrow-mono : (x y : Float) → Real binary64 x → Real binary64 y → T (finite (narrowed x)) → T (finite (narrowed y)) → T (le x y) → T (le (narrowed x) (narrowed y))
 narrow-mono x y r q s t h =
     is-le binary32 (narrowed x) (narrowed y) (pl binary64 x) (mi binary64 x) step (pl binary64 y) (mi binary64 y) step step-pos step-pos (narrow-Is x r) (narrow-Is y q) s t

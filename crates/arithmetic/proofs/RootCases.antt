@@ -13,12 +13,13 @@ use lib.Ieee.Fits.{two}
 use lib.Ieee.Exact.{HasValue}
 use lib.Ieee.Positive.{positive, value-pos}
 use borrow.Author.Tests.{le-ltb}
+use Rattle.float_laws.proofs.Interval.{nil}
 use Rattle.arithmetic.specs.RootSteps.{RootOf}
 use Rattle.arithmetic.specs.Root.{rootUnits, rootOf}
 use Rattle.arithmetic.specs.RootSteps.{RootsTo}
 use Rattle.arithmetic.proofs.RootRounded.{root-pattern, half-small}
 use Rattle.arithmetic.proofs.Fields.{fields-value, fields-low}
-use Rattle.arithmetic.proofs.RootTests.{nought, positive-is, sign-plus, root-of-value}
+use Rattle.arithmetic.proofs.RootTests.{positive-is, sign-plus, root-of-value}
 
 -- ---- the places from the leading digit of m up to prec, by the zeros of a word of v digits that stand before it
 
@@ -26,9 +27,11 @@ module _ (p v m j z : ℕ) (P : 0 < p) (Q : p ≤ v) (e : z + suc j ≡ v) (lo :
   place-le : suc j ≤ p
   place-le = lt-of-not-le (λ (g : p ≤ j). not-le-of-lt h (le-trans (pow-mono g) lo))
 
+  -- v - p zeros stand before any number of p digits
   pub enough : v - p ≤ z
   enough = let l = place-le in omega arith
 
+  -- and the others move m's leading digit to its place
   pub placed : (z - (v - p) ≤ p - 1) × (2 ^ (p - 1) ≤ m * 2 ^ (z - (v - p))) × (m * 2 ^ (z - (v - p)) < 2 ^ p)
   placed =
       let l = place-le in
@@ -48,6 +51,7 @@ digit-power zero h = refl
 digit-power (suc zero) h = refl
 digit-power (suc (suc o)) h = absurd (omega arith)
 
+-- one digit more, where the exponent is odd
 pub doubled : (p M o : ℕ) → o < 2 → M < 2 ^ p → (M ≤ M * (1 + o)) × (M * (1 + o) < 2 ^ suc p)
 doubled p M zero h l = let s = pow-suc 2 p in (omega arith, omega arith)
 doubled p M (suc zero) h l = let s = pow-suc 2 p in (omega arith, omega arith)
@@ -79,6 +83,7 @@ in-fours f m j z h =
 pattern-small : (t h H N : ℕ) → t + 3 < N → 0 < H → h ≤ H * 2 → (t + 1) * H + h < N * H
 pattern-small t h H N a b c = let k : (t + 4) * H ≤ N * H = mul-le-mul-right H (omega arith) in omega arith
 
+-- the pattern that `pattern` makes, from the leading digit in its place and prec + 1 digits of the root
 pub pattern-is : (f : Format) (m j z w r q : ℕ) → j < 2 * emax f → z < prec f → w ≡ 2 ^ z → hid f ≤ m * 2 ^ z → m * 2 ^ z < 2 ^ prec f
     → RootOf (m * w * (1 + above f j z % 2) * 2 ^ suc (prec f)) r q
     → RootsTo f m j ((above f j z / 2 + 1) * hid f + (r + 1) / 2)
@@ -103,24 +108,28 @@ pattern-is f m j z w r q J Z E lo hi R =
 
 -- ---- the cases of a value
 
+-- a pattern below the infinity's is no NaN's
 pub no-nan-bits : (f : Format) (r : ℕ) → r < ones f * hid f → T (not (nanBits f r))
 no-nan-bits f r h = let m : r % top f ≤ ones f * hid f = le-trans (mod-le r (top f)) (omega arith) in rw (nanBits-above, le-ltb _ _ m) tt
 
-module _ (f : Format) (x : Float) (fit : T (fits f x)) (notbelow : lt x nought ≡ false) (notzero : eq x nought ≡ false) where
+module _ (f : Format) (x : Float) (fit : T (fits f x)) (notbelow : lt x nil ≡ false) (notzero : eq x nil ≡ false) where
   low-value : toBits f x % top f / hid f ≡ 0 → T (positive x) × HasValue x false (toBits f x % hid f * 2 ^ 0) (2 ^ low f)
   low-value e =
       let v = fields-low f x fit e in
       let p = positive-is x _ _ _ v notbelow notzero in
       (p, sign-plus x _ _ _ p v)
 
+  -- a subnormal that is not 0 has a fraction
   pub low-pos : toBits f x % top f / hid f ≡ 0 → 0 < toBits f x % hid f
   low-pos e =
       let v = low-value e in
       subst (λ (z : ℕ). 0 < z) (mul-one (toBits f x % hid f)) (value-pos x _ (2 ^ low f) (v .0) (pow-pos (low f)) (v .1))
 
+  -- the root of a subnormal
   pub low-root : (r : ℕ) → toBits f x % top f / hid f ≡ 0 → RootsTo f (toBits f x % hid f) 0 r → ofBits f r ≡ rootOf f x
   low-root r e h = let v = low-value e in h .is ∙ sym (root-of-value f x _ (v .0) (v .1))
 
+  -- the root of a normal value
   pub high-root : (r : ℕ) → (toBits f x % top f / hid f ≡ 0 → ⊥) → (toBits f x % top f / hid f ≡ ones f → ⊥)
       → RootsTo f (toBits f x % hid f + hid f) (toBits f x % top f / hid f - 1) r → ofBits f r ≡ rootOf f x
   high-root r n k h = go (toBits f x % top f / hid f) refl

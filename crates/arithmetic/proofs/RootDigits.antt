@@ -11,6 +11,7 @@ use Rattle.arithmetic.specs.RootSteps.{RootOf}
 
 -- ---- the digits of m * 2 ^ 54
 
+-- a place of m itself
 pub two-early : (m i : ℕ) {u : ℕ} → i < 27 → u ≡ 2 ^ (52 - 2 * i) → m / u % 4 ≡ m * 2 ^ 54 / 2 ^ (2 * (53 - i)) % 4
 two-early m i h e =
     let g = 52 - 2 * i in
@@ -18,6 +19,7 @@ two-early m i h e =
     let c : m * 2 ^ (2 * (53 - i)) ≡ m * 2 ^ 54 * 2 ^ g = rw s (ap (λ (z : ℕ). m * z) (pow-add 2 54 g) ∙ sym (mul-assoc m (2 ^ 54) (2 ^ g))) in
     rw e (ap (λ (z : ℕ). z % 4) (div-same m (2 ^ g) (m * 2 ^ 54) (2 ^ (2 * (53 - i))) (pow-pos g) (pow-pos (2 * (53 - i))) c))
 
+-- one of the zeros below m
 pub two-late : (m i : ℕ) → 27 ≤ i → i < 54 → 0 ≡ m * 2 ^ 54 / 2 ^ (2 * (53 - i)) % 4
 two-late m i h l =
     let d = 2 * (53 - i) in
@@ -31,15 +33,18 @@ two-small n = omega arith
 
 -- ---- i of p places of n have come down
 
+-- before the first place
 pub root-none : (n p : ℕ) → n < 2 ^ (2 * p) → RootOf (n / 2 ^ (2 * p)) 0 0
 root-none n p h = record { square = sym (div-eq-of-lt h); below = omega arith }
 
+-- after the last
 pub root-all : (n r q : ℕ) → RootOf (n / 2 ^ (2 * 0)) r q → RootOf n r q
 root-all n r q h = subst (λ (z : ℕ). RootOf z r q) (div-one n) h
 
 quarter : (w : ℕ) → w / 4 * 4 + w % 4 ≡ w
 quarter w = div-add-mod' w 4
 
+-- one place more, by what `digit` promises
 pub root-next : (n k r q : ℕ) {r' q' two : ℕ} → RootOf (n / 2 ^ (2 * suc k)) r q → two ≡ n / 2 ^ (2 * k) % 4 → RootOf ((r * r + q) * 4 + two) r' q'
     → RootOf (n / 2 ^ (2 * k)) r' q'
 root-next n k r q {r'} {q'} {two} h e g =
@@ -49,6 +54,7 @@ root-next n k r q {r'} {q'} {two} h e g =
     let b : (r * r + q) * 4 + two ≡ w = ap (λ (z : ℕ). z * 4 + two) (h .square ∙ a) ∙ ap (λ (z : ℕ). w / 4 * 4 + z) e ∙ quarter w in
     subst (λ (z : ℕ). RootOf z r' q') b g
 
+-- one digit more
 pub grows : (i r r' : ℕ) → r < 2 ^ i → r' ≤ 2 * r + 1 → r' < 2 ^ (i + 1)
 grows i r r' h k = rw (add-one, pow-suc) (omega arith)
 

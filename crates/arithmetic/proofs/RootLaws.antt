@@ -22,7 +22,7 @@ use Rattle.float_laws.proofs.Exact.{is-le}
 use Rattle.float_laws.proofs.Interval.{In, le→parts}
 use Rattle.arithmetic.specs.Root.{wholeRoot, rootUnits, rootOf}
 use Rattle.arithmetic.proofs.RootRounded.{WholePart, sq-lt, whole-is}
-use Rattle.arithmetic.proofs.RootTests.{root-fits}
+pub use Rattle.arithmetic.proofs.RootTests.{root-fits}
 use Rattle.arithmetic.proofs.RootNearest.{root-positive, root-squared, SquareNear}
 
 -- ---- the fraction that is rounded
@@ -134,6 +134,7 @@ root-real f x r z =
       fits = root-fits f x (r .fits);
     }
 
+-- no root is below 0
 pub root-not-negative : (f : Format) (x : Float) → Real f x → mi f x ≡ 0 → Real f (rootOf f x) × (mi f (rootOf f x) ≡ 0)
 root-not-negative f x r z =
     let t = root-real f x r z in

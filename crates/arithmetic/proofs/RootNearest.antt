@@ -9,9 +9,10 @@ use native.Mathlib.Nat.{le-refl, le-trans, le-of-eq, lt-of-lt-of-le, lt-of-le-of
 use native.Mathlib.Omega.{arith}
 use lib.IntN.{ℤ, pos, negsuc}
 use lib.Dec.{T, leb, ltb, eqb, leb→le, ltb→lt}
-use lib.Pow.{pow-add, pow-pos, pow-mono, pow-lt}
+use lib.Pow.{pow-add, pow-pos, pow-mono}
 use lib.Ieee.{Float, nan, inf, fin, Format, prec, emax, low, up, down, size, fits, hid, ofBits}
 use lib.Ieee.Bits.{ofBits-toBits}
+use Rattle.float_laws.proofs.Exact.{exponent}
 use Rattle.float_laws.proofs.Pattern.{bits-of}
 use lib.Ieee.Digits.{size-lt, size-le, size-reaches}
 use lib.Ieee.Fits.{and-l, and-r, two, down-pos}
@@ -27,9 +28,6 @@ use Rattle.arithmetic.proofs.RootTests.{root-of-value, root-fits}
 use Rattle.arithmetic.proofs.RootCases.{wide}
 
 -- ---- a value of the format is M * 2 ^ j smallest values, M of its digits
-
-pow-le-back : (a l : ℕ) → 2 ^ a ≤ 2 ^ l → a ≤ l
-pow-le-back a l h = le-of-suc-le-suc (lt-of-not-le (λ (g : suc l ≤ a). lt-irrefl (2 ^ l) (lt-of-lt-of-le (pow-lt g) h)))
 
 record Digits (f : Format) (c : ℕ) : Type 0 where
   M : ℕ
@@ -73,7 +71,7 @@ digits-of f (fin u (suc m) (pos k)) s c t h =
     }
 digits-of f (fin u (suc m) (negsuc k)) s c t h =
     let d = few-digits f u m (negsuc k) t in
-    let l : suc k ≤ low f = pow-le-back (suc k) (low f) (d .1) in
+    let l : suc k ≤ low f = exponent (suc k) (low f) (d .1) in
     let g = low f - suc k in
     let v : low f ≡ g + suc k = back (low f) (suc k) l in
     let i : c * 2 ^ suc k ≡ suc m * 2 ^ g * 2 ^ suc k =

@@ -5,7 +5,7 @@ use mathlib.Core.Path.{_≡_, refl, sym, ap, _∙_, subst}
 use mathlib.Core.Logic.{_⊎_, inl, inr}
 use mathlib.Core.Bool.{Bool, true, false, cond}
 use Prim.Native.Nat.{ℕ, zero, suc, _+_, _-_, _*_, _/_, _%_, _^_, _≤_, _<_}
-use native.Mathlib.Nat.{le-trans, le-of-eq, lt-of-lt-of-le, lt-of-le-of-lt, lt-of-not-le, not-le-of-lt, lt-irrefl, le-antisymm, le-of-suc-le-suc, mul-le-mul, mul-le-mul-right, mul-pos, mul-lt-mul-of-pos-right, mul-assoc, mul-mod-left, pow-suc, zero-add, zero-mul, div-eq-of-lt-le, div-add-mod', eq-of-mul-eq-mul-right}
+use native.Mathlib.Nat.{le-trans, le-of-eq, lt-of-lt-of-le, lt-of-le-of-lt, lt-of-not-le, not-le-of-lt, le-of-suc-le-suc, mul-le-mul, mul-le-mul-right, mul-pos, mul-lt-mul-of-pos-right, mul-assoc, mul-mod-left, pow-suc, zero-add, zero-mul, div-eq-of-lt-le, div-add-mod', eq-of-mul-eq-mul-right}
 use native.Mathlib.Omega.{arith}
 use native.Mathlib.Numerals.{add-one}
 use lib.Dec.{leb, ltb, eqb}
@@ -49,6 +49,7 @@ grown-is n s h = go (leb (suc (2 * s) * suc (2 * s)) n) refl
     go true e = record { at-most = leb-true _ _ e; above = grown-above n s (h .above) }
     go false e = record { at-most = grown-at-most n s (h .at-most); above = leb-false _ _ e }
 
+-- `wholeRoot` is the whole part of a root
 pub whole-is : (k n : ℕ) → n < 2 ^ k → WholePart n (wholeRoot k n)
 unfolding wholeRoot
 whole-is zero n h = record { at-most = omega arith; above = omega arith }
@@ -63,6 +64,7 @@ div-mod-is n u w r e l =
     let c : w * u + n % u ≡ n = rw a at b in
     (a, omega arith)
 
+-- a quotient rounded to nearest, by two strict bounds: no tie
 pub closest-is : (n u q : ℕ) → 2 * n < (2 * q + 1) * u → 2 * q * u < 2 * n + u → closest n u ≡ q
 closest-is n u q h l = go (leb (q * u) n) refl q refl
   where
@@ -83,6 +85,7 @@ closest-is n u q h l = go (leb (q * u) n) refl q refl
         let y : u < n % u * 2 = rw (d .1) (omega arith) in
         sym (rounds-up n u (omega arith) (λ j. omega arith)) ∙ ap (λ (z : ℕ). z + 1) (d .0) ∙ add-one w ∙ i
 
+-- the pattern of a rounded fraction, by what is dropped and kept
 pub rounds-to : (f : Format) (num den q k : ℕ) → dropped f (num * 2 ^ low f) den ≡ k → closest (num * 2 ^ low f) (den * 2 ^ k) ≡ q → q * 2 ^ k < 2 ^ (low f + suc (emax f))
     → ofBits f (k * hid f + q) ≡ round f false num den
 rounds-to f num den q k e c fine =
@@ -301,6 +304,7 @@ module _ (f : Format) (m t a r q : ℕ) (root : RootOf (m * 2 ^ suc (prec f)) r 
   unfolding num R N rootUnits sticky
   root-pattern = rounds-to f num (2 * 2 ^ low f) ((r + 1) / 2) (suc t) gone kept inside
 
+  -- and its value in smallest values
   pub root-value : HasValue (rootUnits f a) false ((r + 1) / 2 * 2 ^ suc t) (2 ^ low f)
   unfolding num R N rootUnits sticky
   root-value =
@@ -310,6 +314,7 @@ module _ (f : Format) (m t a r q : ℕ) (root : RootOf (m * 2 ^ suc (prec f)) r 
       round-is f false num d ∙ ap (λ (z : ℕ). units f false (closest x (d * 2 ^ z)) z) gone ∙ ap (λ (z : ℕ). units f false z (suc t)) kept in
       subst (λ (v : Float). HasValue v false ((r + 1) / 2 * 2 ^ suc t) (2 ^ low f)) (sym i) (units-val f false ((r + 1) / 2) (suc t) inside)
 
+  -- the exact root lies from r * W on, above it where r is odd, and below (r + 1) * W
   pub square-ge : r * W * (r * W) ≤ a * 2 ^ low f
   unfolding N
   square-ge = le-trans (le-of-eq (sq-scale r W)) (le-trans (mul-le-mul-right (W * W) (F .at-most)) (le-of-eq (sym at)))

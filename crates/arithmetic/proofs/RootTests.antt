@@ -6,21 +6,16 @@ use native.Mathlib.Nat.{mul-div-cancel, zero-lt-suc, mul-pos}
 use native.Mathlib.Omega.{arith}
 use lib.Dec.{T, lt→ltb}
 use lib.Ieee.{Float, nan, inf, fin, Format, low, up, down, fits, lt, eq, ne}
-use lib.IntN.{ℤ, pos}
+use lib.IntN.{ℤ}
 use lib.Ieee.Fits.{down-pos, up-pos, round-fits, nan-fits, inf-fits}
 use lib.Ieee.Exact.{HasValue}
 use lib.Ieee.Scale.{finite}
 use lib.Ieee.Positive.{positive}
 use lib.Ieee.Compare.{differs-from-itself}
 use borrow.Author.Tests.{eq-eqb, ne-eqb, le-ltb, lt-ltb}
+use Rattle.float_laws.proofs.Nearest.{apart}
+use Rattle.float_laws.proofs.Interval.{nil}
 use Rattle.arithmetic.specs.Root.{rootUnits, rootOf}
-
-apart : true ≡ false → ⊥
-apart e = let z : _≡_ {A = ℕ} 0 1 = cc in omega arith
-
--- +0
-abbrev pub nought : Float
-nought = fin false 0 (pos 0)
 
 none : (u d : ℕ) → 0 * u * 1 ≡ 0 * 1 * d
 none u d = omega arith
@@ -28,34 +23,35 @@ none u d = omega arith
 some : (m : ℕ) (e : ℤ) → 0 < suc m * up e * 1
 some m e = let h : 0 < suc m * up e = mul-pos (zero-lt-suc m) (up-pos e) in omega arith
 
-plus-lt : (m : ℕ) (e : ℤ) → lt (fin false m e) nought ≡ false
+plus-lt : (m : ℕ) (e : ℤ) → lt (fin false m e) nil ≡ false
 unfolding lt
 plus-lt m e = le-ltb (m * up e * 1) (0 * 1 * down e) (omega arith)
 
-zero-lt : (e : ℤ) → lt (fin true 0 e) nought ≡ false
+zero-lt : (e : ℤ) → lt (fin true 0 e) nil ≡ false
 unfolding lt
 zero-lt e = le-ltb 0 (0 * up e * 1 + 0 * 1 * down e) (omega arith)
 
-minus-lt : (m : ℕ) (e : ℤ) → lt (fin true (suc m) e) nought ≡ true
+minus-lt : (m : ℕ) (e : ℤ) → lt (fin true (suc m) e) nil ≡ true
 unfolding lt
 minus-lt m e = lt-ltb 0 (suc m * up e * 1 + 0 * 1 * down e) (let h = some m e in omega arith)
 
-zero-eq : (s : Bool) (e : ℤ) → eq (fin s 0 e) nought ≡ true
+zero-eq : (s : Bool) (e : ℤ) → eq (fin s 0 e) nil ≡ true
 unfolding eq
 zero-eq true e = rw (eq-eqb _ _ (none (up e) (down e)), eq-eqb (0 * up e * 1) 0 (omega arith))
 zero-eq false e = rw (eq-eqb _ _ (none (up e) (down e)))
 
-more-eq : (s : Bool) (m : ℕ) (e : ℤ) → eq (fin s (suc m) e) nought ≡ false
+more-eq : (s : Bool) (m : ℕ) (e : ℤ) → eq (fin s (suc m) e) nil ≡ false
 unfolding eq
 more-eq s m e = rw (ne-eqb (suc m * up e * 1) (0 * 1 * down e) (λ (h : suc m * up e * 1 ≡ 0 * 1 * down e). let k = some m e in omega arith))
 
 -- ---- the values with a root of their own
 
+-- the answers that `root` gives with no digits worked out
 pub root-nan : (f : Format) (x : Float) → ne x x ≡ true → x ≡ rootOf f x
 unfolding rootOf
 root-nan f x h = rw (differs-from-itself x (subst T (sym h) tt))
 
-pub root-below : (f : Format) (x : Float) → lt x nought ≡ true → nan ≡ rootOf f x
+pub root-below : (f : Format) (x : Float) → lt x nil ≡ true → nan ≡ rootOf f x
 unfolding rootOf lt
 root-below f nan h = absurd (apart (sym h))
 root-below f (inf true) h = refl
@@ -64,14 +60,14 @@ root-below f (fin true zero e) h = absurd (apart (sym h ∙ zero-lt e))
 root-below f (fin true (suc m) e) h = refl
 root-below f (fin false m e) h = absurd (apart (sym h ∙ plus-lt m e))
 
-pub root-zero : (f : Format) (x : Float) → eq x nought ≡ true → x ≡ rootOf f x
+pub root-zero : (f : Format) (x : Float) → eq x nil ≡ true → x ≡ rootOf f x
 unfolding rootOf eq
 root-zero f nan h = refl
 root-zero f (inf s) h = absurd (apart (sym h))
 root-zero f (fin s zero e) h = refl
 root-zero f (fin s (suc m) e) h = absurd (apart (sym h ∙ more-eq s m e))
 
-pub root-infinite : (f : Format) (x : Float) → T (not (finite x)) → ne x x ≡ false → lt x nought ≡ false → x ≡ rootOf f x
+pub root-infinite : (f : Format) (x : Float) → T (not (finite x)) → ne x x ≡ false → lt x nil ≡ false → x ≡ rootOf f x
 unfolding rootOf lt ne
 root-infinite f nan n h l = refl
 root-infinite f (inf true) n h l = absurd (apart l)
@@ -88,7 +84,8 @@ root-of-value f (fin false (suc m) e) a p h = ap (rootUnits f) (ap (λ (z : ℕ)
 
 -- ---- finite, not below 0 and not 0
 
-pub positive-is : (x : Float) (s : Bool) (a c : ℕ) → HasValue x s a c → lt x nought ≡ false → eq x nought ≡ false → T (positive x)
+-- what passed the tests is above 0
+pub positive-is : (x : Float) (s : Bool) (a c : ℕ) → HasValue x s a c → lt x nil ≡ false → eq x nil ≡ false → T (positive x)
 positive-is nan s a c h l n = absurd h
 positive-is (inf t) s a c h l n = absurd h
 positive-is (fin true zero e) s a c h l n = absurd (apart (sym (zero-eq true e) ∙ n))

@@ -1,8 +1,8 @@
 // The stand-ins of document 01 (root, narrowing) in f64 and integer work alone, so that every answer is the same bits on every machine.
 mod bits;
-mod square_root;
 mod narrowing;
+mod square_root;
 
-pub use square_root::root;
-pub use square_root::hypot;
 pub use narrowing::narrow;
+pub use square_root::hypot;
+pub use square_root::root;
