@@ -42,7 +42,6 @@ rootOf f (fin s (suc m) e) = cond s nan (rootUnits f (suc m * up e * 2 ^ low f /
 
 -- each operation rounded
 unfoldable pub hypotOf : Float → Float → Float
-unfolding rootOf add mul
 hypotOf a b = rootOf binary64 (add binary64 (mul binary64 a a) (mul binary64 b b))
 
 -- ---- what "nearest" says
