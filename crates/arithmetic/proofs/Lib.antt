@@ -1,2 +1,10 @@
+pub mod Fields
+pub mod RootDigits
+pub mod RootRounded
+pub mod RootTests
+pub mod RootCases
+pub mod RootNearest
+pub mod RootLaws
 pub mod NarrowBits
 pub mod NarrowCases
+pub mod NarrowLaws

@@ -1,34 +1,24 @@
--- Narrowing an f64, by the digits that its pattern has.
-use mathlib.Core.Path.{_≡_, refl, sym, ap, _∙_, subst}
+-- The f32 pattern that an f64 of m * 2 ^ x smallest values narrows to. `gone` digits of m are dropped and k is the f32's own exponent, x + 149 + gone = 1074 + k: the fraction rounded for f32 and m / 2 ^ gone are then the same quotient (`cross`),
+-- so `closest m (2 ^ gone)` is what is kept, and it is added to the exponent's field, a carry too, up to the infinity's (`pattern`).
+use mathlib.Core.Path.{_≡_, refl, sym, ap, _∙_}
 use mathlib.Core.Logic.{_⊎_, inl, inr, ⊎-elim}
 use mathlib.Core.Bool.{Bool, true, false, cond}
-use Prim.Native.Nat.{ℕ, zero, suc, _+_, _-_, _*_, _/_, _%_, _^_, _≤_, _<_, compare}
-use native.Mathlib.Nat.{mul-assoc, le-trans, le-of-eq, lt-of-lt-of-le, lt-of-le-of-lt, mul-lt-mul-of-pos-right, mul-le-mul-right, le-div-iff-mul-le, div-lt-iff-lt-mul, div-eq-of-lt, mod-eq-of-lt, mul-one, mul-le-mul-left, le-antisymm, add-assoc, le-of-suc-le-suc, lt-of-not-le, lt-irrefl}
+use Prim.Native.Nat.{ℕ, suc, _+_, _*_, _/_, _%_, _^_, _≤_, _<_, compare}
+use native.Mathlib.Nat.{mul-assoc, le-trans, le-of-eq, lt-of-lt-of-le, lt-of-le-of-lt, mul-lt-mul-of-pos-right, mul-le-mul-right, le-div-iff-mul-le, div-lt-iff-lt-mul, div-eq-of-lt, mod-eq-of-lt, mul-le-mul-left, le-antisymm, add-assoc, le-of-suc-le-suc, lt-of-not-le, lt-irrefl}
 use native.Mathlib.Omega.{arith}
-use borrow.Author.Tests.{ne-eqb, le-ltb, lt-ltb, ltb-true, ltb-false}
-use lib.Dec.{T, ltb, eqb}
-use lib.Pow.{pow-add, pow-pos, pow-mono, pow-lt}
-use lib.Ieee.{Float, nan, inf, fin, binary32, binary64, prec, emax, low, up, down, size, nearest, odd, units, round, hid, ones, top, ofFields, toBits, ofBits, fits}
-use lib.Ieee.Digits.{size-le}
-use lib.Ieee.Fits.{odd-fits, down-pos, round-is, round-fits, nearest-le}
+use borrow.Author.Tests.{le-ltb, lt-ltb, ltb-true, ltb-false}
+use lib.Dec.{T, ltb}
+use lib.Pow.{pow-add, pow-pos, pow-mono}
+use lib.Ieee.{Float, nan, inf, fin, binary32, up, down, units, round, top, ofBits, fits}
+use lib.Ieee.Fits.{odd-fits, down-pos, round-is, nearest-le}
 use lib.Ieee.Nearest.{closest, closest-same, nearest-ge}
-use lib.Ieee.Exact.{HasValue, odd-sign}
+use lib.Ieee.Exact.{HasValue}
 use lib.Ieee.Scale.{round-same}
 use lib.Ieee.Bits.{ofBits-toBits}
 use Rattle.arithmetic.specs.Narrow.{narrowed}
-use Rattle.float_laws.proofs.Pattern.{dropped, size-is, units-bits}
+use Rattle.float_laws.proofs.Exact.{exponent}
+use Rattle.float_laws.proofs.Pattern.{drops, units-bits}
 use Rattle.float_laws.proofs.Nearest.{rounds-down}
-
--- the value of the fields
-pub value-normal : (s : Bool) (x t : ℕ) → x < 2046 → HasValue (ofFields binary64 s (suc x) t) s ((2 ^ 52 + t) * 2 ^ x) (2 ^ 1074)
-unfolding ofFields
-value-normal s x t h =
-    let ne : suc x ≡ 2047 → ⊥ = λ e. omega arith in
-    rw (ne-eqb (suc x) 2047 ne) (odd-sign 53 s (2 ^ 52 + t) x 1074)
-
-pub value-small : (s : Bool) (t : ℕ) → HasValue (ofFields binary64 s 0 t) s (t * 2 ^ 0) (2 ^ 1074)
-unfolding ofFields
-value-small s t = odd-sign 53 s t 0 1074
 
 narrow-round : (x : Float) (s : Bool) (a : ℕ) → HasValue x s a (2 ^ 1074) → narrowed x ≡ round binary32 s a (2 ^ 1074)
 unfolding narrowed
@@ -36,19 +26,6 @@ narrow-round nan s a h = absurd h
 narrow-round (inf t) s a h = absurd h
 narrow-round (fin t m e) s a h =
     ap (λ (b : Bool). round binary32 b (m * up e) (down e)) (h .0) ∙ round-same binary32 s (m * up e) (down e) a (2 ^ 1074) (down-pos e) (pow-pos 1074) (h .1)
-
--- how many digits are dropped, by two bounds
-drops : (n den k : ℕ) → 0 < den → n < 2 ^ (24 + k) * den → (k ≡ 0) ⊎ (2 ^ (23 + k) * den ≤ n) → dropped binary32 n den ≡ k
-drops n den k D hi lo =
-    let b : n / den < 2 ^ (24 + k) = div-lt-iff-lt-mul D .1 hi in
-    ⊎-elim
-    (λ (z : k ≡ 0). let c : size (n / den) ≤ 24 + k = size-le (n / den) (24 + k) b in omega arith)
-    (λ (l : 2 ^ (23 + k) * den ≤ n).
-    let a : 2 ^ (23 + k) ≤ n / den = le-div-iff-mul-le D .1 l in
-    let e : 24 + k ≡ suc (23 + k) = omega arith in
-    let c = size-is (n / den) (23 + k) a (rw e at b) in
-    omega arith)
-    lo
 
 -- M * 2 ^ x smallest values of an f64, at an f32: `gone` digits of M are dropped, at k
 module _ (m x gone k : ℕ) (e : x + 149 + gone ≡ 1074 + k) (small : m < 2 ^ 53) (w : 29 ≤ gone) (full : (k ≡ 0) ⊎ ((gone ≡ 29) × (2 ^ 52 ≤ m))) where
@@ -80,15 +57,13 @@ module _ (m x gone k : ℕ) (e : x + 149 + gone ≡ 1074 + k) (small : m < 2 ^ 5
   kept-is : closest n (2 ^ 1074 * 2 ^ k) ≡ closest m (2 ^ gone)
   kept-is = closest-same n (2 ^ 1074 * 2 ^ k) m (2 ^ gone) (rw (← pow-add 2 1074 k) (pow-pos (1074 + k))) (pow-pos gone) cross
 
+  -- what `round` makes of the value: m without `gone` digits, at the exponent k
   pub round-units : (s : Bool) → round binary32 s (m * 2 ^ x) (2 ^ 1074) ≡ units binary32 s (closest m (2 ^ gone)) k
   unfolding n
   round-units s =
       round-is binary32 s (m * 2 ^ x) (2 ^ 1074)
-      ∙ ap (λ (z : ℕ). units binary32 s (closest n (2 ^ 1074 * 2 ^ z)) z) (drops n (2 ^ 1074) k (pow-pos 1074) n-lt n-ge)
+      ∙ ap (λ (z : ℕ). units binary32 s (closest n (2 ^ 1074 * 2 ^ z)) z) (drops binary32 n (2 ^ 1074) k (pow-pos 1074) n-lt n-ge)
       ∙ ap (λ (z : ℕ). units binary32 s z k) kept-is
-
-pow-le-back : (a l : ℕ) → 2 ^ a ≤ 2 ^ l → a ≤ l
-pow-le-back a l h = le-of-suc-le-suc (lt-of-not-le (λ (g : suc l ≤ a). lt-irrefl (2 ^ l) (lt-of-lt-of-le (pow-lt g) h)))
 
 -- the pattern of what is kept, a carry into the infinity's too
 units-fit : (s : Bool) (q k : ℕ) → q ≤ 2 ^ 24 → q * 2 ^ k < 2 ^ 277 → T (fits binary32 (units binary32 s q k))
@@ -99,6 +74,7 @@ units-over : (s : Bool) (q k : ℕ) → 2 ^ 277 ≤ q * 2 ^ k → units binary32
 unfolding units
 units-over s q k l = rw (le-ltb (q * 2 ^ k) (2 ^ 277) l)
 
+-- the infinity's pattern
 pub infinite : (s : Bool) → ofBits binary32 (cond s (top binary32) 0 + 0x7f80_0000) ≡ inf s
 unfolding ofBits
 infinite true = refl
@@ -110,7 +86,7 @@ infinite' true = refl
 infinite' false = refl
 
 deep : (j : ℕ) → 2 ^ 277 ≤ 2 ^ (24 + j) → 253 ≤ j
-deep j u = let v : 277 ≤ 24 + j = pow-le-back 277 (24 + j) u in omega arith
+deep j u = let v : 277 ≤ 24 + j = exponent 277 (24 + j) u in omega arith
 
 split : (a b : ℕ) → (a < b) ⊎ (b ≤ a)
 split a b = go (ltb a b) refl
@@ -136,6 +112,7 @@ pattern s q k h w r =
 
 -- ---- the answers of the code
 
+-- 24 digits are kept, or one more by a carry
 pub closest-le : (m gone : ℕ) → m < 2 ^ 53 → 29 ≤ gone → closest m (2 ^ gone) ≤ 2 ^ 24
 closest-le m gone h w =
     let u = 2 ^ gone in
@@ -162,6 +139,7 @@ low-bits s v m x gone h e b w =
     let t : cond s (top binary32) 0 + 0 * 2 ^ 23 + closest m (2 ^ gone) ≡ cond s (top binary32) 0 + closest m (2 ^ gone) = omega arith in
     (rw t at p) ∙ sym (narrow-round v s (m * 2 ^ x) h ∙ round-units m x gone 0 z b w (inl refl) s)
 
+-- so small that nothing is kept
 pub none-bits : (s : Bool) (v : Float) (m x gone : ℕ) → HasValue v s (m * 2 ^ x) (2 ^ 1074) → x + 149 + gone ≡ 1074 → m < 2 ^ 53 → 54 ≤ gone
     → ofBits binary32 (cond s (top binary32) 0 + 0) ≡ narrowed v
 none-bits s v m x gone h e b w =
@@ -176,6 +154,7 @@ high-bits s v m k h b c r =
     (rw (add-assoc (cond s (top binary32) 0) (k * 2 ^ 23) (closest m (2 ^ 29))) at p)
     ∙ sym (narrow-round v s (m * 2 ^ (896 + k)) h ∙ round-units m (896 + k) 29 k z b (omega arith) (inr (refl, c)) s)
 
+-- too large: the infinity
 pub over-bits : (s : Bool) (v : Float) (m k : ℕ) → HasValue v s (m * 2 ^ (896 + k)) (2 ^ 1074) → m < 2 ^ 53 → 2 ^ 52 ≤ m → 254 ≤ k
     → ofBits binary32 (cond s (top binary32) 0 + 0x7f80_0000) ≡ narrowed v
 over-bits s v m k h b c r =

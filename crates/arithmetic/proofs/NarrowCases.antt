@@ -1,21 +1,26 @@
--- The answers of `magnitude`, by the exponent's field.
+-- The answers of `magnitude`, one law for each range of the exponent's field: `case-none` to 872 (under half the smallest f32), `case-low` to 896 (subnormal), `case-high` to 1150, `case-top` beyond. Each gives the record `NarrowsTo`,
+-- which holds for either sign; then the sign's bit and the fields of a value's own pattern.
 use mathlib.Core.Path.{_≡_, refl, sym, ap, _∙_, subst}
 use mathlib.Core.Bool.{Bool, true, false, cond, not}
 use Prim.Native.Nat.{ℕ, zero, suc, _+_, _-_, _*_, _/_, _%_, _^_, _≤_, _<_}
-use native.Mathlib.Nat.{le-trans, add-comm}
+use native.Mathlib.Nat.{le-antisymm, le-of-suc-le-suc, le-trans, add-comm}
 use native.Mathlib.Omega.{arith}
-use lib.Ieee.{Float, nan, inf, fin, binary32, binary64, ofFields, ofBits, toBits, nanBits, isNan, ne, fits, top}
+use lib.Ieee.{Float, nan, inf, binary32, binary64, ofFields, ofBits, toBits, nanBits, isNan, ne, fits}
 use lib.Ieee.Compare.{differs-from-itself}
 use lib.Ieee.Bits.{ofBits-toBits, toBits-lt, nanBits-is, nanBits-above, is-false}
-use lib.Dec.{T, leb, eqb}
-use borrow.Author.Tests.{leb-true, leb-false, eq-eqb, eqb-true, not-false, le-ltb}
+use lib.Dec.{T, leb, ltb, eqb}
+use borrow.Author.Tests.{leb-true, leb-false, eq-eqb, eqb-true, not-false, le-ltb, ltb-true, ltb-false}
 use lib.Ieee.Nearest.{closest}
 use lib.Ieee.Exact.{HasValue}
 use Rattle.arithmetic.specs.Narrow.{narrowed, NarrowsTo}
-use Rattle.arithmetic.proofs.NarrowBits.{value-normal, value-small, low-bits, none-bits, high-bits, over-bits, infinite, closest-le}
+use Rattle.arithmetic.proofs.Fields.{value-fields, value-low, of-fields}
+use Rattle.arithmetic.proofs.NarrowBits.{low-bits, none-bits, high-bits, over-bits, infinite, closest-le}
+
+value-normal : (s : Bool) (x t : ℕ) → x < 2046 → HasValue (ofFields binary64 s (suc x) t) s ((2 ^ 52 + t) * 2 ^ x) (2 ^ 1074)
+value-normal s x t h = value-fields binary64 s x t (λ (e : suc x ≡ 2047). omega arith)
 
 pub case-none : (field frac : ℕ) → field < 873 → frac < 2 ^ 52 → NarrowsTo field frac 0
-case-none zero frac h b = record { small = omega arith; is = λ s. none-bits s _ frac 0 925 (value-small s frac) (omega arith) (omega arith) (omega arith) }
+case-none zero frac h b = record { small = omega arith; is = λ s. none-bits s _ frac 0 925 (value-low binary64 s frac) (omega arith) (omega arith) (omega arith) }
 case-none (suc x) frac h b =
     record { small = omega arith; is = λ s. none-bits s _ (2 ^ 52 + frac) x (925 - x) (value-normal s x frac (omega arith)) (omega arith) (omega arith) (omega arith) }
 
@@ -45,7 +50,7 @@ case-high (suc x) frac q g h b e =
           rw f (high-bits s _ (2 ^ 52 + frac) k v (omega arith) (omega arith) (omega arith));
     }
 
-pub case-over : (field frac : ℕ) → 1150 < field → field < 2047 → frac < 2 ^ 52 → NarrowsTo field frac 0x7f80_0000
+case-over : (field frac : ℕ) → 1150 < field → field < 2047 → frac < 2 ^ 52 → NarrowsTo field frac 0x7f80_0000
 case-over zero frac g h b = absurd (omega arith)
 case-over (suc x) frac g h b =
     let k = suc x - 897 in
@@ -57,28 +62,26 @@ case-over (suc x) frac g h b =
           over-bits s _ (2 ^ 52 + frac) k v (omega arith) (omega arith) (omega arith);
     }
 
-pub case-inf : (field frac : ℕ) → field ≡ 2047 → frac ≡ 0 → NarrowsTo field frac 0x7f80_0000
+case-inf : (field frac : ℕ) → field ≡ 2047 → frac ≡ 0 → NarrowsTo field frac 0x7f80_0000
 unfolding narrowed ofFields
 case-inf field frac e f = record { small = omega arith; is = λ s. rw (e, f) (infinite s ∙ of-inf s) }
   where
     of-inf : (s : Bool) → inf s ≡ narrowed (ofFields binary64 s 2047 0)
     of-inf s = refl
 
--- ---- the sign, and the two fields of a value's own pattern
+-- too large for an f32, or the infinity itself
+pub case-top : (field frac : ℕ) → 1150 < field → field < 2048 → frac < 2 ^ 52 → (field ≡ 2047 → frac ≡ 0) → NarrowsTo field frac 0x7f80_0000
+case-top field frac g h b z = go (ltb field 2047) refl
+  where
+    go : (t : Bool) → ltb field 2047 ≡ t → NarrowsTo field frac 0x7f80_0000
+    go true e = case-over field frac g (ltb-true field 2047 e) b
+    go false e = let i : field ≡ 2047 = le-antisymm (le-of-suc-le-suc h) (ltb-false field 2047 e) in case-inf field frac i (z i)
 
-pub no-nan : (x : Float) → ne x x ≡ false → T (not (isNan x))
-unfolding ne isNan
-no-nan nan h = subst T h tt
-no-nan (inf s) h = tt
-no-nan (fin s m e) h = tt
+-- ---- the sign, and the two fields of a value's own pattern
 
 pub nan-narrows : (x : Float) → ne x x ≡ true → nan ≡ narrowed x
 unfolding narrowed
 nan-narrows x h = rw (differs-from-itself x (subst T (sym h) tt))
-
-of-fields : (n : ℕ) → ofFields binary64 (leb (2 ^ 63) n) (n % 2 ^ 63 / 2 ^ 52) (n % 2 ^ 52) ≡ ofBits binary64 n
-unfolding ofBits
-of-fields n = refl
 
 sign-is : (b : ℕ) → b < 2 ^ 64 → b / 2 ^ 63 * 2 ^ 31 ≡ cond (leb (2 ^ 63) b) (2 ^ 31) 0
 sign-is b h = go (leb (2 ^ 63) b) refl
@@ -88,9 +91,11 @@ sign-is b h = go (leb (2 ^ 63) b) refl
     go false e = let l = leb-false (2 ^ 63) b e in omega arith
 
 module _ (x : Float) (fit : T (fits binary64 x)) (no : T (not (isNan x))) where
+  -- a pattern is a word of 64 bits
   pub bits-lt : toBits binary64 x < 2 ^ 64
   bits-lt = toBits-lt binary64 x fit
 
+  -- a field of ones has no fraction, for x is no NaN
   pub no-payload : toBits binary64 x % 2 ^ 63 / 2 ^ 52 ≡ 2047 → toBits binary64 x % 2 ^ 52 ≡ 0
   unfolding nanBits
   no-payload e =
@@ -99,11 +104,13 @@ module _ (x : Float) (fit : T (fits binary64 x)) (no : T (not (isNan x))) where
       let p : not (eqb (n % 2 ^ 52) 0) ≡ false = rw (eq-eqb _ _ e) at q in
       eqb-true (n % 2 ^ 52) 0 (not-false (eqb (n % 2 ^ 52) 0) p)
 
+  -- the sign's bit put on
   pub narrow-is : (r : ℕ) → NarrowsTo (toBits binary64 x % 2 ^ 63 / 2 ^ 52) (toBits binary64 x % 2 ^ 52) r → ofBits binary32 (toBits binary64 x / 2 ^ 63 * 2 ^ 31 + r) ≡ narrowed x
   narrow-is r h =
       let n = toBits binary64 x in
-      rw (sign-is n bits-lt) (h .is (leb (2 ^ 63) n) ∙ ap narrowed (of-fields n ∙ ofBits-toBits binary64 x fit))
+      rw (sign-is n bits-lt) (h .is (leb (2 ^ 63) n) ∙ ap narrowed (of-fields binary64 x fit))
 
+  -- and the pattern is no NaN's
   pub narrow-small : (r : ℕ) → r ≤ 0x7f80_0000 → T (not (nanBits binary32 (toBits binary64 x / 2 ^ 63 * 2 ^ 31 + r)))
   narrow-small r h =
       let n = toBits binary64 x in

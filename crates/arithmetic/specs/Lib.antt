@@ -1,2 +1,4 @@
+pub mod Root
+pub mod RootSteps
 pub mod Narrow
 pub mod Floor

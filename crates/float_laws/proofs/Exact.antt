@@ -19,7 +19,7 @@ use Rattle.float_laws.proofs.Size.{Within, add-fin}
 use Rattle.float_laws.proofs.Interval.{Over, Under, over-of, under-of}
 
 -- ---- the units of a value are m * 2 ^ j
-exponent : (k l : ℕ) → 2 ^ k ≤ 2 ^ l → k ≤ l
+pub exponent : (k l : ℕ) → 2 ^ k ≤ 2 ^ l → k ≤ l
 exponent k l h = go (leb k l) (leb→le k l) (nleb→lt k l)
   where
     go : (b : Bool) → (T b → k ≤ l) → (T (not b) → l < k) → k ≤ l

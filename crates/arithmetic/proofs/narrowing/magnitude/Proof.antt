@@ -1,57 +1,41 @@
-use Rattle.arithmetic.proofs.NarrowCases.{case-none, case-low, case-high, case-over, case-inf}
+-- Each way out is a law of NarrowCases, by the range that the exponent's field lies in.
+use Rattle.arithmetic.proofs.NarrowCases.{case-none, case-low, case-high, case-top}
 use lib.Arith.{lt-of-le-ne}
 use native.Mathlib.Nat.{le-of-suc-le-suc}
 use native.Mathlib.Omega.{arith}
 use borrow.Author.Needs.{needs}
 use Rattle.arithmetic.proofs.narrowing.magnitude.Statement.{statement}
 use Rattle.arithmetic.proofs.narrowing.magnitude.Tie as tie
-use Rattle.arithmetic.proofs.narrowing.magnitude.Reads as reads
-use Rattle.arithmetic.proofs.narrowing.magnitude.Lts as lts
-use Rattle.arithmetic.proofs.narrowing.nearest_of.Reads as nearest-of-reads
 
--- src/lib.rt:37:9
 returns : tie.Need-returns
 returns c = let s = c .before in case-none (s .args .field) (s .args .frac) (c .if1 .taken) (s .pre .0)
 
--- src/lib.rt:39:13
 add-m : tie.Need-add-m
 add-m c = search needs
 
--- src/lib.rt:41:30
 sub-nearest-of : tie.Need-sub-nearest-of
 sub-nearest-of c = search needs
 
--- src/lib.rt:41:9
 nearest-of-requires : tie.Need-nearest-of-requires
 nearest-of-requires c κs = search needs
 
--- src/lib.rt:41:9
 returns-2 : tie.Need-returns-2
 returns-2 c = let s = c .before .before .before in case-low (s .args .field) (s .args .frac) (c .nearest-of .result) (c .before .before .if1 .left) (c .before .if2 .taken) (s .pre .0) (c .nearest-of .ensures)
 
--- src/lib.rt:44:9
 returns-3 : tie.Need-returns-3
-returns-3 c = let s = c .before .before .before in case-inf (s .args .field) (s .args .frac) (c .if3 .taken) (s .pre .2 (c .if3 .taken))
+returns-3 c = let s = c .before .before .before in case-top (s .args .field) (s .args .frac) (c .if3 .taken) (s .pre .1) (s .pre .0) (s .pre .2)
 
--- src/lib.rt:47:9
-returns-4 : tie.Need-returns-4
-returns-4 c = let s = c .before .before .before .before in case-over (s .args .field) (s .args .frac) (c .if4 .taken) (lt-of-le-ne (le-of-suc-le-suc (s .pre .1)) (c .before .if3 .left)) (s .pre .0)
-
--- src/lib.rt:49:5
 mul-result : tie.Need-mul-result
 mul-result c = search needs
 
--- src/lib.rt:49:33
 nearest-of-requires-2 : tie.Need-nearest-of-requires-2
 nearest-of-requires-2 c κs = search needs
 
--- src/lib.rt:49:5
 add-result : tie.Need-add-result
-add-result c = let s = c .before .before .before .before .before in omega (arith, case-high (s .args .field) (s .args .frac) (c .nearest-of2 .result) (c .before .before .before .if2 .left) (c .before .if4 .left) (s .pre .0) (c .nearest-of2 .ensures) .small)
+add-result c = let s = c .before .before .before .before in omega (arith, case-high (s .args .field) (s .args .frac) (c .nearest-of2 .result) (c .before .before .if2 .left) (c .before .if3 .left) (s .pre .0) (c .nearest-of2 .ensures) .small)
 
--- src/lib.rt:32:1
-returns-5 : tie.Need-returns-5
-returns-5 c = let s = c .before .before .before .before .before in case-high (s .args .field) (s .args .frac) (c .nearest-of2 .result) (c .before .before .before .if2 .left) (c .before .if4 .left) (s .pre .0) (c .nearest-of2 .ensures)
+returns-4 : tie.Need-returns-4
+returns-4 c = let s = c .before .before .before .before in case-high (s .args .field) (s .args .frac) (c .nearest-of2 .result) (c .before .before .if2 .left) (c .before .if3 .left) (s .pre .0) (c .nearest-of2 .ensures)
 
 pub magnitude-spec : {M : Type 1} → statement M
 magnitude-spec =
@@ -63,8 +47,7 @@ magnitude-spec =
     nearest-of-requires
     returns-2
     returns-3
-    returns-4
     mul-result
     nearest-of-requires-2
     add-result
-    returns-5)
+    returns-4)

@@ -1,3 +1,4 @@
+-- The three ways out are the three ways of a rounded quotient: the remainder doubled is below the divisor, is the divisor, or is above it.
 use Rattle.float_laws.proofs.Nearest.{rounds-down, rounds-even, rounds-up}
 use lib.Ieee.Nearest.{closest}
 use lib.Pow.{pow-pos}
@@ -7,43 +8,31 @@ use native.Mathlib.Omega.{arith}
 use borrow.Author.Needs.{needs}
 use Rattle.arithmetic.proofs.narrowing.nearest_of.Statement.{statement}
 use Rattle.arithmetic.proofs.narrowing.nearest_of.Tie as tie
-use Rattle.arithmetic.proofs.narrowing.nearest_of.Reads as reads
-use Rattle.arithmetic.proofs.narrowing.nearest_of.Lts as lts
-use Rattle.arithmetic.proofs.narrowing.power.Reads as power-reads
 
--- src/lib.rt:18:9
 power-requires : tie.Need-power-requires
 power-requires c κs = search needs
 
--- src/lib.rt:19:13
 div-q : tie.Need-div-q
 div-q c = rw (c .power .ensures) (pow-pos (c .before .args .drop))
 
--- src/lib.rt:20:17
 rem-twice : tie.Need-rem-twice
 rem-twice c = rw (c .power .ensures) (pow-pos (c .before .args .drop))
 
--- src/lib.rt:20:17
 mul-twice : tie.Need-mul-twice
 mul-twice c = omega (arith, mod-le (c .before .args .m) (c .power .result))
 
--- src/lib.rt:22:9
 returns : tie.Need-returns
 returns c = let a = c .before .before .args in rounds-down (a .m) (c .before .power .result) (c .if1 .taken) ∙ ap (closest (a .m)) (c .before .power .ensures)
 
--- src/lib.rt:25:16
 add-result : tie.Need-add-result
 add-result c = omega (arith, div-le-self (c .before .before .before .args .m) (c .before .before .power .result))
 
--- src/lib.rt:25:9
 returns-2 : tie.Need-returns-2
 returns-2 c = let a = c .before .before .before .args in rounds-even (a .m) (c .before .before .power .result) (c .if2 .taken) ∙ ap (closest (a .m)) (c .before .before .power .ensures)
 
--- src/lib.rt:27:5
 add-result-2 : tie.Need-add-result-2
 add-result-2 c = omega (arith, div-le-self (c .before .before .before .args .m) (c .before .before .power .result))
 
--- src/lib.rt:14:1
 returns-3 : tie.Need-returns-3
 returns-3 c = let a = c .before .before .before .args in rounds-up (a .m) (c .before .before .power .result) (c .before .if1 .left) (c .if2 .left) ∙ ap (closest (a .m)) (c .before .before .power .ensures)
 

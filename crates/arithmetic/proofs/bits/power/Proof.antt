@@ -1,15 +1,12 @@
+-- A shift of 1 by k places, k below 64, loses no digit.
 use Rattle.float_laws.proofs.Nearest.{shifted}
 use borrow.Author.Needs.{needs}
-use Rattle.arithmetic.proofs.narrowing.power.Statement.{statement}
-use Rattle.arithmetic.proofs.narrowing.power.Tie as tie
-use Rattle.arithmetic.proofs.narrowing.power.Reads as reads
-use Rattle.arithmetic.proofs.narrowing.power.Lts as lts
+use Rattle.arithmetic.proofs.bits.power.Statement.{statement}
+use Rattle.arithmetic.proofs.bits.power.Tie as tie
 
--- src/lib.rt:10:5
 shl-result : tie.Need-shl-result
 shl-result c = search needs
 
--- src/lib.rt:6:1
 returns : tie.Need-returns
 returns c = shifted (c .args .k) (c .pre)
 
