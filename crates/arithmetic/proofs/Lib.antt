@@ -1,2 +1,5 @@
 pub mod NarrowBits
 pub mod NarrowCases
+pub mod QuotientTable
+pub mod SineKernel
+pub mod Reduction
