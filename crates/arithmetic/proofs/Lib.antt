@@ -1,2 +1,3 @@
 pub mod NarrowBits
 pub mod NarrowCases
+pub mod FloorLaws
