@@ -9,3 +9,5 @@ pub mod Error
 pub mod Checker
 pub mod Nearest
 pub mod Pattern
+pub mod Same
+pub mod Whole
