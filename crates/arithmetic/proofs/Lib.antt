@@ -2,5 +2,6 @@ pub mod NarrowBits
 pub mod NarrowCases
 pub mod FloorLaws
 pub mod QuotientTable
-pub mod SineKernel
 pub mod Reduction
+pub mod SineKernel
+pub mod SineLaws

@@ -3,7 +3,7 @@
 use mathlib.Core.Path.{_≡_, refl, sym, ap, _∙_, subst}
 use mathlib.Core.Logic.{_⊎_, inl, inr}
 use Prim.Native.Nat.{ℕ, _+_, _-_, _*_, _^_, _≤_, _<_}
-use native.Mathlib.Nat.{le-trans, le-of-eq}
+use native.Mathlib.Nat.{le-trans, le-of-eq, le-of-lt}
 use native.Mathlib.Omega.{arith}
 use mathlib.Core.Bool.{Bool, true, false, _&&_}
 use lib.Dec.{T, leb, leb→le, lit≤, lit<}
@@ -15,8 +15,10 @@ use Rattle.float_laws.proofs.Value.{mag, pl, mi, Real, neg-real, mag-is, one-si
 use Rattle.float_laws.proofs.Interval.{finite-between}
 use Rattle.float_laws.proofs.Size.{Within, within-of-le, le-of-within, add-within, sub-within, mul-within}
 use Rattle.float_laws.proofs.Checker.{good, good-real}
+use Rattle.float_laws.proofs.Whole.{unit}
 use Rattle.float_laws.proofs.Error.{Near, add-near, sub-near, Scaled, mul-const}
-use Rattle.arithmetic.specs.Sine.{sineRange, inRange, I, P, Q, half, turn, rest}
+use Rattle.arithmetic.specs.Sine.{sineRange, inRange, I, P, Q, half, turn, turns, rest}
+use Rattle.arithmetic.proofs.FloorLaws.{Floored, floor-below}
 
 -- ---- on ℕ. L stands for 1, and E for 2 ^ -36; x is xp - xm; I = 5734161139222659 / 2 ^ 53 and P = 1686629713 / 2 ^ 30
 -- |n - I h| ≤ 1/2 + E, from a ≈ I h, t ≈ a + 1/2 and n ≤ t ≤ n + 1
@@ -59,13 +61,10 @@ most-n = ofBits binary64 0x40f2_a6c0_0000_0000
 abbrev most-c : Float
 most-c = ofBits binary64 0x3fe9_47ae_147a_e148
 
-abbrev pub eight-tenths : Float
-eight-tenths = ofBits binary64 0x3fe9_9999_9999_999a
+abbrev pub point-8 : Float
+point-8 = ofBits binary64 0x3fe9_9999_9999_999a
 
--- 1 in units, shut: it is an atom to `omega`, and no number of 324 digits
-unfoldable pub unit : ℕ
-unit = 2 ^ 1074
-
+-- E in units, shut like `unit`: an atom to `omega`, and no number of 313 digits
 unfoldable pub tiny : ℕ
 tiny = 2 ^ 1038
 
@@ -168,7 +167,7 @@ b-size : pl binary64 most-b ≤ 120003 * unit
 unfolding mul add ofBits pl unit
 b-size = lit≤ tt
 
-r-size : pl binary64 (add binary64 most-c most-d) ≤ pl binary64 eight-tenths
+r-size : pl binary64 (add binary64 most-c most-d) ≤ pl binary64 point-8
 unfolding mul add ofBits pl
 r-size = lit≤ tt
 
@@ -213,7 +212,7 @@ a-limit h w = le-trans (a-within h w .le) a-size
 pub reduced-core : (h n : Float) → Within binary64 h most-h → Real binary64 n → mag binary64 n ≤ 76396 * unit
     → (mi binary64 n * 9007199254740992 + pl binary64 h * 5734161139222659) * 2 ≤ (pl binary64 n * 9007199254740992 + mi binary64 h * 5734161139222659) * 2 + (unit + 2 * tiny) * 9007199254740992
     → (pl binary64 n * 9007199254740992 + mi binary64 h * 5734161139222659) * 2 ≤ (mi binary64 n * 9007199254740992 + pl binary64 h * 5734161139222659) * 2 + (unit + 2 * tiny) * 9007199254740992
-    → Within binary64 (rest h n) eight-tenths
+    → Within binary64 (rest h n) point-8
 unfolding rest
 reduced-core h n w rn sn lo hi =
     let f = binary64 in
@@ -237,7 +236,7 @@ reduced-core h n w rn sn lo hi =
     let wc' : Within f c most-c = record { value = wc .value; bound = real most-c (unfold ofBits fits in tt); plus = unfold ofBits mi in refl; le = sc } in
     let wd = mul-within f n Q most-n Q wn lo-own d-fin in
     let wr = sub-within f c (mul f n Q) most-c most-d wc' wd r-fin in
-    record { value = wr .value; bound = real eight-tenths (unfold ofBits fits in tt); plus = unfold ofBits mi in refl; le = le-trans (wr .le) r-size }
+    record { value = wr .value; bound = real point-8 (unfold ofBits fits in tt); plus = unfold ofBits mi in refl; le = le-trans (wr .le) r-size }
   where
     small' : (hp hm h bp bm b U : ℕ) → 0 < U → h ≤ 120000 * U → h ≡ hp + hm → b ≤ 120003 * U → b ≡ bp + bm → hp + bm < 262144 * U + (hm + bp)
     small' hp hm h bp bm b U u x y z w = omega arith
@@ -254,7 +253,7 @@ unfolding turn
 t-limit h w = let wt = add-within binary64 (mul binary64 h I) half most-a half (a-within h w) half-own t-fin in (wt .value, le-trans (wt .le) t-size)
 
 -- ---- n the whole number below t = h * I + 0.5
-pub reduced : (h n : Float) → Within binary64 h most-h → Real binary64 n → T (le n (turn h)) → pl binary64 (turn h) + mi binary64 n ≤ pl binary64 n + mi binary64 (turn h) + unit → Within binary64 (rest h n) eight-tenths
+pub reduced : (h n : Float) → Within binary64 h most-h → Real binary64 n → T (le n (turn h)) → pl binary64 (turn h) + mi binary64 n ≤ pl binary64 n + mi binary64 (turn h) + unit → Within binary64 (rest h n) point-8
 unfolding turn
 reduced h n w rn ln un =
     let f = binary64 in
@@ -301,6 +300,13 @@ range-size = lit≤ tt
 pub in-reach : (h : Float) → Within binary64 h sineRange → Within binary64 h most-h
 unfolding ofBits fits mi
 in-reach h w = record { value = w .value; bound = real most-h tt; plus = refl; le = le-trans (w .le) range-size }
+
+-- the reduced angle of the definition
+pub rest-within : (h : Float) → Within binary64 h most-h → Within binary64 (rest h (turns h)) point-8
+unfolding unit turns
+rest-within h w =
+    let o = floor-below binary64 (turn h) (t-limit h w .0) in
+    reduced h (turns h) w (o .whole .value) (o .below) (le-of-lt (o .above))
 
 pub range-within : (h : Float) → T (fits binary64 h) → inRange h ≡ true → Within binary64 h sineRange
 unfolding inRange

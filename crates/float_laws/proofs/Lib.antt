@@ -11,3 +11,4 @@ pub mod Nearest
 pub mod Pattern
 pub mod Same
 pub mod Whole
+pub mod Zero
