@@ -205,7 +205,8 @@ swap0 r k U E e h = omega arith
 swap1 : (r k U E : ℕ) → r ≡ k * U → E * 2 ≤ r * 1 * 2 + U * 1 → E * 2 ≤ k * U * 2 + U
 swap1 r k U E e h = omega arith
 
-parted : (k c U : ℕ) → (k - c) * U + c * U ≡ (c - k) * U + k * U
+-- k - c and c - k, of which one is 0
+pub parted : (k c U : ℕ) → (k - c) * U + c * U ≡ (c - k) * U + k * U
 parted k c U = let a = minus-mul k c U in let b = minus-mul c k U in let z = split k c in elim z [ inl h ↦ (let m = mul-le-mul-right U h in omega arith) | inr h ↦ (let m = mul-le-mul-right U h in omega arith) ]
   where
     split : (a b : ℕ) → (a ≤ b) ⊎ (b ≤ a)
