@@ -5,3 +5,4 @@ pub mod QuotientTable
 pub mod Reduction
 pub mod SineKernel
 pub mod SineLaws
+pub mod SineExamples

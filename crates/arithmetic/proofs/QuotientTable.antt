@@ -4,7 +4,7 @@ use mathlib.Core.List.{List, [], _∷_}
 use Prim.Native.Nat.{ℕ, zero, suc, _+_, _<_}
 use native.Mathlib.Nat.{add-zero, add-suc, suc-add, add-comm, le-of-suc-le-suc, not-suc-le-zero}
 use lib.ListN.{getD}
-use lib.Ieee.{Float, nan, binary64, ofBits, ofInt, div, neg}
+use lib.Ieee.{Float, nan, binary64, ofBits, ofInt, div}
 use Rattle.arithmetic.specs.Sine.{factorial, quotient}
 
 abbrev pub table : List Float

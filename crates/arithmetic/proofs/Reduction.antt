@@ -1,24 +1,24 @@
 -- Argument reduction: for |h| ≤ 120,000, t = h * I + 0.5 and n with n ≤ t ≤ n + 1 (the whole number below t is one), r = (h - n * P) - n * Q has |r| ≤ 0.8.
 -- n and h go together, so no interval shows it. Each operation's error is a linear fact, with `unit` for the number 1, and `omega` joins them.
-use mathlib.Core.Path.{_≡_, refl, sym, ap, _∙_, subst}
+use mathlib.Core.Path.{_≡_, refl, sym, subst}
 use mathlib.Core.Logic.{_⊎_, inl, inr}
 use Prim.Native.Nat.{ℕ, _+_, _-_, _*_, _^_, _≤_, _<_}
 use native.Mathlib.Nat.{le-trans, le-of-eq, le-of-lt}
 use native.Mathlib.Omega.{arith}
 use mathlib.Core.Bool.{Bool, true, false, _&&_}
-use lib.Dec.{T, leb, leb→le, lit≤, lit<}
+use lib.Dec.{T, lit≤, lit<}
 use lib.Pow.{pow-pos}
 use lib.Ieee.{Float, binary64, le, add, sub, mul, neg, fits, ofBits}
-use lib.Ieee.Fits.{and-i, and-l, and-r}
+use lib.Ieee.Fits.{and-l, and-r}
 use lib.Ieee.Scale.{finite}
-use Rattle.float_laws.proofs.Value.{mag, pl, mi, Real, neg-real, mag-is, one-side, units→le, le→units}
+use Rattle.float_laws.proofs.Value.{mag, pl, mi, Real, neg-real, mag-is, one-side, le→units}
 use Rattle.float_laws.proofs.Interval.{finite-between}
 use Rattle.float_laws.proofs.Size.{Within, within-of-le, le-of-within, add-within, sub-within, mul-within}
 use Rattle.float_laws.proofs.Checker.{good, good-real}
 use Rattle.float_laws.proofs.Whole.{unit}
 use Rattle.float_laws.proofs.Error.{Near, add-near, sub-near, Scaled, mul-const}
 use Rattle.arithmetic.specs.Sine.{sineRange, inRange, I, P, Q, half, turn, turns, rest}
-use Rattle.arithmetic.proofs.FloorLaws.{Floored, floor-below}
+use Rattle.arithmetic.proofs.FloorLaws.{floor-below}
 
 -- ---- on ℕ. L stands for 1, and E for 2 ^ -36; x is xp - xm; I = 5734161139222659 / 2 ^ 53 and P = 1686629713 / 2 ^ 30
 -- |n - I h| ≤ 1/2 + E, from a ≈ I h, t ≈ a + 1/2 and n ≤ t ≤ n + 1

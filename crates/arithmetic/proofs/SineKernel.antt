@@ -1,5 +1,5 @@
 -- The two kernels as terms of the checker over the table: what the code computes, what the definition says, and the bounds on |r| ≤ 0.8 and |r| ≤ 0.76 that the checker computes.
-use mathlib.Core.Path.{_≡_, refl, sym, subst}
+use mathlib.Core.Path.{_≡_, subst}
 use mathlib.Core.List.{List, [], _∷_}
 use Prim.Native.Nat.{ℕ}
 use lib.Dec.{T, lit<}
@@ -9,7 +9,7 @@ use Rattle.float_laws.proofs.Value.{Real, neg-real}
 use Rattle.float_laws.proofs.Interval.{In, least, most, sq-low}
 use Rattle.float_laws.proofs.Size.{Within, in-of-within, within-of-le}
 use Rattle.float_laws.proofs.Checker.{Ex, var, con, plus, times, square, bind, eval, good-real, bisect, bisected}
-use Rattle.arithmetic.specs.Sine.{horner, quotient, sineKernel, cosineKernel, one}
+use Rattle.arithmetic.specs.Sine.{horner, sineKernel, cosineKernel, one}
 use Rattle.arithmetic.proofs.QuotientTable.{table, entry}
 use Rattle.arithmetic.proofs.Reduction.{point-8}
 

@@ -2,28 +2,27 @@
 -- The angle is reduced to 0.8 at most, the kernels are bounded there, and the quarter only chooses among them and their negatives.
 use mathlib.Core.Path.{_≡_, refl, sym, ap, _∙_, subst}
 use mathlib.Core.Logic.{_⊎_, inl, inr}
-use mathlib.Core.List.{List, [], _∷_}
-use Prim.Native.Nat.{ℕ, _+_, _*_, _^_, _≤_, _<_}
-use native.Mathlib.Nat.{le-trans, le-of-eq, lt-of-lt-of-le, lt-of-le-of-lt}
+use mathlib.Core.List.{[], _∷_}
+use Prim.Native.Nat.{ℕ, _+_, _≤_, _<_}
+use native.Mathlib.Nat.{le-trans, le-of-eq}
 use native.Mathlib.Omega.{arith}
 use mathlib.Core.Bool.{Bool, true, false, cond}
 use lib.Dec.{T, eqb, lit≤, lit<}
 use lib.IntN.{pos}
-use lib.Pow.{pow-pos}
-use lib.Ieee.{Float, nan, fin, binary64, low, le, neg, add, sub, mul, div, fits, ofBits}
+use lib.Ieee.{Float, fin, binary64, low, le, neg, add, sub, mul, div, fits, ofBits}
 use lib.Ieee.Scale.{finite}
-use Rattle.float_laws.proofs.Value.{sign, mag, pl, mi, Real, mag-is, one-side, le→units, units→le, neg-real}
-use Rattle.float_laws.proofs.Interval.{In, least, most, sq-low, nil-real, nil-pl, nil-mi}
-use Rattle.float_laws.proofs.Size.{Within, within-of-le, in-of-within, neg-mag, neg-within, within-trans}
+use Rattle.float_laws.proofs.Value.{mag, pl, mi, mag-is, one-side, le→units, units→le}
+use Rattle.float_laws.proofs.Interval.{In, least, most, sq-low}
+use Rattle.float_laws.proofs.Size.{Within, in-of-within, neg-mag, neg-within, within-trans}
 use Rattle.float_laws.proofs.Order.{div-within}
 use Rattle.float_laws.proofs.Checker.{Ex, var, con, plus, times, eval, iv, check, checked, good-real}
 use Rattle.float_laws.proofs.Same.{sign-plus}
 use Rattle.float_laws.proofs.Zero.{sub-zero}
 use Rattle.float_laws.proofs.Whole.{Whole, unit}
 use Rattle.arithmetic.specs.Floor.{floorOf, quarterOf}
-use Rattle.arithmetic.specs.Sine.{sineRange, I, P, Q, half, one, turn, turns, rest, inRange, sineKernel, cosineKernel, sineBy, cosineBy, sineOf, cosineOf, tanOf}
+use Rattle.arithmetic.specs.Sine.{sineRange, I, half, one, turn, turns, rest, inRange, sineKernel, cosineKernel, sineBy, cosineBy, sineOf, cosineOf, tanOf}
 use Rattle.arithmetic.proofs.FloorLaws.{floor-unique}
-use Rattle.arithmetic.proofs.Reduction.{point-8, in-reach, within-range, rest-within}
+use Rattle.arithmetic.proofs.Reduction.{in-reach, within-range, rest-within}
 use Rattle.arithmetic.proofs.SineKernel.{point-75, point-68, point-76, point-7, sine-size, cosine-size, sine-size-near, cosine-size-near}
 
 -- ---- the definitions in the range

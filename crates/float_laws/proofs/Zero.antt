@@ -1,9 +1,9 @@
 -- Taking +0 from a finite value leaves the value itself, a zero's sign too: the result is the rounding of the value's own fraction.
-use mathlib.Core.Path.{_≡_, refl, sym, ap, _∙_}
+use mathlib.Core.Path.{_≡_, ap, _∙_}
 use Prim.Native.Nat.{ℕ, _+_, _-_, _*_, _^_}
-use native.Mathlib.Nat.{mul-one, le-of-eq, lt-of-le-of-lt, zero-mul, add-zero, not-suc-le-zero}
+use native.Mathlib.Nat.{mul-one, le-of-eq, lt-of-le-of-lt}
 use native.Mathlib.Omega.{arith}
-use mathlib.Core.Bool.{Bool, true, false, not, cond, Bool·beq, _&&_}
+use mathlib.Core.Bool.{Bool, true, false, cond}
 use lib.Dec.{ltb}
 use lib.IntN.{ℤ, pos}
 use lib.Pow.{pow-pos}
@@ -12,7 +12,7 @@ use lib.Ieee.Fits.{round-fits, down-pos}
 use lib.Ieee.Scale.{finite}
 use borrow.Author.Tests.{le-ltb}
 use Rattle.float_laws.proofs.Units.{rnd, rnd-same}
-use Rattle.float_laws.proofs.Value.{sign, mag, Real, units-of, mag-of, under}
+use Rattle.float_laws.proofs.Value.{mag, Real, units-of, mag-of, under}
 use Rattle.float_laws.proofs.Operation.{round-has}
 use Rattle.float_laws.proofs.Exact.{fixed}
 use Rattle.float_laws.proofs.Same.{same-value}

@@ -1,5 +1,4 @@
 -- The code is the checker's term over the table, which the table's rule ties to the definition.
-use lib.Ieee.{binary64}
 use Rattle.float_laws.proofs.Checker.{eval}
 use Rattle.arithmetic.proofs.SineKernel.{cosineTerm, cosine-by-table}
 use borrow.Author.Needs.{needs}
