@@ -1,3 +1,4 @@
 pub mod NarrowBits
 pub mod NarrowCases
 pub mod FloorLaws
+pub mod FloorCases

@@ -1,3 +1,5 @@
 mod narrowing;
+mod whole;
 
 pub use narrowing::narrow;
+pub use whole::floor;
