@@ -183,7 +183,7 @@ module _ (f : Format) (x c : Float) (C : ℕ) (r : Real f x) (some : 0 < mag f x
   abbrev n : Float
   n = nearby f x c
 
-  stays : T (not (lt x n)) → n ≡ floorOf f x
+  pub stays : T (not (lt x (nearby f x c))) → nearby f x c ≡ floorOf f x
   stays h =
       let U = 2 ^ low f in
       let u : 0 < U = pow-pos (low f) in
@@ -208,7 +208,7 @@ module _ (f : Format) (x c : Float) (C : ℕ) (r : Real f x) (some : 0 < mag f x
       let hi = i .most in
       steps-sub f (low f) n one (i .k - C) (C - i .k) 1 0 (i .is) (one-whole f) (le-refl (low f)) (omega arith) (omega arith)
 
-  falls : T (lt x n) → sub f n one ≡ floorOf f x
+  pub falls : T (lt x (nearby f x c)) → sub f (nearby f x c) one ≡ floorOf f x
   falls h =
       let U = 2 ^ low f in
       let u : 0 < U = pow-pos (low f) in

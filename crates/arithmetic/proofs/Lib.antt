@@ -1,6 +1,7 @@
 pub mod NarrowBits
 pub mod NarrowCases
 pub mod FloorLaws
+pub mod FloorCases
 pub mod QuotientTable
 pub mod Reduction
 pub mod SineKernel

@@ -7,3 +7,4 @@ pub use narrowing::narrow;
 pub use trigonometry::SinCos;
 pub use trigonometry::sin_cos;
 pub use trigonometry::tan;
+pub use whole::floor;
