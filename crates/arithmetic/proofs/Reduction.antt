@@ -52,8 +52,9 @@ rest-lo : (hp hm np nm bp bm cp cm L E F G : ℕ) → E * 68719476736 ≡ L → 
 rest-lo hp hm np nm bp bm cp cm L E F G e u v h n b c = omega arith
 
 -- ---- the constants. A closed number of units computes: `refl`
-abbrev pub most-h : Float
-most-h = ofBits binary64 0x40fd_4c00_0000_0000
+-- 120,000: how far the law goes
+abbrev pub reach : Float
+reach = ofBits binary64 0x40fd_4c00_0000_0000
 
 abbrev most-n : Float
 most-n = ofBits binary64 0x40f2_a6c0_0000_0000
@@ -65,7 +66,7 @@ abbrev pub point-8 : Float
 point-8 = ofBits binary64 0x3fe9_9999_9999_999a
 
 -- E in units, shut like `unit`: an atom to `omega`, and no number of 313 digits
-unfoldable pub tiny : ℕ
+unfoldable tiny : ℕ
 tiny = 2 ^ 1038
 
 real : (x : Float) → T (good binary64 x) → Real binary64 x
@@ -102,9 +103,9 @@ half-is : pl binary64 half * 2 ≡ unit
 unfolding ofBits pl unit
 half-is = refl
 
-most-h-is : pl binary64 most-h ≡ 120000 * unit
+reach-is : pl binary64 reach ≡ 120000 * unit
 unfolding ofBits pl unit
-most-h-is = refl
+reach-is = refl
 
 most-n-is : pl binary64 most-n ≡ 76396 * unit
 unfolding ofBits pl unit
@@ -123,8 +124,8 @@ unfolding unit
 unit-pos = pow-pos 1074
 
 -- ---- the sizes
-abbrev pub most-a : Float
-most-a = mul binary64 most-h I
+abbrev most-a : Float
+most-a = mul binary64 reach I
 
 abbrev most-t : Float
 most-t = add binary64 most-a half
@@ -151,7 +152,7 @@ d-fin : T (finite most-d)
 unfolding mul ofBits
 d-fin = tt
 
-c-fin : T (finite (add binary64 most-h most-b))
+c-fin : T (finite (add binary64 reach most-b))
 unfolding mul add ofBits
 c-fin = tt
 
@@ -182,7 +183,7 @@ a-below m U u h = omega arith
 b-below : (m U : ℕ) → 0 < U → m ≤ 76396 * U → m * 1686629713 < 131072 * U * 1073741824
 b-below m U u h = omega arith
 
-a-near : (h : Float) → Within binary64 h most-h → mag binary64 h ≤ 120000 * unit → T (finite (mul binary64 h I)) → Scaled binary64 (mul binary64 h I) h 5734161139222659 9007199254740992 tiny
+a-near : (h : Float) → Within binary64 h reach → mag binary64 h ≤ 120000 * unit → T (finite (mul binary64 h I)) → Scaled binary64 (mul binary64 h I) h 5734161139222659 9007199254740992 tiny
 unfolding unit tiny
 a-near h w s t = mul-const binary64 h I 1091 5734161139222659 9007199254740992 (w .value) (inv-own .value) t (inv-own .plus) (lit< tt) inv-is (a-below (mag binary64 h) unit unit-pos s)
 
@@ -200,16 +201,16 @@ unfolding unit tiny
 c-near h b r q t s s' = sub-near binary64 h b 1092 r q t s s'
 
 -- ---- joined: for any n with |n - I h| ≤ 1/2 + 2 ^ -36
-pub a-within : (h : Float) → Within binary64 h most-h → Within binary64 (mul binary64 h I) most-a
-a-within h w = mul-within binary64 h I most-h I w inv-own a-fin
+a-within : (h : Float) → Within binary64 h reach → Within binary64 (mul binary64 h I) most-a
+a-within h w = mul-within binary64 h I reach I w inv-own a-fin
 
-pub a-scaled : (h : Float) → Within binary64 h most-h → Scaled binary64 (mul binary64 h I) h 5734161139222659 9007199254740992 tiny
-a-scaled h w = a-near h w (le-trans (w .le) (le-of-eq most-h-is)) (a-within h w .value .finite)
+a-scaled : (h : Float) → Within binary64 h reach → Scaled binary64 (mul binary64 h I) h 5734161139222659 9007199254740992 tiny
+a-scaled h w = a-near h w (le-trans (w .le) (le-of-eq reach-is)) (a-within h w .value .finite)
 
-pub a-limit : (h : Float) → Within binary64 h most-h → mag binary64 (mul binary64 h I) ≤ 76395 * unit
+a-limit : (h : Float) → Within binary64 h reach → mag binary64 (mul binary64 h I) ≤ 76395 * unit
 a-limit h w = le-trans (a-within h w .le) a-size
 
-pub reduced-core : (h n : Float) → Within binary64 h most-h → Real binary64 n → mag binary64 n ≤ 76396 * unit
+reduced-core : (h n : Float) → Within binary64 h reach → Real binary64 n → mag binary64 n ≤ 76396 * unit
     → (mi binary64 n * 9007199254740992 + pl binary64 h * 5734161139222659) * 2 ≤ (pl binary64 n * 9007199254740992 + mi binary64 h * 5734161139222659) * 2 + (unit + 2 * tiny) * 9007199254740992
     → (pl binary64 n * 9007199254740992 + mi binary64 h * 5734161139222659) * 2 ≤ (mi binary64 n * 9007199254740992 + pl binary64 h * 5734161139222659) * 2 + (unit + 2 * tiny) * 9007199254740992
     → Within binary64 (rest h n) point-8
@@ -220,12 +221,12 @@ reduced-core h n w rn sn lo hi =
     let c = sub f h b in
     let u = unit-pos in
     let mh = mag-is f h in
-    let sh : mag f h ≤ 120000 * unit = le-trans (w .le) (le-of-eq most-h-is) in
+    let sh : mag f h ≤ 120000 * unit = le-trans (w .le) (le-of-eq reach-is) in
     let wn : Within f n most-n = record { value = rn; bound = real most-n (unfold ofBits fits in tt); plus = unfold ofBits mi in refl; le = le-trans sn (le-of-eq (sym most-n-is)) } in
     let wb = mul-within f n P most-n P wn hi-own b-fin in
     let sb : mag f b ≤ 120003 * unit = le-trans (wb .le) b-size in
     let mb = mag-is f b in
-    let wc = sub-within f h b most-h most-b w wb c-fin in
+    let wc = sub-within f h b reach most-b w wb c-fin in
     let mc = mag-is f c in
     let eb = b-near n rn sn (wb .value .finite) in
     let ec = c-near h b (w .value) (wb .value) (wc .value .finite) (small' (pl f h) (mi f h) (mag f h) (pl f b) (mi f b) (mag f b) unit u sh mh sb mb) (small'' (pl f h) (mi f h) (mag f h) (pl f b) (mi f b) (mag f b) unit u sh mh sb mb) in
@@ -248,12 +249,12 @@ reduced-core h n w rn sn lo hi =
     finish cp cm c k U x y e (inl z) h = omega arith
     finish cp cm c k U x y e (inr z) h = omega arith
 
-pub t-limit : (h : Float) → Within binary64 h most-h → Real binary64 (turn h) × (mag binary64 (turn h) ≤ 76395 * unit)
+t-limit : (h : Float) → Within binary64 h reach → Real binary64 (turn h) × (mag binary64 (turn h) ≤ 76395 * unit)
 unfolding turn
 t-limit h w = let wt = add-within binary64 (mul binary64 h I) half most-a half (a-within h w) half-own t-fin in (wt .value, le-trans (wt .le) t-size)
 
--- ---- n the whole number below t = h * I + 0.5
-pub reduced : (h n : Float) → Within binary64 h most-h → Real binary64 n → T (le n (turn h)) → pl binary64 (turn h) + mi binary64 n ≤ pl binary64 n + mi binary64 (turn h) + unit → Within binary64 (rest h n) point-8
+-- ---- n with n ≤ t ≤ n + 1 for t = h * I + 0.5: the reduced angle is at most 0.8 either way
+pub reduced : (h n : Float) → Within binary64 h reach → Real binary64 n → T (le n (turn h)) → pl binary64 (turn h) + mi binary64 n ≤ pl binary64 n + mi binary64 (turn h) + unit → Within binary64 (rest h n) point-8
 unfolding turn
 reduced h n w rn ln un =
     let f = binary64 in
@@ -293,21 +294,23 @@ range-real : Real binary64 sineRange
 unfolding ofBits fits
 range-real = real sineRange tt
 
-range-size : pl binary64 sineRange ≤ pl binary64 most-h
+range-size : pl binary64 sineRange ≤ pl binary64 reach
 unfolding ofBits pl
 range-size = lit≤ tt
 
-pub in-reach : (h : Float) → Within binary64 h sineRange → Within binary64 h most-h
+-- the range lies within 120,000
+pub in-reach : (h : Float) → Within binary64 h sineRange → Within binary64 h reach
 unfolding ofBits fits mi
-in-reach h w = record { value = w .value; bound = real most-h tt; plus = refl; le = le-trans (w .le) range-size }
+in-reach h w = record { value = w .value; bound = real reach tt; plus = refl; le = le-trans (w .le) range-size }
 
--- the reduced angle of the definition
-pub rest-within : (h : Float) → Within binary64 h most-h → Within binary64 (rest h (turns h)) point-8
+-- so the reduced angle of the definition, whose n is the floor of t
+pub rest-within : (h : Float) → Within binary64 h reach → Within binary64 (rest h (turns h)) point-8
 unfolding unit turns
 rest-within h w =
     let o = floor-below binary64 (turn h) (t-limit h w .0) in
     reduced h (turns h) w (o .whole .value) (o .below) (le-of-lt (o .above))
 
+-- the test of the definition and the bound are one
 pub range-within : (h : Float) → T (fits binary64 h) → inRange h ≡ true → Within binary64 h sineRange
 unfolding inRange
 range-within h k e =
@@ -325,7 +328,7 @@ within-range h w = let g = le-of-within binary64 h sineRange w in is-true (le (n
     is-true true false s t = absurd t
     is-true false b s t = absurd s
 
--- ---- what is turned lies far inside the whole numbers of the format
+-- ---- t lies within 2 ^ 50, as the floor with its quarter asks
 abbrev pub wholes : Float
 wholes = ofBits binary64 0x4310_0000_0000_0000
 
@@ -333,6 +336,6 @@ wholes-size : 76395 * unit ≤ pl binary64 wholes
 unfolding ofBits pl unit
 wholes-size = lit≤ tt
 
-pub turn-whole : (h : Float) → Within binary64 h most-h → T (le (neg wholes) (turn h)) × T (le (turn h) wholes)
+pub turn-whole : (h : Float) → Within binary64 h reach → T (le (neg wholes) (turn h)) × T (le (turn h) wholes)
 unfolding ofBits fits mi
 turn-whole h w = let t = t-limit h w in le-of-within binary64 (turn h) wholes (record { value = t .0; bound = real wholes tt; plus = refl; le = le-trans (t .1) wholes-size })

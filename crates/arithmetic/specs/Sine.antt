@@ -10,7 +10,6 @@ use Rattle.arithmetic.specs.Floor.{floorOf, quarterOf}
 infixl 20 _⊕_
 infixl 20 _⊖_
 infixl 21 _⊗_
-
 abbrev _⊕_ : Float → Float → Float
 x ⊕ y = add binary64 x y
 

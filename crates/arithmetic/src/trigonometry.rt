@@ -2,7 +2,6 @@
 ghost use mathlib.Core.Path.{_≡_};
 ghost use mathlib.Core.Bool.{true};
 ghost use Rattle.arithmetic.specs.Sine.{inRange, sineKernel, cosineKernel, sineBy, cosineBy, sineOf, cosineOf, tanOf};
-
 use crate::quotients::QUOTIENTS;
 use crate::whole::below;
 
@@ -10,7 +9,9 @@ const RANGE: f64 = 12000.0;
 
 // A quarter turn is P + Q, and I is one over it.
 const I: f64 = 0.6366197723675814;
+
 const P: f64 = 1.5707963267341256;
+
 const Q: f64 = 6.077100506506192e-11;
 
 pub struct SinCos {
@@ -18,6 +19,7 @@ pub struct SinCos {
     pub cos: f64,
 }
 
+// The sine of a reduced angle: p by Horner from -1/15! to -1/3!, which are the odd entries of the table.
 fn sine_kernel(r: f64) -> f64
     ensures { λ s. ⌜ s ≡ sineKernel r ⌝ }
 {
@@ -32,6 +34,7 @@ fn sine_kernel(r: f64) -> f64
     r + r * (z * p)
 }
 
+// The cosine of a reduced angle: q from 1/16! to -1/2!, the even entries.
 fn cosine_kernel(r: f64) -> f64
     ensures { λ c. ⌜ c ≡ cosineKernel r ⌝ }
 {
@@ -63,7 +66,7 @@ fn by_quarter(quarter: u64, s: f64, c: f64) -> SinCos
     SinCos { sin: -c, cos: s }
 }
 
-// The pair of an angle in the range.
+// The pair of an angle in the range: n quarter turns, and what is left of the angle.
 fn reduced(h: f64) -> SinCos
     requires { ⌜ inRange h ≡ true ⌝ }
     ensures { λ r. ⌜ (r .sin ≡ sineOf h) × (r .cos ≡ cosineOf h) ⌝ }
@@ -82,9 +85,13 @@ pub fn sin_cos(h: f64) -> SinCos
     if inside {
         return reduced(h);
     }
-    SinCos { sin: 0.0 / 0.0, cos: 0.0 / 0.0 }
+    SinCos {
+        sin: 0.0 / 0.0,
+        cos: 0.0 / 0.0,
+    }
 }
 
+// The tangent, sine over cosine.
 pub fn tan(h: f64) -> f64
     ensures { λ r. ⌜ r ≡ tanOf h ⌝ }
 {
