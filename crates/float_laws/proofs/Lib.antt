@@ -9,3 +9,6 @@ pub mod Error
 pub mod Checker
 pub mod Nearest
 pub mod Pattern
+pub mod Same
+pub mod Whole
+pub mod Zero

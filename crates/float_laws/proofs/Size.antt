@@ -17,7 +17,7 @@ use lib.Ieee.Scale.{finite, overflow}
 use Rattle.float_laws.proofs.Units.{rnd, rnd-le, rnd-zero}
 use Rattle.float_laws.proofs.Value.{sign, mag, sp, sn, pl, mi, Real, units-of, mag-is, under, one-side, units→le, le→units, lt→units, nlt→units, neg-real, neg-pl, neg-mi}
 use Rattle.float_laws.proofs.Operation.{Is, add-Is, sub-Is, mul-Is, round-has}
-use Rattle.float_laws.proofs.Interval.{nil, nil-real, nil-pl, nil-mi, finite-between}
+use Rattle.float_laws.proofs.Interval.{In, nil, nil-real, nil-pl, nil-mi, finite-between}
 
 -- |x| ≤ A, both finite, and A is not below zero
 pub record Within (f : Format) (x A : Float) : Type 0 where
@@ -47,6 +47,28 @@ le-of-within f x A w =
     let a = w .le in
     let z = w .plus in
     (units→le f (neg A) x (neg-real f A (w .bound)) (w .value) (omega arith), units→le f x A (w .value) (w .bound) (omega arith))
+
+-- ---- as an interval, of the negative, and under a larger bound
+pub in-of-within : (f : Format) (x A : Float) → Within f x A → In f (neg A) A x
+in-of-within f x A w = let g = le-of-within f x A w in record { low = neg-real f A (w .bound); high = w .bound; value = w .value; above = g .0; below = g .1 }
+
+pub neg-mag : (f : Format) (x : Float) → Real f x → mag f (neg x) ≡ mag f x
+neg-mag f x r =
+    let p = neg-pl f x r in
+    let m = neg-mi f x r in
+    let a = mag-is f x in
+    let b = mag-is f (neg x) in
+    omega arith
+
+pub neg-within : (f : Format) (x A : Float) → Within f x A → Within f (neg x) A
+neg-within f x A w = record { value = neg-real f x (w .value); bound = w .bound; plus = w .plus; le = le-trans (le-of-eq (neg-mag f x (w .value))) (w .le) }
+
+pub within-trans : (f : Format) (x A B : Float) → Within f x A → Within f A B → Within f x B
+within-trans f x A B v w =
+    let a = mag-is f A in
+    let l = v .le in
+    let m = w .le in
+    record { value = v .value; bound = w .bound; plus = w .plus; le = omega arith }
 
 -- ---- the laws
 size-of : (f : Format) (z : Float) (P N c S : ℕ) → 0 < c → Is f z P N c → P - N ≤ S → N - P ≤ S → rnd f S c < overflow f → Real f z × (mag f z ≤ rnd f S c)
