@@ -2,46 +2,60 @@
 -- One unit of an `f64` is 2 ^ -1074, so |v| < 2 ^ k gives an error of at most 2 ^ (k - 54), for j = k + 1074. Assumes nothing.
 use mathlib.Core.Path.{_≡_, refl, sym, ap, _∙_, subst}
 use mathlib.Core.Logic.{_⊎_, inl, inr}
-use Prim.Native.Nat.{ℕ, _+_, _-_, _*_, _^_, _≤_, _<_}
+use Prim.Native.Nat.{ℕ, suc, _+_, _-_, _*_, _^_, _≤_, _<_}
 use native.Mathlib.Nat.{le-trans, le-of-eq, lt-of-le-of-lt, mul-le-mul}
 use native.Mathlib.Omega.{arith}
 use mathlib.Core.Bool.{Bool, true, false, not}
 use lib.Dec.{T, leb, leb→le, nleb→lt}
-use lib.Pow.{pow-pos}
-use lib.Ieee.{Float, Format, prec, low, add, sub, mul, div}
-use lib.Ieee.Scale.{finite}
-use Rattle.float_laws.proofs.Units.{rnd, rnd-err, rnd-zero}
+use lib.Pow.{pow-pos, pow-lt}
+use lib.Ieee.{Float, Format, prec, emax, low, add, sub, mul, div}
+use lib.Ieee.Scale.{finite, overflow}
+use Rattle.float_laws.proofs.Units.{rnd, rnd-err, rnd-err-le, rnd-pow, rnd-zero}
 use Rattle.float_laws.proofs.Value.{mag, pl, mi, Real, mag-is}
 use Rattle.float_laws.proofs.Operation.{Is, add-Is, sub-Is, mul-Is}
 use Rattle.float_laws.proofs.Interval.{div-Is'}
+use Rattle.float_laws.proofs.Size.{is-bounded}
 
 -- |z - (P - N) / c| ≤ E / 2 units
 pub record Near (f : Format) (z : Float) (P N c E : ℕ) : Type 0 where
   pub above : (pl f z * c + N) * 2 ≤ (mi f z * c + P) * 2 + E * c
   pub below : (mi f z * c + P) * 2 ≤ (pl f z * c + N) * 2 + E * c
 
-one-way : (p n P N c A r E : ℕ) → p ≡ r → n ≡ 0 → P ≡ N + A → r * c * 2 ≤ A * 2 + E → A * 2 ≤ r * c * 2 + E → ((p * c + N) * 2 ≤ (n * c + P) * 2 + E) × ((n * c + P) * 2 ≤ (p * c + N) * 2 + E)
-one-way p n P N c A r E e z d h k =
-    subst (λ (m : ℕ). ((p * c + N) * 2 ≤ (m * c + P) * 2 + E) × ((m * c + P) * 2 ≤ (p * c + N) * 2 + E)) (sym z)
-    (subst (λ (q : ℕ). ((q * c + N) * 2 ≤ (0 * c + P) * 2 + E) × ((0 * c + P) * 2 ≤ (q * c + N) * 2 + E)) (sym e) (omega arith, omega arith))
+one-way : (p n P N c A r k e : ℕ) → p ≡ r → n ≡ 0 → P ≡ N + A → r * c * k ≤ A * k + e → A * k ≤ r * c * k + e → ((p * c + N) * k ≤ (n * c + P) * k + e) × ((n * c + P) * k ≤ (p * c + N) * k + e)
+one-way p n P N c A r k e u z d h g =
+    subst (λ (m : ℕ). ((p * c + N) * k ≤ (m * c + P) * k + e) × ((m * c + P) * k ≤ (p * c + N) * k + e)) (sym z)
+    (subst (λ (q : ℕ). ((q * c + N) * k ≤ (0 * c + P) * k + e) × ((0 * c + P) * k ≤ (q * c + N) * k + e)) (sym u)
+    (subst (λ (w : ℕ). ((r * c + N) * k ≤ (0 * c + w) * k + e) × ((0 * c + w) * k ≤ (r * c + N) * k + e)) (sym d) (omega arith, omega arith)))
+
+-- what `rnd` is off by at the sizes P - N and N - P, a result is off by: |z * c - (P - N)| * k ≤ e
+pub is-off : (f : Format) (z : Float) (P N c k e : ℕ) → 0 < c → Is f z P N c → T (finite z)
+    → (rnd f (P - N) c * c * k ≤ (P - N) * k + e) × ((P - N) * k ≤ rnd f (P - N) c * c * k + e)
+    → (rnd f (N - P) c * c * k ≤ (N - P) * k + e) × ((N - P) * k ≤ rnd f (N - P) c * c * k + e)
+    → ((pl f z * c + N) * k ≤ (mi f z * c + P) * k + e) × ((mi f z * c + P) * k ≤ (pl f z * c + N) * k + e)
+is-off f z P N c k e C i t h g = go (leb N P) (leb→le N P) (nleb→lt N P)
+  where
+    none : (a b : ℕ) → a ≤ b → rnd f (a - b) c ≡ 0
+    none a b l = ap (λ (x : ℕ). rnd f x c) (native.Mathlib.Nat.sub-eq-zero-of-le l) ∙ rnd-zero f c C
+
+    go : (b : Bool) → (T b → N ≤ P) → (T (not b) → P < N) → ((pl f z * c + N) * k ≤ (mi f z * c + P) * k + e) × ((mi f z * c + P) * k ≤ (pl f z * c + N) * k + e)
+    go true a b = one-way (pl f z) (mi f z) P N c (P - N) (rnd f (P - N) c) k e (i .plus t) (i .minus t ∙ none N P (a tt)) (sym (native.Mathlib.Nat.add-sub-of-le (a tt))) (h .0) (h .1)
+    go false a b =
+        let l = native.Mathlib.Nat.le-of-lt (b tt) in
+        let w = one-way (mi f z) (pl f z) N P c (N - P) (rnd f (N - P) c) k e (i .minus t) (i .plus t ∙ none P N l) (sym (native.Mathlib.Nat.add-sub-of-le l)) (g .0) (g .1) in
+        (w .1, w .0)
 
 pub is-near : (f : Format) (z : Float) (P N c j : ℕ) → 0 < c → Is f z P N c → T (finite z) → P - N < 2 ^ j * c → N - P < 2 ^ j * c → Near f z P N c (2 ^ (j - prec f))
-is-near f z P N c j C i t h k = go (leb N P) (leb→le N P) (nleb→lt N P)
-  where
-    E : ℕ
-    E = 2 ^ (j - prec f)
+is-near f z P N c j C i t h k =
+    let w = is-off f z P N c 2 (2 ^ (j - prec f) * c) C i t (rnd-err f (P - N) c j C h) (rnd-err f (N - P) c j C k) in
+    record { above = w .0; below = w .1 }
 
-    go : (b : Bool) → (T b → N ≤ P) → (T (not b) → P < N) → Near f z P N c E
-    go true a b =
-        let l = a tt in
-        let e = rnd-err f (P - N) c j C h in
-        let w = one-way (pl f z) (mi f z) P N c (P - N) (rnd f (P - N) c) (E * c) (i .plus t) (i .minus t ∙ ap (λ (x : ℕ). rnd f x c) (let o : N - P ≡ 0 = omega arith in o) ∙ rnd-zero f c C) (omega arith) (e .0) (e .1) in
-        record { above = w .0; below = w .1 }
-    go false a b =
-        let l = b tt in
-        let e = rnd-err f (N - P) c j C k in
-        let w = one-way (mi f z) (pl f z) N P c (N - P) (rnd f (N - P) c) (E * c) (i .minus t) (i .plus t ∙ ap (λ (x : ℕ). rnd f x c) (let o : P - N ≡ 0 = omega arith in o) ∙ rnd-zero f c C) (omega arith) (e .0) (e .1) in
-        record { above = w .1; below = w .0 }
+-- the same with no overflow to be shown: at most 2 ^ j units, below the overflow, give a finite value of that size at most
+pub is-near-le : (f : Format) (z : Float) (P N c j : ℕ) → 0 < c → Is f z P N c → P - N ≤ 2 ^ j * c → N - P ≤ 2 ^ j * c → j < low f + suc (emax f) → Real f z × (mag f z ≤ 2 ^ j) × Near f z P N c (2 ^ (j - prec f))
+is-near-le f z P N c j C i h k o =
+    let e = rnd-pow f c j C in
+    let b = is-bounded f z P N c (2 ^ j * c) C i h k (subst (λ (n : ℕ). n < overflow f) (sym e) (pow-lt o)) in
+    let w = is-off f z P N c 2 (2 ^ (j - prec f) * c) C i (b .0 .finite) (rnd-err-le f (P - N) c j C h) (rnd-err-le f (N - P) c j C k) in
+    (b .0, le-trans (b .1) (le-of-eq e), record { above = w .0; below = w .1 })
 
 -- ---- the operations, by bounds on the sizes
 pub add-near : (f : Format) (x y : Float) (j : ℕ) → Real f x → Real f y → T (finite (add f x y)) → mag f x + mag f y < 2 ^ j → Near f (add f x y) (pl f x + pl f y) (mi f x + mi f y) 1 (2 ^ (j - prec f))

@@ -14,7 +14,7 @@ use lib.Ieee.Fits.{and-l, and-r, add-fits, mul-fits, sub-fits, div-fits}
 use lib.Ieee.Scale.{finite, overflow}
 use Rattle.float_laws.proofs.Units.{rnd, rnd-zero}
 use Rattle.float_laws.proofs.Value.{sign, sp, sn, mag, pl, mi, Real, mag-is, under, one-side, units→le, le→units, le-refl, le-trans', nle→le, neg-real, neg-pl, neg-mi}
-use Rattle.float_laws.proofs.Operation.{Is, add-Is, sub-Is, mul-Is, div-Is, rnd-order}
+use Rattle.float_laws.proofs.Operation.{Is, add-Is, sub-Is, mul-Is, div-Is, is-mag, scale-differ, rnd-order}
 
 -- lo ≤ x ≤ hi, all finite
 pub record In (f : Format) (lo hi x : Float) : Type 0 where
@@ -365,6 +365,9 @@ div-Is' f x y r q h =
     let i = div-Is f x y r q (omega arith) in
     subst (λ (n : ℕ). Is f (div f x y) (pl f x * 2 ^ low f) (mi f x * 2 ^ low f) n) e
     (subst (λ (s : Bool). Is f (div f x y) (cond s (mi f x) (pl f x) * 2 ^ low f) (cond s (pl f x) (mi f x) * 2 ^ low f) (mag f y)) (sign-of f y h) i)
+
+pub div-mag : (f : Format) (x y : Float) → Real f x → Real f y → 0 < pl f y → T (finite (div f x y)) → mag f (div f x y) ≡ rnd f (mag f x * 2 ^ low f) (pl f y)
+div-mag f x y r q h t = is-mag f (div f x y) _ _ (pl f y) (mag f x * 2 ^ low f) h (div-Is' f x y r q h) (scale-differ f x (2 ^ low f)) t
 
 q1 : (xp xn bp bn L c y : ℕ) → bn ≡ 0 → xp + bn ≤ bp + xn → c ≤ y → xp * L * c + bn * L * y ≤ bp * L * y + xn * L * c
 q1 xp xn bp bn L c y z h k = subst (λ (w : ℕ). xp * L * c + w * L * y ≤ bp * L * y + xn * L * c) (sym z) (let g : xp * (L * c) ≤ (bp + xn) * (L * c) = mul-le-mul-right (L * c) (omega arith) in let j : bp * L * c ≤ bp * L * y = mul-le-mul-left (bp * L) k in omega arith)

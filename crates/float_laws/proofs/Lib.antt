@@ -9,3 +9,4 @@ pub mod Error
 pub mod Checker
 pub mod Nearest
 pub mod Pattern
+pub mod Relative

@@ -200,6 +200,55 @@ div-Is f (fin s m e) (fin t n d) r q h =
     go true z h i = let w = z tt in absurd (let o : _≡_ {A = ℕ} n 0 = w in omega arith)
     go false z h i = i
 
+-- ---- sizes: the size of a product is the rounded product of the sizes, and so for a quotient
+-- |P - N| = D
+abbrev pub Differ : ℕ → ℕ → ℕ → Type 0
+Differ P N D = ((P - N ≡ D) × (N - P ≡ 0)) ⊎ ((N - P ≡ D) × (P - N ≡ 0))
+
+pub differ-le : (P N D : ℕ) → Differ P N D → (P - N ≤ D) × (N - P ≤ D)
+differ-le P N D (inl h) = let a = h .0 in let b = h .1 in (omega arith, omega arith)
+differ-le P N D (inr h) = let a = h .0 in let b = h .1 in (omega arith, omega arith)
+
+product-differ : (a b c d : ℕ) → (a ≡ 0) ⊎ (b ≡ 0) → (c ≡ 0) ⊎ (d ≡ 0) → Differ (a * c + b * d) (a * d + b * c) ((a + b) * (c + d))
+product-differ a b c d (inl u) (inl v) = subst (λ (w : ℕ). Differ (w * c + b * d) (w * d + b * c) ((w + b) * (c + d))) (sym u) (subst (λ (w : ℕ). Differ (0 * w + b * d) (0 * d + b * w) ((0 + b) * (w + d))) (sym v) (inl (omega arith, omega arith)))
+product-differ a b c d (inl u) (inr v) = subst (λ (w : ℕ). Differ (w * c + b * d) (w * d + b * c) ((w + b) * (c + d))) (sym u) (subst (λ (w : ℕ). Differ (0 * c + b * w) (0 * w + b * c) ((0 + b) * (c + w))) (sym v) (inr (omega arith, omega arith)))
+product-differ a b c d (inr u) (inl v) = subst (λ (w : ℕ). Differ (a * c + w * d) (a * d + w * c) ((a + w) * (c + d))) (sym u) (subst (λ (w : ℕ). Differ (a * w + 0 * d) (a * d + 0 * w) ((a + 0) * (w + d))) (sym v) (inr (omega arith, omega arith)))
+product-differ a b c d (inr u) (inr v) = subst (λ (w : ℕ). Differ (a * c + w * d) (a * d + w * c) ((a + w) * (c + d))) (sym u) (subst (λ (w : ℕ). Differ (a * c + 0 * w) (a * w + 0 * c) ((a + 0) * (c + w))) (sym v) (inl (omega arith, omega arith)))
+
+pub mul-differ : (f : Format) (x y : Float) → Differ (pl f x * pl f y + mi f x * mi f y) (pl f x * mi f y + mi f x * pl f y) (mag f x * mag f y)
+mul-differ f x y =
+    subst (λ (w : ℕ). Differ (pl f x * pl f y + mi f x * mi f y) (pl f x * mi f y + mi f x * pl f y) w)
+    (ap (λ (w : ℕ). w * (pl f y + mi f y)) (sym (mag-is f x)) ∙ ap (λ (w : ℕ). mag f x * w) (sym (mag-is f y)))
+    (product-differ (pl f x) (mi f x) (pl f y) (mi f y) (one-side f x) (one-side f y))
+
+scaled-differ : (a b l : ℕ) → (a ≡ 0) ⊎ (b ≡ 0) → Differ (a * l) (b * l) ((a + b) * l)
+scaled-differ a b l (inl u) = subst (λ (w : ℕ). Differ (w * l) (b * l) ((w + b) * l)) (sym u) (inr (omega arith, omega arith))
+scaled-differ a b l (inr u) = subst (λ (w : ℕ). Differ (a * l) (w * l) ((a + w) * l)) (sym u) (inl (omega arith, omega arith))
+
+pub scale-differ : (f : Format) (x : Float) (l : ℕ) → Differ (pl f x * l) (mi f x * l) (mag f x * l)
+scale-differ f x l = subst (λ (w : ℕ). Differ (pl f x * l) (mi f x * l) (w * l)) (sym (mag-is f x)) (scaled-differ (pl f x) (mi f x) l (one-side f x))
+
+pub is-mag : (f : Format) (z : Float) (P N c D : ℕ) → 0 < c → Is f z P N c → Differ P N D → T (finite z) → mag f z ≡ rnd f D c
+is-mag f z P N c D C i h t = go h
+  where
+    z0 : (n : ℕ) → n ≡ 0 → rnd f n c ≡ 0
+    z0 n e = ap (λ (x : ℕ). rnd f x c) e ∙ rnd-zero f c C
+
+    go : Differ P N D → mag f z ≡ rnd f D c
+    go (inl k) =
+        let a : pl f z ≡ rnd f D c = i .plus t ∙ ap (λ (x : ℕ). rnd f x c) (k .0) in
+        let b : mi f z ≡ 0 = i .minus t ∙ z0 (N - P) (k .1) in
+        let g = mag-is f z in
+        omega arith
+    go (inr k) =
+        let a : mi f z ≡ rnd f D c = i .minus t ∙ ap (λ (x : ℕ). rnd f x c) (k .0) in
+        let b : pl f z ≡ 0 = i .plus t ∙ z0 (P - N) (k .1) in
+        let g = mag-is f z in
+        omega arith
+
+pub mul-mag : (f : Format) (x y : Float) → Real f x → Real f y → T (finite (mul f x y)) → mag f (mul f x y) ≡ rnd f (mag f x * mag f y) (2 ^ low f)
+mul-mag f x y r q t = is-mag f (mul f x y) _ _ (2 ^ low f) (mag f x * mag f y) (pow-pos (low f)) (mul-Is f x y r q) (mul-differ f x y) t
+
 -- ---- two results in order: (P - N) / c ≤ (Q - R) / d
 grow : (P N c Q R d : ℕ) → P * d + R * c ≤ Q * c + N * d → (P - N) * d ≤ (Q - R) * c
 grow P N c Q R d h =

@@ -49,8 +49,9 @@ le-of-within f x A w =
     (units→le f (neg A) x (neg-real f A (w .bound)) (w .value) (omega arith), units→le f x A (w .value) (w .bound) (omega arith))
 
 -- ---- the laws
-size-of : (f : Format) (z : Float) (P N c S : ℕ) → 0 < c → Is f z P N c → P - N ≤ S → N - P ≤ S → rnd f S c < overflow f → Real f z × (mag f z ≤ rnd f S c)
-size-of f z P N c S C i h k b =
+-- a result whose exact value is at most S / c units in size is at most that, rounded
+pub is-bounded : (f : Format) (z : Float) (P N c S : ℕ) → 0 < c → Is f z P N c → P - N ≤ S → N - P ≤ S → rnd f S c < overflow f → Real f z × (mag f z ≤ rnd f S c)
+is-bounded f z P N c S C i h k b =
     let u = rnd-le f (P - N) S c C h in
     let v = rnd-le f (N - P) S c C k in
     let t = i .small (lt-of-le-of-lt u b) (lt-of-le-of-lt v b) in
@@ -73,7 +74,7 @@ bound-of f B P N c C i z t =
 within : (f : Format) (z B : Float) (P N Q R c : ℕ) → 0 < c → Is f z P N c → Is f B Q R c → R ≡ 0 → T (finite B) → P - N ≤ Q → N - P ≤ Q → Within f z B
 within f z B P N Q R c C i j r t h k =
     let b = bound-of f B Q R c C j r t in
-    let s = size-of f z P N c Q C i h k (b .2) in
+    let s = is-bounded f z P N c Q C i h k (b .2) in
     record { value = s .0; bound = record { finite = t; fits = j .fits }; plus = b .1; le = le-trans (s .1) (le-of-eq (b .0)) }
 
 pub add-within : (f : Format) (x y A B : Float) → Within f x A → Within f y B → T (finite (add f A B)) → Within f (add f x y) (add f A B)
