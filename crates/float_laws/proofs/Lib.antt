@@ -10,3 +10,4 @@ pub mod Checker
 pub mod Nearest
 pub mod Pattern
 pub mod Relative
+pub mod Interpolate
