@@ -14,7 +14,7 @@ use Rattle.float_laws.proofs.Value.{mag, pl, mi, Real, mag-is, one-side
 use Rattle.float_laws.proofs.Operation.{add-Is, sub-Is, mul-Is, mul-differ, differ-le}
 use Rattle.float_laws.proofs.Error.{Near, is-near-le}
 
-unfoldable pub interpolate : Format → Float → Float → Float → Float
+abbrev pub interpolate : Format → Float → Float → Float → Float
 interpolate f a b t = add f a (mul f (sub f b a) t)
 
 -- ---- the exact value: a * L + (b - a) * t ≤ M * L + 2 * M * U, for -U ≤ t ≤ L + U, the numbers a, b and t as differences of two
@@ -110,7 +110,6 @@ module _ (f : Format) (a b t : Float) (M U j k l : ℕ) (ra : Real f a) (rb : Re
     (total : 2 * (M * 2 ^ low f) + 4 * (M * U) + 2 ^ (suc j - prec f) * mag f t + 2 ^ (k - prec f) * 2 ^ low f ≤ 2 ^ l * (2 * 2 ^ low f)) where
   by-exponents : Real f (interpolate f a b t)
       × (mag f (interpolate f a b t) * (2 * 2 ^ low f) ≤ 2 * (M * 2 ^ low f) + 4 * (M * U) + 2 ^ (suc j - prec f) * mag f t + 2 ^ (k - prec f) * 2 ^ low f + 2 ^ (l - prec f) * 2 ^ low f)
-  unfolding interpolate
   by-exponents =
       let L = 2 ^ low f in
       let E = 2 ^ (suc j - prec f) in

@@ -11,3 +11,5 @@ pub mod Nearest
 pub mod Pattern
 pub mod Relative
 pub mod Interpolate
+pub mod Close
+pub mod UnitVector
