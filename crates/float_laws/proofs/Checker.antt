@@ -1,19 +1,17 @@
 -- A checker by computation. `Ex` is straight-line float code; `eval` is its value, by the operations of `lib.Ieee`; `ival` computes an interval for it, with values of the format as ends.
 -- `sound`: a value lies in its interval, and is finite, wherever `ival` gives one. `check` is a Bool: where it computes to true, the fact is proved. `bisect` cuts one variable's interval as often as is needed.
 -- Assumes nothing.
-use mathlib.Core.Path.{_≡_, refl, sym, subst}
 use mathlib.Core.List.{List, [], _∷_}
 use mathlib.Core.Logic.{_⊎_, inl, inr}
 use Prim.Native.Nat.{ℕ, zero, suc}
 use mathlib.Core.Bool.{Bool, true, false, not, _&&_, cond}
-use lib.IntN.{pos, negsuc}
+use lib.IntN.{negsuc}
 use lib.Dec.{T}
 use native.Mathlib.Omega.{arith}
-use Prim.Native.Nat.{_+_, _≤_, _<_}
-use lib.Ieee.{Float, nan, inf, fin, Format, lt, le, neg, add, sub, mul, div, fits}
-use lib.Ieee.Fits.{and-i, and-l, and-r}
+use lib.Ieee.{Float, nan, fin, Format, lt, le, neg, add, sub, mul, div, fits}
+use lib.Ieee.Fits.{and-l, and-r}
 use lib.Ieee.Scale.{finite}
-use Rattle.float_laws.proofs.Value.{Real, pl, mi, le-refl, le-trans', nle→le, le→units, lt→units, nlt→units}
+use Rattle.float_laws.proofs.Value.{Real, le-refl, le-trans', nle→le, le→units, lt→units, nlt→units}
 use Rattle.float_laws.proofs.Interval.{In, least, most, least-is, most-is, nil, sq-low, add-in, sub-in, neg-in, mul-in, sq-in, div-in}
 
 -- ---- code. `pick a b c d` is `if a < b { c } else { d }`. `bind e b` is `let x = e; b`, with x as variable 0 of b and the others one up

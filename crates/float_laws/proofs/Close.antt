@@ -1,8 +1,8 @@
 -- Closeness of natural numbers: `Close K A B k S` says |A - B| ≤ k * S / K, so A and B agree but for k parts in K of a scale S.
 -- Errors of a computation of several steps are carried as such k, over one scale; k adds up in sums and chains. Assumes nothing.
-use mathlib.Core.Path.{_≡_, refl, sym, subst}
-use Prim.Native.Nat.{ℕ, suc, _+_, _*_, _≤_, _<_}
-use native.Mathlib.Nat.{le-trans, le-of-eq, mul-le-mul, mul-le-mul-right, mul-le-mul-left, le-of-mul-le-mul-right}
+use mathlib.Core.Path.{_≡_, subst}
+use Prim.Native.Nat.{ℕ, _+_, _*_, _≤_, _<_}
+use native.Mathlib.Nat.{mul-le-mul-right, mul-le-mul-left, le-of-mul-le-mul-right}
 use native.Mathlib.Omega.{arith}
 
 pub record Close (K A B k S : ℕ) : Type 0 where

@@ -1,9 +1,9 @@
 -- A value that the format holds is its own rounding, so it can be compared with a result by the laws on results: a ≤ a + b for b not below zero; and from a bound on x*x + y*y + z*z, as computed, bounds on |x|, |y| and |z|.
 -- Assumes nothing.
-use mathlib.Core.Path.{_≡_, refl, sym, ap, _∙_, subst}
+use mathlib.Core.Path.{_≡_, sym, ap, _∙_, subst}
 use mathlib.Core.Logic.{_⊎_, inl, inr}
-use Prim.Native.Nat.{ℕ, zero, suc, _+_, _-_, _*_, _/_, _%_, _^_, _≤_, _<_, zero-le}
-use native.Mathlib.Nat.{le-trans, le-of-eq, lt-of-not-le, not-le-of-lt, le-of-lt, mul-one, mul-assoc, zero-mul, zero-div, div-one, mul-div-cancel, sub-add-cancel, mul-le-mul}
+use Prim.Native.Nat.{ℕ, zero, suc, _+_, _-_, _*_, _/_, _%_, _^_, _≤_, _<_}
+use native.Mathlib.Nat.{le-trans, le-of-eq, not-le-of-lt, mul-one, mul-assoc, zero-mul, zero-div, div-one, mul-div-cancel, sub-add-cancel, mul-le-mul, mul-le-mul-right}
 use native.Mathlib.Omega.{arith}
 use mathlib.Core.Bool.{Bool, true, false, not, _&&_}
 use lib.IntN.{ℤ, pos, negsuc}
@@ -13,10 +13,10 @@ use lib.Ieee.{Float, nan, inf, fin, Format, prec, emax, low, up, down, le, add, 
 use lib.Ieee.Fits.{and-l, and-r, add-fits, mul-fits}
 use lib.Ieee.Scale.{finite}
 use Rattle.float_laws.proofs.Units.{rnd, rnd-exact, rnd-zero}
-use Rattle.float_laws.proofs.Value.{mag, pl, mi, Real, mag-is, one-side, units→le, le→units, le-trans', nle→le}
+use Rattle.float_laws.proofs.Value.{mag, pl, mi, Real, mag-is, one-side, units→le, le→units, le-trans'}
 use Rattle.float_laws.proofs.Operation.{Is, add-Is, mul-Is, rnd-order}
 use Rattle.float_laws.proofs.Size.{Within, add-fin}
-use Rattle.float_laws.proofs.Interval.{Over, Under, over-of, under-of}
+use Rattle.float_laws.proofs.Interval.{no-minus}
 
 -- ---- the units of a value are m * 2 ^ j
 exponent : (k l : ℕ) → 2 ^ k ≤ 2 ^ l → k ≤ l
@@ -99,9 +99,7 @@ none p n (inr z) = subst (λ (w : ℕ). p * w + w * p ≡ 0) (sym z) (omega arit
 
 pub sq-mi : (f : Format) (x : Float) → Real f x → T (finite (mul f x x)) → mi f (mul f x x) ≡ 0
 sq-mi f x r t =
-    mul-Is f x x r r .minus t
-    ∙ ap (λ (n : ℕ). rnd f n (2 ^ low f)) (let e = none (pl f x) (mi f x) (one-side f x) in let o : pl f x * mi f x + mi f x * pl f x - (pl f x * pl f x + mi f x * mi f x) ≡ 0 = omega arith in o)
-    ∙ rnd-zero f (2 ^ low f) (pow-pos (low f))
+    mul-Is f x x r r .minus t ∙ ap (λ (n : ℕ). rnd f n (2 ^ low f)) (no-minus (pl f x) (mi f x) (one-side f x)) ∙ rnd-zero f (2 ^ low f) (pow-pos (low f))
 
 square : (p n : ℕ) → (p ≡ 0) ⊎ (n ≡ 0) → p * p + n * n ≡ (p + n) * (p + n)
 square p n (inl z) = subst (λ (w : ℕ). w * w + n * n ≡ (w + n) * (w + n)) (sym z) (omega arith)
@@ -124,7 +122,7 @@ root-within f x c B r q b z t u h k = record { value = r; bound = q; plus = z; l
         (both (pl f c * pl f c + mi f c * mi f c) (pl f x * pl f x + mi f x * mi f x) (pl f c * mi f c + mi f c * pl f c) (pl f x * mi f x + mi f x * pl f x) (2 ^ low f) l nx)
       where
         both : (A S N M L : ℕ) → A ≤ S → M ≡ 0 → A * L + M * L ≤ S * L + N * L
-        both A S N M L h z = let k = native.Mathlib.Nat.mul-le-mul-right L h in subst (λ (n : ℕ). A * L + n * L ≤ S * L + N * L) (sym z) (omega arith)
+        both A S N M L h z = let k = mul-le-mul-right L h in subst (λ (n : ℕ). A * L + n * L ≤ S * L + N * L) (sym z) (omega arith)
 
     size : (v : Bool) → (T v → mag f x ≤ pl f c) → (T (not v) → pl f c < mag f x) → mag f x ≤ pl f c
     size true a d = a tt

@@ -1,9 +1,9 @@
 -- Linear interpolation as computed, a + (b - a) * t: for |a|, |b| ≤ M and 0 ≤ t ≤ 1 it is at most M in size but for three roundings, and so for a t that lies a little outside.
 -- The idea: with the exact b - a it is a * (1 - t) + b * t, a mean of a and b; each rounding adds half a unit in the last place of its own size. Assumes nothing.
-use mathlib.Core.Path.{_≡_, refl, sym, ap, _∙_, subst}
+use mathlib.Core.Path.{_≡_, sym, ap, subst}
 use mathlib.Core.Logic.{_⊎_, inl, inr}
 use Prim.Native.Nat.{ℕ, suc, _+_, _-_, _*_, _^_, _≤_, _<_, zero-le}
-use native.Mathlib.Nat.{le-trans, le-of-eq, mul-le-mul, mul-le-mul-right, mul-le-mul-left, le-of-mul-le-mul-right, mul-one, pow-suc}
+use native.Mathlib.Nat.{le-trans, le-of-eq, mul-le-mul, mul-le-mul-right, mul-le-mul-left, le-of-mul-le-mul-right, pow-suc, add-sub-of-le, le-of-lt, mul-pos, zero-mul}
 use native.Mathlib.Omega.{arith}
 use mathlib.Core.Bool.{Bool, true, false, not}
 use lib.Dec.{T, leb, leb→le, nleb→lt}
@@ -12,7 +12,7 @@ use lib.Ieee.{Float, Format, prec, emax, low, add, sub, mul}
 use lib.Ieee.Fits.{two, two-le-pos}
 use Rattle.float_laws.proofs.Value.{mag, pl, mi, Real, mag-is, one-side}
 use Rattle.float_laws.proofs.Operation.{add-Is, sub-Is, mul-Is, mul-differ, differ-le}
-use Rattle.float_laws.proofs.Error.{Near, is-near-le}
+use Rattle.float_laws.proofs.Error.{is-near-le}
 
 abbrev pub interpolate : Format → Float → Float → Float → Float
 interpolate f a b t = add f a (mul f (sub f b a) t)
@@ -43,10 +43,10 @@ mean : (a a' b b' t L M U : ℕ) → a ≤ M → a' ≤ M → b ≤ M → t ≤ 
 mean a a' b b' t L M U h h' k l = go (leb t L) (leb→le t L) (nleb→lt t L)
   where
     go : (c : Bool) → (T c → t ≤ L) → (T (not c) → L < t) → a * L + (b + a') * t ≤ a' * L + (b' + a) * t + (M * L + 2 * (M * U))
-    go true p q = subst (λ (n : ℕ). a * n + (b + a') * t ≤ a' * n + (b' + a) * t + (M * n + 2 * (M * U))) (native.Mathlib.Nat.add-sub-of-le (p tt)) (inner a a' b b' t (L - t) M U h k)
+    go true p q = subst (λ (n : ℕ). a * n + (b + a') * t ≤ a' * n + (b' + a) * t + (M * n + 2 * (M * U))) (add-sub-of-le (p tt)) (inner a a' b b' t (L - t) M U h k)
     go false p q =
-        let g = native.Mathlib.Nat.le-of-lt (q tt) in
-        subst (λ (n : ℕ). a * L + (b + a') * n ≤ a' * L + (b' + a) * n + (M * L + 2 * (M * U))) (native.Mathlib.Nat.add-sub-of-le g)
+        let g = le-of-lt (q tt) in
+        subst (λ (n : ℕ). a * L + (b + a') * n ≤ a' * L + (b' + a) * n + (M * L + 2 * (M * U))) (add-sub-of-le g)
         (beyond a a' b b' L (t - L) M U h' k (let o : t - L ≤ U = omega arith in o))
 
 -- ---- with the first two roundings: d is b - a but for E / 2, p is d * t / L but for F / 2, so a + p is at most this much, twice and times L
@@ -92,12 +92,12 @@ turned p p' d d' t t' L F h = omega arith
 halved : (u v X J L : ℕ) → 0 < L → u * (2 * L) ≤ v * (2 * L) + X → X ≤ J * (2 * L) → u - v ≤ J * 1
 halved u v X J L l h k =
     let g : u * (2 * L) ≤ (v + J) * (2 * L) = omega arith in
-    let m : u ≤ v + J = le-of-mul-le-mul-right g (native.Mathlib.Nat.mul-pos (pow-pos 1) l) in
+    let m : u ≤ v + J = le-of-mul-le-mul-right g (mul-pos (pow-pos 1) l) in
     omega arith
 
 -- the last rounding
 closing : (r r' u v X G L : ℕ) → (r ≡ 0) ⊎ (r' ≡ 0) → (r * 1 + v) * 2 ≤ (r' * 1 + u) * 2 + G * 1 → u * (2 * L) ≤ v * (2 * L) + X → r * (2 * L) ≤ X + G * L
-closing r r' u v X G L (inl z) h k = subst (λ (n : ℕ). n * (2 * L) ≤ X + G * L) (sym z) (le-trans (le-of-eq (native.Mathlib.Nat.zero-mul (2 * L))) zero-le)
+closing r r' u v X G L (inl z) h k = subst (λ (n : ℕ). n * (2 * L) ≤ X + G * L) (sym z) (le-trans (le-of-eq (zero-mul (2 * L))) zero-le)
 closing r r' u v X G L (inr z) h k =
     let g : (r * 1 + v) * 2 ≤ (0 * 1 + u) * 2 + G * 1 = subst (λ (n : ℕ). (r * 1 + v) * 2 ≤ (n * 1 + u) * 2 + G * 1) z h in
     let m : (r * 1 + v) * 2 * L ≤ ((0 * 1 + u) * 2 + G * 1) * L = mul-le-mul-right L g in
@@ -179,7 +179,7 @@ interpolate-inside f a b t M j ra rb rt ha hb hM z ht o =
         let x : E * t ≤ e * 2 * L = mul-le-mul g k in
         let y : E * L ≤ e * 2 * L = mul-le-mul-right L g in
         let c : m * (2 * L) ≤ (M + 3 * e) * (2 * L) = omega arith in
-        le-of-mul-le-mul-right c (native.Mathlib.Nat.mul-pos (pow-pos 1) l)
+        le-of-mul-le-mul-right c (mul-pos (pow-pos 1) l)
 
 -- -U ≤ t ≤ 1 + U, in units, for a U of 1 at most: 2 * M * U more, and eight units in the last place of 2 ^ j
 pub interpolate-outside : (f : Format) (a b t : Float) (M U j : ℕ) → Real f a → Real f b → Real f t → mag f a ≤ M → mag f b ≤ M → M ≤ 2 ^ j → U ≤ 2 ^ low f → mi f t ≤ U → pl f t ≤ 2 ^ low f + U → j + 2 < low f + emax f

@@ -2,18 +2,18 @@
 -- Assumes nothing.
 use mathlib.Core.Path.{_≡_, refl, sym, ap, _∙_, subst}
 use mathlib.Core.Logic.{_⊎_, inl, inr}
-use Prim.Native.Nat.{ℕ, zero, suc, _+_, _-_, _*_, _/_, _%_, _^_, _≤_, _<_, zero-le}
-use native.Mathlib.Nat.{le-trans, le-of-eq, lt-of-le-of-lt, lt-of-lt-of-le, mul-le-mul, mul-le-mul-right, mul-le-mul-left, mul-comm, mul-assoc, mul-left-comm, mul-right-comm}
+use Prim.Native.Nat.{ℕ, _+_, _-_, _*_, _/_, _^_, _≤_, _<_, zero-le}
+use native.Mathlib.Nat.{le-trans, le-of-eq, lt-of-lt-of-le, mul-le-mul-right, mul-le-mul-left, eq-zero-or-pos, lt-irrefl, zero-mul}
 use native.Mathlib.Omega.{arith}
-use mathlib.Core.Bool.{Bool, true, false, not, _&&_, _||_, cond}
-use lib.IntN.{ℤ, pos}
-use lib.Dec.{T, leb, ltb, leb→le, ltb→lt}
+use mathlib.Core.Bool.{Bool, true, false, not, cond}
+use lib.IntN.{pos}
+use lib.Dec.{T, T-not}
 use lib.Pow.{pow-pos}
-use lib.Ieee.{Float, nan, inf, fin, Format, low, up, down, le, lt, neg, add, sub, mul, div, fits}
-use lib.Ieee.Fits.{and-l, and-r, add-fits, mul-fits, sub-fits, div-fits}
+use lib.Ieee.{Float, nan, inf, fin, Format, low, up, le, neg, add, sub, mul, div, fits}
+use lib.Ieee.Fits.{add-fits, mul-fits, sub-fits, div-fits}
 use lib.Ieee.Scale.{finite, overflow}
 use Rattle.float_laws.proofs.Units.{rnd, rnd-zero}
-use Rattle.float_laws.proofs.Value.{sign, sp, sn, mag, pl, mi, Real, mag-is, under, one-side, units→le, le→units, le-refl, le-trans', nle→le, neg-real, neg-pl, neg-mi}
+use Rattle.float_laws.proofs.Value.{sign, sp, mag, pl, mi, Real, mag-is, under, one-side, units→le, le→units, le-refl, le-trans', nle→le, neg-real, neg-pl, neg-mi}
 use Rattle.float_laws.proofs.Operation.{Is, add-Is, sub-Is, mul-Is, div-Is, is-mag, scale-differ, rnd-order}
 
 -- lo ≤ x ≤ hi, all finite
@@ -262,7 +262,7 @@ nil-real f = record { finite = tt; fits = tt }
 
 nil-mag : (f : Format) → mag f nil ≡ 0
 unfolding mag
-nil-mag f = ap (λ (n : ℕ). n / 1) (native.Mathlib.Nat.zero-mul (2 ^ low f))
+nil-mag f = ap (λ (n : ℕ). n / 1) (zero-mul (2 ^ low f))
 
 pub nil-pl : (f : Format) → pl f nil ≡ 0
 unfolding pl
@@ -287,7 +287,8 @@ to-zero f x r h =
     let q = p .0 in
     omega arith
 
-no-minus : (p n : ℕ) → (p ≡ 0) ⊎ (n ≡ 0) → p * n + n * p - (p * p + n * n) ≡ 0
+-- a square has no minus part
+pub no-minus : (p n : ℕ) → (p ≡ 0) ⊎ (n ≡ 0) → p * n + n * p - (p * p + n * n) ≡ 0
 no-minus p n (inl z) = subst (λ (w : ℕ). w * n + n * w - (w * w + n * n) ≡ 0) (sym z) (omega arith)
 no-minus p n (inr z) = subst (λ (w : ℕ). p * w + w * p - (p * p + w * w) ≡ 0) (sym z) (omega arith)
 
@@ -356,7 +357,7 @@ sign-of f y = go (sign y)
   where
     go : (s : Bool) → 0 < sp s (mag f y) → s ≡ false
     go false h = refl
-    go true h = absurd (native.Mathlib.Nat.lt-irrefl 0 h)
+    go true h = absurd (lt-irrefl 0 h)
 
 pub div-Is' : (f : Format) (x y : Float) → Real f x → Real f y → 0 < pl f y → Is f (div f x y) (pl f x * 2 ^ low f) (mi f x * 2 ^ low f) (pl f y)
 div-Is' f x y r q h =
@@ -383,8 +384,8 @@ q4 xp xn ap' an L c y z h k = subst (λ (w : ℕ). w * L * y + xn * L * c ≤ xp
 
 module _ (f : Format) (a b c d x y : Float) (i : In f a b x) (j : In f c d y) (C : T (not (le c nil))) where
   c-pos : 0 < pl f c
-  c-pos = elim (native.Mathlib.Nat.eq-zero-or-pos (pl f c)) [
-    | inl z ↦ absurd (lib.Dec.T-not (le c nil) C (units→le f c nil (j .low) (nil-real f) (let u = nil-pl f in let v = nil-mi f in omega arith)))
+  c-pos = elim (eq-zero-or-pos (pl f c)) [
+    | inl z ↦ absurd (T-not (le c nil) C (units→le f c nil (j .low) (nil-real f) (let u = nil-pl f in let v = nil-mi f in omega arith)))
     | inr p ↦ p
   ]
 

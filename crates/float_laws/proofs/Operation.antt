@@ -2,21 +2,22 @@
 -- From there order, size and error of a result are facts on ℕ about `rnd`. Assumes nothing.
 use mathlib.Core.Path.{_≡_, refl, sym, ap, _∙_, subst}
 use mathlib.Core.Logic.{_⊎_, inl, inr}
-use Prim.Native.Nat.{ℕ, zero, suc, _+_, _-_, _*_, _/_, _%_, _^_, _≤_, _<_, zero-le, compare}
-use native.Mathlib.Nat.{le-trans, le-of-eq, le-of-lt, lt-of-le-of-lt, add-mul, zero-mul, zero-add, mul-zero, add-zero, mul-one, mul-comm, mul-assoc, mul-left-comm, mul-right-comm, mul-le-mul-right, le-of-mul-le-mul-right, mul-pos, mul-sub, mul-mul-mul-comm, sub-eq-zero-of-le}
+use Prim.Native.Nat.{ℕ, suc, _+_, _-_, _*_, _^_, _≤_, _<_}
+use native.Mathlib.Nat.{le-trans, le-of-eq, le-of-lt, lt-of-le-of-lt, mul-one, mul-comm, mul-assoc, mul-left-comm, mul-right-comm, mul-le-mul-right, le-of-mul-le-mul-right, mul-pos, mul-sub, mul-mul-mul-comm}
 use native.Mathlib.Omega.{arith}
-use mathlib.Core.Bool.{Bool, true, false, not, _&&_, _||_, Bool·beq, cond}
-use lib.Dec.{T, leb, ltb, eqb, leb→le, ltb→lt, lt→ltb, eqb→eq, nltb→le}
+use mathlib.Core.Bool.{Bool, true, false, not, _&&_, cond}
+use lib.Dec.{T, ltb, eqb, ltb→lt, eqb→eq, nltb→le}
 use lib.Pow.{pow-pos}
-use lib.Ieee.{Float, nan, inf, fin, Format, prec, emax, low, up, down, unlike, size, odd, units, round, sum, le, neg, add, sub, mul, div, fits}
-use lib.Ieee.Fits.{round-is, round-fits, add-fits, mul-fits, div-fits, sub-fits, down-pos, neg-fits}
+use lib.Ieee.{Float, nan, inf, fin, Format, prec, low, up, down, unlike, odd, units, round, sum, le, neg, add, sub, mul, div, fits}
+use lib.Ieee.Fits.{round-is, round-fits, down-pos, up-pos}
 use lib.Ieee.Exact.{HasValue, units-val}
 use lib.Ieee.Scale.{finite, overflow}
 use lib.Ieee.Order.{drop, kept}
-use lib.Ieee.Positive.{num, den, den-pos, first-pos}
-use Rattle.float_laws.proofs.Units.{rnd, rnd-same, rnd-mono, rnd-le, rnd-zero}
-use Rattle.float_laws.proofs.Value.{sign, mag, sp, sn, pl, mi, Real, units-of, mag-of, mag-is, under, one-side, units→le, le→units, neg-real, neg-pl, neg-mi}
+use lib.Ieee.Positive.{first-pos}
+use Rattle.float_laws.proofs.Units.{rnd, rnd-same, rnd-mono, rnd-zero}
+use Rattle.float_laws.proofs.Value.{sign, mag, sp, sn, pl, mi, Real, units-of, mag-of, mag-is, under, one-side, cross, cross', units→le, neg-real, neg-pl, neg-mi}
 
+-- z is (P - N) / c units, rounded once: what it fits, when it is finite, and its two parts
 pub record Is (f : Format) (z : Float) (P N c : ℕ) : Type 0 where
   pub fits : T (fits f z)
   pub small : rnd f (P - N) c < overflow f → rnd f (N - P) c < overflow f → T (finite z)
@@ -67,12 +68,6 @@ round-Is f s a b P N c n B C e p q =
     }
 
 -- ---- the sum
-cross : (n d L M c : ℕ) → n * L ≡ M * d → n * c * L ≡ M * (d * c)
-cross n d L M c e = mul-right-comm n c L ∙ ap (λ (x : ℕ). x * c) e ∙ mul-assoc M d c
-
-cross' : (n d L M c : ℕ) → n * L ≡ M * d → n * c * L ≡ M * (c * d)
-cross' n d L M c e = cross n d L M c e ∙ ap (λ (x : ℕ). M * x) (mul-comm d c)
-
 both : (A B M N L C : ℕ) → A * L ≡ M * C → B * L ≡ N * C → (A + B) * L * 1 ≡ (M + N) * C
 both A B M N L C p q = omega arith
 
@@ -190,7 +185,7 @@ div-Is f (fin s m e) (fin t n d) r q h =
     let N = mag f (fin t n d) in
     let np : 0 < n = first-pos n (up d) (no-zero (n * up d) (2 ^ low f) N (down d) (units-of f (fin t n d) q) h (down-pos d)) in
     let ip = round-Is f (unlike s t) (m * up e * down d) (n * up d * down e) (cond t (sn s M) (sp s M) * 2 ^ low f) (cond t (sp s M) (sn s M) * 2 ^ low f) N (M * 2 ^ low f)
-    (mul-pos (mul-pos np (lib.Ieee.Fits.up-pos d)) (down-pos e)) h
+    (mul-pos (mul-pos np (up-pos d)) (down-pos e)) h
     (over (m * up e) (down e) (n * up d) (down d) (2 ^ low f) M N (units-of f (fin s m e) r) (units-of f (fin t n d) q))
     (quot-pl s t M N (2 ^ low f) h) (quot-mi s t M N (2 ^ low f) h) in
     go (eqb n 0) (eqb→eq n 0) np ip

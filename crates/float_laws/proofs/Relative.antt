@@ -1,10 +1,10 @@
 -- The error of one rounding, relative: |z - v| ≤ |v| / 2 ^ prec in the normal range, and half a unit more where v may be subnormal. A sum and a difference are exact there, so they never need the half unit.
 -- The idea: 2 ^ (j - 1) ≤ v < 2 ^ j for some j, and half a unit in v's last place, 2 ^ (j - 1 - prec), is then at most v / 2 ^ prec. Assumes nothing.
-use mathlib.Core.Path.{_≡_, refl, sym, ap, _∙_, subst}
-use Prim.Native.Nat.{ℕ, suc, _+_, _-_, _*_, _/_, _^_, _≤_, _<_, zero-le}
-use native.Mathlib.Nat.{le-trans, le-of-eq, le-of-lt, lt-of-lt-of-le, mul-one, mul-le-mul-right, mul-assoc, mul-comm, mul-right-comm, sub-add-cancel, le-div-iff-mul-le, div-lt-iff-lt-mul, pow-suc, sub-self}
+use mathlib.Core.Path.{_≡_, sym, ap, _∙_, subst}
+use Prim.Native.Nat.{ℕ, suc, _+_, _-_, _*_, _/_, _^_, _≤_, _<_}
+use native.Mathlib.Nat.{le-trans, le-of-eq, mul-one, mul-le-mul-right, mul-right-comm, sub-add-cancel, le-div-iff-mul-le, div-lt-iff-lt-mul, pow-suc, sub-self, sub-le}
 use native.Mathlib.Omega.{arith}
-use mathlib.Core.Logic.{_⊎_, inl, inr}
+use mathlib.Core.Logic.{inl, inr}
 use mathlib.Core.Bool.{Bool, true, false, not}
 use lib.Dec.{T, ltb, ltb→lt, nltb→le}
 use lib.Pow.{pow-add, pow-pos, pow-mono}
@@ -13,7 +13,7 @@ use lib.Ieee.Digits.{size-lt, size-reaches}
 use lib.Ieee.Fits.{two, two-le-pos}
 use lib.Ieee.Scale.{finite}
 use Rattle.float_laws.proofs.Units.{rnd, rnd-err, rnd-exact, rnd-zero, size-gt}
-use Rattle.float_laws.proofs.Value.{mag, pl, mi, Real, mag-is, one-side}
+use Rattle.float_laws.proofs.Value.{mag, pl, mi, Real}
 use Rattle.float_laws.proofs.Operation.{Is, Differ, differ-le, mul-differ, scale-differ, add-Is, sub-Is, mul-Is}
 use Rattle.float_laws.proofs.Interval.{div-Is'}
 use Rattle.float_laws.proofs.Error.{is-off}
@@ -53,7 +53,7 @@ rnd-rel-any f n c C = go (ltb n (2 ^ prec f * c)) (ltb→lt n (2 ^ prec f * c)) 
     K = 2 ^ prec f
 
     low-half : 2 ^ (prec f - 1) * c ≤ 2 ^ prec f * c
-    low-half = mul-le-mul-right c (pow-mono (native.Mathlib.Nat.sub-le (prec f) 1))
+    low-half = mul-le-mul-right c (pow-mono (sub-le (prec f) 1))
 
     normal : (r n K e : ℕ) → (r * K ≤ n * (K + 1)) × (n * K ≤ r * K + n) → (r * 2 * K ≤ n * 2 * (K + 1) + e) × (n * 2 * K ≤ r * 2 * K + n * 2 + e)
     normal r n K e h = let a = h .0 in let b = h .1 in (omega arith, omega arith)
@@ -78,7 +78,7 @@ rnd-rel-whole f n = go (ltb n (2 ^ prec f)) (ltb→lt n (2 ^ prec f)) (nltb→le
 
     go : (b : Bool) → (T b → n < 2 ^ prec f) → (T (not b) → 2 ^ prec f ≤ n) → (rnd f n 1 * 1 * 2 ^ prec f ≤ n * (2 ^ prec f + 1)) × (n * 2 ^ prec f ≤ rnd f n 1 * 1 * 2 ^ prec f + n)
     go true a b = exact (rnd f n 1) n (2 ^ prec f) (ap (λ (x : ℕ). rnd f x 1) (sym (mul-one (n * 2 ^ 0) ∙ mul-one n)) ∙ rnd-exact f n 0 1 (pow-pos 0) (a tt) ∙ mul-one n)
-    go false a b = rnd-rel f n 1 (pow-pos 0) (le-trans (le-of-eq (mul-one (2 ^ (prec f - 1)))) (le-trans (pow-mono (native.Mathlib.Nat.sub-le (prec f) 1)) (b tt)))
+    go false a b = rnd-rel f n 1 (pow-pos 0) (le-trans (le-of-eq (mul-one (2 ^ (prec f - 1)))) (le-trans (pow-mono (sub-le (prec f) 1)) (b tt)))
 
 -- ---- of a result: |z - (P - N) / c| ≤ A / c / 2 ^ prec + h / 2 units, where A is at least |P - N|; h is 0 in the normal range and for sums, else 1
 pub record Relative (f : Format) (z : Float) (P N c A h : ℕ) : Type 0 where

@@ -4,34 +4,34 @@
 -- All is carried as `Close` over the scales G and Q * L. The same for two components, of a vector in the plane. Assumes nothing.
 use mathlib.Core.Path.{_≡_, refl, sym, ap, _∙_, subst}
 use mathlib.Core.Logic.{_⊎_, inl, inr}
-use Prim.Native.Nat.{ℕ, suc, _+_, _-_, _*_, _^_, _≤_, _<_, zero-le}
-use native.Mathlib.Nat.{le-trans, le-of-eq, lt-of-lt-of-le, mul-one, mul-assoc, mul-comm, mul-le-mul, mul-le-mul-right, mul-le-mul-left, le-of-mul-le-mul-right, mul-pos}
+use Prim.Native.Nat.{ℕ, suc, _+_, _-_, _*_, _^_, _≤_, _<_}
+use native.Mathlib.Nat.{le-trans, le-of-eq, lt-of-lt-of-le, mul-assoc, mul-comm, mul-le-mul, mul-le-mul-right, mul-le-mul-left, le-of-mul-le-mul-right, mul-pos, add-suc, eq-zero-or-pos, le-add-left, le-add-right, le-refl, not-le-of-lt, pow-suc, sub-add-cancel, zero-lt-suc, zero-mul}
 use native.Mathlib.Omega.{arith}
 use mathlib.Core.Bool.{Bool, true, false, not}
 use lib.Dec.{T, leb, leb→le, nleb→lt}
 use lib.Pow.{pow-add, pow-pos, pow-mono}
 use lib.Ieee.{Float, Format, binary32, binary64, prec, emax, low, add, mul, div}
-use lib.Ieee.Scale.{finite}
 use Rattle.float_laws.proofs.Units.{rnd, rnd-zero}
-use Rattle.float_laws.proofs.Value.{mag, pl, mi, Real, mag-is, one-side}
+use Rattle.float_laws.proofs.Value.{mag, pl, mi, Real, mag-is}
 use Rattle.float_laws.proofs.Operation.{add-Is, mul-Is, mul-differ, scale-differ, differ-le, mul-mag}
 use Rattle.float_laws.proofs.Interval.{div-Is', div-mag}
 use Rattle.float_laws.proofs.Exact.{sq-mi}
 use Rattle.float_laws.proofs.Error.{is-near-le}
 use Rattle.float_laws.proofs.Relative.{rnd-rel-any, rnd-rel-whole}
-use Rattle.float_laws.proofs.Close.{Close, close-sym, close-wider, close-parts, close-trans, close-add, close-scale, close-unscale, close-square}
+use Rattle.float_laws.proofs.Close.{Close, close-parts, close-trans, close-add, close-scale, close-unscale, close-square}
 
 digits : (f : Format) → 24 ≤ prec f
 digits binary32 = omega arith
 digits binary64 = omega arith
 
 -- a part in 2 ^ 20 is sixteen in 2 ^ prec, at least
-parts-of : (f : Format) {A B k S : ℕ} (l : ℕ) → k ≤ l * 16 → Close (2 ^ prec f) A B k S → Close (2 ^ 20) A B l S
-parts-of f l h c =
+sixteen : (f : Format) → (2 ^ prec f ≡ 2 ^ 20 * 2 ^ (prec f - 20)) × (16 ≤ 2 ^ (prec f - 20))
+sixteen f =
     let d = digits f in
-    let e : 2 ^ prec f ≡ 2 ^ 20 * 2 ^ (prec f - 20) = ap (λ (n : ℕ). 2 ^ n) (let o : prec f ≡ 20 + (prec f - 20) = omega arith in o) ∙ pow-add 2 20 (prec f - 20) in
-    let g : 16 ≤ 2 ^ (prec f - 20) = pow-mono (let o : 4 ≤ prec f - 20 = omega arith in o) in
-    close-parts (2 ^ 20) (2 ^ (prec f - 20)) l (pow-pos (prec f - 20)) e (le-trans h (mul-le-mul-left l g)) c
+    (ap (λ (n : ℕ). 2 ^ n) (let o : prec f ≡ 20 + (prec f - 20) = omega arith in o) ∙ pow-add 2 20 (prec f - 20), pow-mono (let o : 4 ≤ prec f - 20 = omega arith in o))
+
+parts-of : (f : Format) {A B k S : ℕ} (l : ℕ) → k ≤ l * 16 → Close (2 ^ prec f) A B k S → Close (2 ^ 20) A B l S
+parts-of f l h c = let g = sixteen f in close-parts (2 ^ 20) (2 ^ (prec f - 20)) l (pow-pos (prec f - 20)) (g .0) (le-trans h (mul-le-mul-left l (g .1))) c
 
 eight : (f : Format) → 8 ≤ 2 ^ prec f
 eight f = pow-mono (let d = digits f in let o : 3 ≤ prec f = omega arith in o)
@@ -66,7 +66,7 @@ right a b G h = omega arith
 
 doubled : (a b l k : ℕ) → a ≤ 2 ^ (l + k) → b ≤ 2 ^ (l + k) → a + b ≤ 2 ^ (l + suc k)
 doubled a b l k h g =
-    let e : 2 ^ (l + suc k) ≡ 2 ^ (l + k) * 2 = ap (λ (n : ℕ). 2 ^ n) (native.Mathlib.Nat.add-suc l k) ∙ native.Mathlib.Nat.pow-suc 2 (l + k) in
+    let e : 2 ^ (l + suc k) ≡ 2 ^ (l + k) * 2 = ap (λ (n : ℕ). 2 ^ n) (add-suc l k) ∙ pow-suc 2 (l + k) in
     omega arith
 
 -- s is a + b, and a * L, b * L are A, B, all but for a few parts in K
@@ -78,7 +78,7 @@ joined L G K h s a b A B k l g w c p q =
     let x : (k + l) * G ≤ K * G = mul-le-mul-right G (le-trans g h) in
     let y : (A + B) * K ≤ G * K = mul-le-mul-right K w in
     let z : (a + b) * L * K ≤ 2 * G * K = omega arith in
-    let t : (a + b) * L ≤ 2 * G = le-of-mul-le-mul-right z (lt-of-lt-of-le (native.Mathlib.Nat.zero-lt-suc 7) h) in
+    let t : (a + b) * L ≤ 2 * G = le-of-mul-le-mul-right z (lt-of-lt-of-le (zero-lt-suc 7) h) in
     let m : s * K * L ≤ ((a + b) * K + 1 * (a + b)) * L = mul-le-mul-right L (c .above) in
     let n : (a + b) * K * L ≤ (s * K + 1 * (a + b)) * L = mul-le-mul-right L (c .below) in
     record { above = omega arith; below = omega arith }
@@ -120,9 +120,12 @@ module _ (f : Format) (e : ℕ) (he : e * 2 + 2 ≤ emax f) (G : ℕ) (long : 2 
       let z = sq-mi f x r t in
       let m = mag-is f xx in
       let c = n .1 in
-      let p : pl f xx ≡ mag f xx = omega arith in
-      (n .0, z, (let q : pl f xx ≤ 2 ^ (low f + (e + e)) = omega arith in q),
-      subst (λ (s : ℕ). Close (2 ^ prec f) (s * L) (mag f x * mag f x) 2 G) (sym (p ∙ mul-mag f x x r r t)) (squared (rnd f (mag f x * mag f x) L) (mag f x) G (2 ^ prec f) L g tiny (rnd-rel-any f (mag f x * mag f x) L (pow-pos (low f)))))
+      let p : pl f xx ≡ mag f xx = omega arith in (
+        n .0,
+        z,
+        (let q : pl f xx ≤ 2 ^ (low f + (e + e)) = omega arith in q),
+        subst (λ (s : ℕ). Close (2 ^ prec f) (s * L) (mag f x * mag f x) 2 G) (sym (p ∙ mul-mag f x x r r t)) (squared (rnd f (mag f x * mag f x) L) (mag f x) G (2 ^ prec f) L g tiny (rnd-rel-any f (mag f x * mag f x) L (pow-pos (low f)))),
+      )
 
   -- two and three squares, added
   two-close : (x y : Float) → Real f x → Real f y → mag f x ≤ 2 ^ (low f + e) → mag f y ≤ 2 ^ (low f + e) → mag f x * mag f x + mag f y * mag f y ≤ G
@@ -184,7 +187,7 @@ module _ (f : Format) (q : Float) (rq : Real f q) (pos : 0 < pl f q) where
       let X = mag f x in
       let d = digits f in
       let w : X ≤ 2 * Q = sq-le X (2 * Q) (omega arith) in
-      let b : X * L ≤ 2 ^ suc (low f) * Q = le-trans (mul-le-mul-right L w) (le-of-eq (turn (2 ^ suc (low f)) L Q (native.Mathlib.Nat.pow-suc 2 (low f)))) in
+      let b : X * L ≤ 2 ^ suc (low f) * Q = le-trans (mul-le-mul-right L w) (le-of-eq (turn (2 ^ suc (low f)) L Q (pow-suc 2 (low f)))) in
       let dl = differ-le _ _ _ (scale-differ f x L) in
       let n = is-near-le f (div f x q) _ _ Q (suc (low f)) pos (div-Is' f x q r rq pos) (le-trans (dl .0) b) (le-trans (dl .1) b) (let o : suc (low f) < low f + suc (emax f) = wide f in o) in
       let m = div-mag f x q r rq pos (n .0 .finite) in
@@ -207,7 +210,7 @@ pub record Norm (f : Format) (s : Float) (G : ℕ) : Type 0 where
 -- one component of at least 2 ^ -e makes the sum of squares at least 2 ^ -2e
 long-enough : (f : Format) (e X G : ℕ) → e ≤ low f → 2 ^ (low f - e) ≤ X → X * X ≤ G → 2 ^ low f * 2 ^ low f ≤ G * 2 ^ (e + e)
 long-enough f e X G h g k =
-    let a : 2 ^ low f ≡ 2 ^ (low f - e) * 2 ^ e = ap (λ (n : ℕ). 2 ^ n) (sym (native.Mathlib.Nat.sub-add-cancel h)) ∙ pow-add 2 (low f - e) e in
+    let a : 2 ^ low f ≡ 2 ^ (low f - e) * 2 ^ e = ap (λ (n : ℕ). 2 ^ n) (sym (sub-add-cancel h)) ∙ pow-add 2 (low f - e) e in
     let b : 2 ^ low f ≤ X * 2 ^ e = le-trans (le-of-eq a) (mul-le-mul-right (2 ^ e) g) in
     let c : 2 ^ low f * 2 ^ low f ≤ X * 2 ^ e * (X * 2 ^ e) = mul-le-mul b b in
     let d : X * X * (2 ^ e * 2 ^ e) ≤ G * (2 ^ e * 2 ^ e) = mul-le-mul-right (2 ^ e * 2 ^ e) k in
@@ -220,17 +223,17 @@ low-room : (f : Format) (e : ℕ) → e * 2 + 2 ≤ emax f → e ≤ low f
 low-room f e h = let d = digits f in omega arith
 
 pub long2 : (f : Format) (e X Y : ℕ) → e * 2 + 2 ≤ emax f → (2 ^ (low f - e) ≤ X) ⊎ (2 ^ (low f - e) ≤ Y) → 2 ^ low f * 2 ^ low f ≤ (X * X + Y * Y) * 2 ^ (e + e)
-long2 f e X Y h (inl g) = long-enough f e X (X * X + Y * Y) (low-room f e h) g (left (X * X) (Y * Y) (X * X + Y * Y) (native.Mathlib.Nat.le-refl (X * X + Y * Y)))
-long2 f e X Y h (inr g) = long-enough f e Y (X * X + Y * Y) (low-room f e h) g (right (X * X) (Y * Y) (X * X + Y * Y) (native.Mathlib.Nat.le-refl (X * X + Y * Y)))
+long2 f e X Y h (inl g) = long-enough f e X (X * X + Y * Y) (low-room f e h) g (left (X * X) (Y * Y) (X * X + Y * Y) (le-refl (X * X + Y * Y)))
+long2 f e X Y h (inr g) = long-enough f e Y (X * X + Y * Y) (low-room f e h) g (right (X * X) (Y * Y) (X * X + Y * Y) (le-refl (X * X + Y * Y)))
 
 pub long3 : (f : Format) (e X Y Z : ℕ) → e * 2 + 2 ≤ emax f → (2 ^ (low f - e) ≤ X) ⊎ (2 ^ (low f - e) ≤ Y) ⊎ (2 ^ (low f - e) ≤ Z) → 2 ^ low f * 2 ^ low f ≤ (X * X + Y * Y + Z * Z) * 2 ^ (e + e)
-long3 f e X Y Z h (inl g) = le-trans (long2 f e X Y h (inl g)) (mul-le-mul-right (2 ^ (e + e)) (native.Mathlib.Nat.le-add-right (X * X + Y * Y) (Z * Z)))
-long3 f e X Y Z h (inr (inl g)) = le-trans (long2 f e X Y h (inr g)) (mul-le-mul-right (2 ^ (e + e)) (native.Mathlib.Nat.le-add-right (X * X + Y * Y) (Z * Z)))
-long3 f e X Y Z h (inr (inr g)) = long-enough f e Z (X * X + Y * Y + Z * Z) (low-room f e h) g (native.Mathlib.Nat.le-add-left (Z * Z) (X * X + Y * Y))
+long3 f e X Y Z h (inl g) = le-trans (long2 f e X Y h (inl g)) (mul-le-mul-right (2 ^ (e + e)) (le-add-right (X * X + Y * Y) (Z * Z)))
+long3 f e X Y Z h (inr (inl g)) = le-trans (long2 f e X Y h (inr g)) (mul-le-mul-right (2 ^ (e + e)) (le-add-right (X * X + Y * Y) (Z * Z)))
+long3 f e X Y Z h (inr (inr g)) = long-enough f e Z (X * X + Y * Y + Z * Z) (low-room f e h) g (le-add-left (Z * Z) (X * X + Y * Y))
 
 pub long-some : (f : Format) (e G : ℕ) → 2 ^ low f * 2 ^ low f ≤ G * 2 ^ (e + e) → 0 < G
-long-some f e G h = elim (native.Mathlib.Nat.eq-zero-or-pos G) [
-  | inl z ↦ absurd (native.Mathlib.Nat.not-le-of-lt (mul-pos (pow-pos (low f)) (pow-pos (low f))) (le-trans h (le-of-eq (ap (λ (n : ℕ). n * 2 ^ (e + e)) z ∙ native.Mathlib.Nat.zero-mul (2 ^ (e + e))))))
+long-some f e G h = elim (eq-zero-or-pos G) [
+  | inl z ↦ absurd (not-le-of-lt (mul-pos (pow-pos (low f)) (pow-pos (low f))) (le-trans h (le-of-eq (ap (λ (n : ℕ). n * 2 ^ (e + e)) z ∙ zero-mul (2 ^ (e + e))))))
   | inr p ↦ p
 ]
 
@@ -238,14 +241,14 @@ long-some f e G h = elim (native.Mathlib.Nat.eq-zero-or-pos G) [
 pub squares2-norm : (f : Format) (e : ℕ) → e * 2 + 2 ≤ emax f → (x y : Float) → Real f x → Real f y → mag f x ≤ 2 ^ (low f + e) → mag f y ≤ 2 ^ (low f + e)
     → 2 ^ low f * 2 ^ low f ≤ (mag f x * mag f x + mag f y * mag f y) * 2 ^ (e + e) → Norm f (squares2 f x y) (mag f x * mag f x + mag f y * mag f y) × (pl f (squares2 f x y) ≤ 2 ^ (low f + suc (e + e)))
 squares2-norm f e he x y rx ry hx hy long =
-    let c = two-close f e he (mag f x * mag f x + mag f y * mag f y) long x y rx ry hx hy (native.Mathlib.Nat.le-refl (mag f x * mag f x + mag f y * mag f y)) in
+    let c = two-close f e he (mag f x * mag f x + mag f y * mag f y) long x y rx ry hx hy (le-refl (mag f x * mag f x + mag f y * mag f y)) in
     (record { value = c .0; plus = c .1; close = parts-of f 1 (omega arith) (c .3) }, c .2)
 
 pub squares3-norm : (f : Format) (e : ℕ) → e * 2 + 2 ≤ emax f → (x y z : Float) → Real f x → Real f y → Real f z → mag f x ≤ 2 ^ (low f + e) → mag f y ≤ 2 ^ (low f + e) → mag f z ≤ 2 ^ (low f + e)
     → 2 ^ low f * 2 ^ low f ≤ (mag f x * mag f x + mag f y * mag f y + mag f z * mag f z) * 2 ^ (e + e)
     → Norm f (squares3 f x y z) (mag f x * mag f x + mag f y * mag f y + mag f z * mag f z) × (pl f (squares3 f x y z) ≤ 2 ^ (low f + suc (suc (e + e))))
 squares3-norm f e he x y z rx ry rz hx hy hz long =
-    let c = three-close f e he (mag f x * mag f x + mag f y * mag f y + mag f z * mag f z) long x y z rx ry rz hx hy hz (native.Mathlib.Nat.le-refl (mag f x * mag f x + mag f y * mag f y + mag f z * mag f z)) in
+    let c = three-close f e he (mag f x * mag f x + mag f y * mag f y + mag f z * mag f z) long x y z rx ry rz hx hy hz (le-refl (mag f x * mag f x + mag f y * mag f y + mag f z * mag f z)) in
     (record { value = c .0; plus = c .1; close = parts-of f 1 (omega arith) (c .3) }, c .2)
 
 -- and at least 2 ^ -(2 * e + 1)
@@ -256,7 +259,7 @@ norm-least f s G e n h =
     let b = n .close .below in
     let g : G ≤ 2 * (pl f s * L) = omega arith in
     let k : G * E ≤ 2 * (pl f s * L) * E = mul-le-mul-right E g in
-    le-of-mul-le-mul-right (last L (pl f s) E (2 ^ suc (e + e)) (native.Mathlib.Nat.pow-suc 2 (e + e)) (le-trans h k)) (pow-pos (low f))
+    le-of-mul-le-mul-right (last L (pl f s) E (2 ^ suc (e + e)) (pow-suc 2 (e + e)) (le-trans h k)) (pow-pos (low f))
   where
     last : (L S E F : ℕ) → F ≡ E * 2 → L * L ≤ 2 * (S * L) * E → L * L ≤ S * F * L
     last L S E F e h = subst (λ (n : ℕ). L * L ≤ S * n * L) (sym e) (omega arith)
@@ -272,6 +275,15 @@ within-thousandth A B c = let a = c .above in let b = c .below in (omega arith, 
 pub component-most : (U L : ℕ) → 1000 * (U * U) ≤ 1001 * (L * L) → 1000 * U ≤ 1001 * L
 component-most U L h = sq-le (1000 * U) (1001 * L) (omega arith)
 
+-- three parts in 2 ^ prec, by which a rounded root's square is off, are less than one in 2 ^ 20
+pub coarser : (f : Format) (a b : ℕ) → a * 2 ^ prec f ≤ b * (2 ^ prec f + 3) → a * 2 ^ 20 ≤ b * (2 ^ 20 + 1)
+coarser f a b h =
+    let g = sixteen f in
+    le-of-mul-le-mul-right (cleared a b (2 ^ (prec f - 20)) (g .1) (subst (λ (K : ℕ). a * K ≤ b * (K + 3)) (g .0) h)) (pow-pos (prec f - 20))
+  where
+    cleared : (a b m : ℕ) → 16 ≤ m → a * (2 ^ 20 * m) ≤ b * (2 ^ 20 * m + 3) → a * 2 ^ 20 * m ≤ b * (2 ^ 20 + 1) * m
+    cleared a b m g h = let k : b * 16 ≤ b * m = mul-le-mul-left b g in omega arith
+
 -- q is a root of s: its square is s but for a part in 2 ^ 20
 module _ (f : Format) (s q : Float) (G : ℕ) (n : Norm f s G) (some : 0 < G) (rq : Real f q)
     (above : pl f q * pl f q * 2 ^ 20 ≤ pl f s * 2 ^ low f * (2 ^ 20 + 1)) (below : pl f s * 2 ^ low f * 2 ^ 20 ≤ pl f q * pl f q * (2 ^ 20 + 1)) where
@@ -279,7 +291,7 @@ module _ (f : Format) (s q : Float) (G : ℕ) (n : Norm f s G) (some : 0 < G) (r
   root-facts = rooted (pl f q) (pl f s) (2 ^ low f) G (n .close) above below
 
   pub root-positive : 0 < pl f q
-  root-positive = elim (native.Mathlib.Nat.eq-zero-or-pos (pl f q)) [
+  root-positive = elim (eq-zero-or-pos (pl f q)) [
     | inl z ↦ absurd (none (pl f q) G z some (root-facts .1))
     | inr p ↦ p
   ]
