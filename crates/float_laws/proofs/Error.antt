@@ -43,6 +43,7 @@ is-off f z P N c k e C i t h g = go (leb N P) (leb→le N P) (nleb→lt N P)
         let w = one-way (mi f z) (pl f z) N P c (N - P) (rnd f (N - P) c) k e (i .minus t) (i .plus t ∙ none P N l) (sym (add-sub-of-le l)) (g .0) (g .1) in
         (w .1, w .0)
 
+-- of any result, by bounds on its exact size
 pub is-near : (f : Format) (z : Float) (P N c j : ℕ) → 0 < c → Is f z P N c → T (finite z) → P - N < 2 ^ j * c → N - P < 2 ^ j * c → Near f z P N c (2 ^ (j - prec f))
 is-near f z P N c j C i t h k =
     let w = is-off f z P N c 2 (2 ^ (j - prec f) * c) C i t (rnd-err f (P - N) c j C h) (rnd-err f (N - P) c j C k) in
@@ -112,6 +113,7 @@ pub record Scaled (f : Format) (z x : Float) (q s E : ℕ) : Type 0 where
   pub above : (pl f z * s + mi f x * q) * 2 ≤ (mi f z * s + pl f x * q) * 2 + E * s
   pub below : (mi f z * s + pl f x * q) * 2 ≤ (pl f z * s + mi f x * q) * 2 + E * s
 
+-- the error of x * y, for a constant y that is q / s exactly, as a linear fact about x: for bounds that `omega` joins over several steps
 pub mul-const : (f : Format) (x y : Float) (j q s : ℕ) → Real f x → Real f y → T (finite (mul f x y)) → mi f y ≡ 0 → 0 < s → pl f y * s ≡ q * 2 ^ low f → mag f x * q < 2 ^ j * s → Scaled f (mul f x y) x q s (2 ^ (j - prec f))
 mul-const f x y j q s rx ry t m S e h =
     let g = mag-is f y in

@@ -13,13 +13,13 @@ use lib.Ieee.{Float, nan, inf, fin, Format, prec, emax, low, up, down, le, add, 
 use lib.Ieee.Fits.{and-l, and-r, add-fits, mul-fits}
 use lib.Ieee.Scale.{finite}
 use Rattle.float_laws.proofs.Units.{rnd, rnd-exact, rnd-zero}
-use Rattle.float_laws.proofs.Value.{mag, pl, mi, Real, mag-is, one-side, units→le, le→units, le-trans'}
+use Rattle.float_laws.proofs.Value.{mag, pl, mi, Real, mag-is, one-side, parts→le, le→units, le-trans'}
 use Rattle.float_laws.proofs.Operation.{Is, add-Is, mul-Is, rnd-order}
 use Rattle.float_laws.proofs.Size.{Within, add-fin}
 use Rattle.float_laws.proofs.Interval.{no-minus}
 
 -- ---- the units of a value are m * 2 ^ j
-exponent : (k l : ℕ) → 2 ^ k ≤ 2 ^ l → k ≤ l
+pub exponent : (k l : ℕ) → 2 ^ k ≤ 2 ^ l → k ≤ l
 exponent k l h = go (leb k l) (leb→le k l) (nleb→lt k l)
   where
     go : (b : Bool) → (T b → k ≤ l) → (T (not b) → l < k) → k ≤ l
@@ -34,6 +34,7 @@ units-pow f s m (negsuc k) h =
     let e : 2 ^ low f ≡ 2 ^ j * 2 ^ suc k = ap (λ (x : ℕ). 2 ^ x) (sym (sub-add-cancel (exponent (suc k) (low f) h))) ∙ pow-add 2 j (suc k) in
     (j, ap (λ (x : ℕ). x / 2 ^ suc k) (ap (λ (x : ℕ). x * 2 ^ low f) (mul-one m) ∙ ap (λ (x : ℕ). m * x) e ∙ sym (mul-assoc m (2 ^ j) (2 ^ suc k))) ∙ mul-div-cancel (m * 2 ^ j) (pow-pos (suc k)))
 
+-- a value is its own rounding, as a size
 pub fixed : (f : Format) (x : Float) → Real f x → rnd f (mag f x) 1 ≡ mag f x
 unfolding fits
 fixed f nan r = absurd (r .finite)
@@ -74,16 +75,8 @@ self-Is f x r =
 pub is-le : (f : Format) (x y : Float) (P N c Q R d : ℕ) → 0 < c → 0 < d → Is f x P N c → Is f y Q R d → T (finite x) → T (finite y) → P * d + R * c ≤ Q * c + N * d → T (le x y)
 is-le f x y P N c Q R d C D i j t u h =
     let o = rnd-order f P N c Q R d C D h in
-    let o0 = o .0 in
-    let o1 = o .1 in
-    let a = i .plus t in
-    let b = i .minus t in
-    let k = j .plus u in
-    let l = j .minus u in
-    units→le f x y (record { finite = t; fits = i .fits }) (record { finite = u; fits = j .fits }) (join (pl f x) (mi f x) (pl f y) (mi f y) (le-trans (le-of-eq a) (le-trans o0 (le-of-eq (sym k)))) (le-trans (le-of-eq l) (le-trans o1 (le-of-eq (sym b)))))
-  where
-    join : (p n q m : ℕ) → p ≤ q → m ≤ n → p + m ≤ q + n
-    join p n q m a b = omega arith
+    parts→le f x y (record { finite = t; fits = i .fits }) (record { finite = u; fits = j .fits })
+    (le-trans (le-of-eq (i .plus t)) (le-trans (o .0) (le-of-eq (sym (j .plus u))))) (le-trans (le-of-eq (j .minus u)) (le-trans (o .1) (le-of-eq (sym (i .minus t)))))
 
 -- ---- a ≤ a + b for b not below zero, and b ≤ a + b for a not below zero
 pub add-grow-l : (f : Format) (a b : Float) → Real f a → Real f b → mi f b ≡ 0 → T (finite (add f a b)) → T (le a (add f a b))
@@ -97,6 +90,7 @@ none : (p n : ℕ) → (p ≡ 0) ⊎ (n ≡ 0) → p * n + n * p ≡ 0
 none p n (inl z) = subst (λ (w : ℕ). w * n + n * w ≡ 0) (sym z) (omega arith)
 none p n (inr z) = subst (λ (w : ℕ). p * w + w * p ≡ 0) (sym z) (omega arith)
 
+-- a square is not below zero
 pub sq-mi : (f : Format) (x : Float) → Real f x → T (finite (mul f x x)) → mi f (mul f x x) ≡ 0
 sq-mi f x r t =
     mul-Is f x x r r .minus t ∙ ap (λ (n : ℕ). rnd f n (2 ^ low f)) (no-minus (pl f x) (mi f x) (one-side f x)) ∙ rnd-zero f (2 ^ low f) (pow-pos (low f))

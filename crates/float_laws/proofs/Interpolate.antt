@@ -10,10 +10,11 @@ use lib.Dec.{T, leb, leb→le, nleb→lt}
 use lib.Pow.{pow-pos, pow-mono}
 use lib.Ieee.{Float, Format, prec, emax, low, add, sub, mul}
 use lib.Ieee.Fits.{two, two-le-pos}
-use Rattle.float_laws.proofs.Value.{mag, pl, mi, Real, mag-is, one-side}
+use Rattle.float_laws.proofs.Value.{mag, pl, mi, Real, mag-is, pl-le, mi-le, one-side}
 use Rattle.float_laws.proofs.Operation.{add-Is, sub-Is, mul-Is, mul-differ, differ-le}
 use Rattle.float_laws.proofs.Error.{is-near-le}
 
+-- as code has it
 abbrev pub interpolate : Format → Float → Float → Float → Float
 interpolate f a b t = add f a (mul f (sub f b a) t)
 
@@ -79,12 +80,6 @@ module _ (M U L E F : ℕ) where
       (up-to a a' b b' d d' p p' t ha ha' hb l x (subst (λ (n : ℕ). (p * L + (d * n + d' * t)) * 2 ≤ (p' * L + (d * t + d' * n)) * 2 + F * L) z y))
 
 -- ---- the three operations. The exponents k and l are what the product and the sum stay below
-least-of : (p q r : ℕ) → r ≡ p + q → p ≤ r
-least-of p q r e = omega arith
-
-least-of' : (p q r : ℕ) → r ≡ p + q → q ≤ r
-least-of' p q r e = omega arith
-
 turned : (p p' d d' t t' L F : ℕ) → (p' * L + (d * t + d' * t')) * 2 ≤ (p * L + (d * t' + d' * t)) * 2 + F * L → (p' * L + (d' * t' + d * t)) * 2 ≤ (p * L + (d' * t + d * t')) * 2 + F * L
 turned p p' d d' t t' L F h = omega arith
 
@@ -122,10 +117,10 @@ module _ (f : Format) (a b t : Float) (M U j k l : ℕ) (ra : Real f a) (rb : Re
       let ma = mag-is f a in
       let mb = mag-is f b in
       let J : 2 ^ suc j ≡ 2 ^ j * 2 = pow-suc 2 j in
-      let ap = le-trans (least-of (pl f a) (mi f a) (mag f a) ma) ha in
-      let am = le-trans (least-of' (pl f a) (mi f a) (mag f a) ma) ha in
-      let bp = le-trans (least-of (pl f b) (mi f b) (mag f b) mb) hb in
-      let bm = le-trans (least-of' (pl f b) (mi f b) (mag f b) mb) hb in
+      let ap = le-trans (pl-le f a) ha in
+      let am = le-trans (mi-le f a) ha in
+      let bp = le-trans (pl-le f b) hb in
+      let bm = le-trans (mi-le f b) hb in
       let nd = is-near-le f d (pl f b + mi f a) (mi f b + pl f a) 1 (suc j) (pow-pos 0) (sub-Is f b a rb ra) (omega arith) (omega arith) hj in
       let rd = nd .0 in
       let wide : mag f d * mag f t ≤ 2 ^ k * L = le-trans (mul-le-mul-right (mag f t) (nd .1)) product in

@@ -15,7 +15,7 @@ use lib.Ieee.Scale.{finite, overflow}
 use lib.Ieee.Order.{drop, kept}
 use lib.Ieee.Positive.{first-pos}
 use Rattle.float_laws.proofs.Units.{rnd, rnd-same, rnd-mono, rnd-zero}
-use Rattle.float_laws.proofs.Value.{sign, mag, sp, sn, pl, mi, Real, units-of, mag-of, mag-is, under, one-side, cross, cross', units→le, neg-real, neg-pl, neg-mi}
+use Rattle.float_laws.proofs.Value.{sign, mag, sp, sn, pl, mi, Real, units-of, mag-of, mag-is, one-side, cross, cross', pl-under, mi-under, parts→le, neg-real, neg-pl, neg-mi}
 
 -- z is (P - N) / c units, rounded once: what it fits, when it is finite, and its two parts
 pub record Is (f : Format) (z : Float) (P N c : ℕ) : Type 0 where
@@ -37,6 +37,7 @@ round-under : (f : Format) (s : Bool) (a c : ℕ) → T (finite (round f s a c))
 unfolding rnd
 round-under f s a c t = units-under f s (kept (prec f) (a * 2 ^ low f) c) (drop (prec f) (a * 2 ^ low f) c) (subst (λ (z : Float). T (finite z)) (round-is f s a c) t)
 
+-- below the overflow a rounding is the value that `rnd` says
 pub round-has : (f : Format) (s : Bool) (a c : ℕ) → rnd f (a * 2 ^ low f) c < overflow f → HasValue (round f s a c) s (rnd f (a * 2 ^ low f) c) (2 ^ low f)
 unfolding rnd
 round-has f s a c h = subst (λ (z : Float). HasValue z s (rnd f (a * 2 ^ low f) c) (2 ^ low f)) (sym (round-is f s a c)) (units-val f s (kept (prec f) (a * 2 ^ low f) c) (drop (prec f) (a * 2 ^ low f) c) h)
@@ -53,6 +54,7 @@ bound-of : (s : Bool) (f : Format) (n c : ℕ) → 0 < c → rnd f (sp s n) c < 
 bound-of false f n c C h k = h
 bound-of true f n c C h k = k
 
+-- `round` of a fraction a / b that is n / c units, with its sign
 pub round-Is : (f : Format) (s : Bool) (a b P N c n : ℕ) → 0 < b → 0 < c → a * 2 ^ low f * c ≡ n * b → sp s n ≡ P - N → sn s n ≡ N - P → Is f (round f s a b) P N c
 unfolding pl mi
 round-Is f s a b P N c n B C e p q =
@@ -210,6 +212,7 @@ product-differ a b c d (inl u) (inr v) = subst (λ (w : ℕ). Differ (w * c + b 
 product-differ a b c d (inr u) (inl v) = subst (λ (w : ℕ). Differ (a * c + w * d) (a * d + w * c) ((a + w) * (c + d))) (sym u) (subst (λ (w : ℕ). Differ (a * w + 0 * d) (a * d + 0 * w) ((a + 0) * (w + d))) (sym v) (inr (omega arith, omega arith)))
 product-differ a b c d (inr u) (inr v) = subst (λ (w : ℕ). Differ (a * c + w * d) (a * d + w * c) ((a + w) * (c + d))) (sym u) (subst (λ (w : ℕ). Differ (a * c + 0 * w) (a * w + 0 * c) ((a + 0) * (c + w))) (sym v) (inl (omega arith, omega arith)))
 
+-- of the exact product the size is the product of the sizes
 pub mul-differ : (f : Format) (x y : Float) → Differ (pl f x * pl f y + mi f x * mi f y) (pl f x * mi f y + mi f x * pl f y) (mag f x * mag f y)
 mul-differ f x y =
     subst (λ (w : ℕ). Differ (pl f x * pl f y + mi f x * mi f y) (pl f x * mi f y + mi f x * pl f y) w)
@@ -220,9 +223,11 @@ scaled-differ : (a b l : ℕ) → (a ≡ 0) ⊎ (b ≡ 0) → Differ (a * l) (b 
 scaled-differ a b l (inl u) = subst (λ (w : ℕ). Differ (w * l) (b * l) ((w + b) * l)) (sym u) (inr (omega arith, omega arith))
 scaled-differ a b l (inr u) = subst (λ (w : ℕ). Differ (a * l) (w * l) ((a + w) * l)) (sym u) (inl (omega arith, omega arith))
 
+-- of the exact quotient (l = 2 ^ low) the numerator of the size
 pub scale-differ : (f : Format) (x : Float) (l : ℕ) → Differ (pl f x * l) (mi f x * l) (mag f x * l)
 scale-differ f x l = subst (λ (w : ℕ). Differ (pl f x * l) (mi f x * l) (w * l)) (sym (mag-is f x)) (scaled-differ (pl f x) (mi f x) l (one-side f x))
 
+-- the size of a result is its exact size, rounded
 pub is-mag : (f : Format) (z : Float) (P N c D : ℕ) → 0 < c → Is f z P N c → Differ P N D → T (finite z) → mag f z ≡ rnd f D c
 is-mag f z P N c D C i h t = go h
   where
@@ -266,29 +271,13 @@ between f lo z hi P N c Q R d S W g C D G a b e l h u v =
     let y = rnd-order f Q R d S W g D G v in
     let L : Real f lo = record { finite = l; fits = a .fits } in
     let H : Real f hi = record { finite = h; fits = e .fits } in
-    let bl = under f lo L in
-    let bh = under f hi H in
-    let ml = mag-is f lo in
-    let mh = mag-is f hi in
-    let lp = a .plus l in
-    let lm = a .minus l in
-    let hp = e .plus h in
-    let hm = e .minus h in
-    let x0 = x .0 in
-    let x1 = x .1 in
-    let y0 = y .0 in
-    let y1 = y .1 in
-    let t : T (finite z) = b .small (lt-of-le-of-lt y0 (top (rnd f (S - W) g) (pl f hi) (mi f hi) (mag f hi) (overflow f) hp mh bh)) (lt-of-le-of-lt x1 (top (rnd f (N - P) c) (mi f lo) (pl f lo) (mag f lo) (overflow f) lm (ml ∙ swap (pl f lo) (mi f lo)) bl)) in
+    let upper = le-trans (y .0) (le-of-eq (sym (e .plus h))) in
+    let lower = le-trans (x .1) (le-of-eq (sym (a .minus l))) in
+    let t = b .small (lt-of-le-of-lt upper (pl-under f hi H)) (lt-of-le-of-lt lower (mi-under f lo L)) in
     let Z : Real f z = record { finite = t; fits = b .fits } in
-    let zp = b .plus t in
-    let zm = b .minus t in
-    (Z, units→le f lo z L Z (joined (pl f lo) (mi f lo) (pl f z) (mi f z) (le-of-eq lp) x0 zp zm x1 lm), units→le f z hi Z H (joined (pl f z) (mi f z) (pl f hi) (mi f hi) (le-of-eq zp) y0 hp hm y1 zm))
-  where
-    top : (r p m k o : ℕ) → p ≡ r → k ≡ p + m → k < o → r < o
-    top r p m k o e g h = omega arith
-
-    swap : (a b : ℕ) → a + b ≡ b + a
-    swap a b = omega arith
-
-    joined : (p n q m : ℕ) {r s u w : ℕ} → p ≤ r → r ≤ s → q ≡ s → m ≡ u → u ≤ w → n ≡ w → p + m ≤ q + n
-    joined p n q m a b c d e g = omega arith
+    let p = b .plus t in
+    let n = b .minus t in (
+      Z,
+      parts→le f lo z L Z (le-trans (le-of-eq (a .plus l)) (le-trans (x .0) (le-of-eq (sym p)))) (le-trans (le-of-eq n) lower),
+      parts→le f z hi Z H (le-trans (le-of-eq p) upper) (le-trans (le-of-eq (e .minus h)) (le-trans (y .1) (le-of-eq (sym n)))),
+    )

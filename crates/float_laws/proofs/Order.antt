@@ -27,6 +27,7 @@ le-antisym f x y r q h k =
     let b1 = b .1 in
     (omega arith, omega arith)
 
+-- sums and differences: x ≤ x' and y ≤ y' (turned for the subtrahend)
 pub add-mono : (f : Format) (x x' y y' : Float) → Real f x → Real f x' → Real f y → Real f y' → T (le x x') → T (le y y') → T (finite (add f x y)) → T (finite (add f x' y')) → T (le (add f x y) (add f x' y'))
 add-mono f x x' y y' r r' q q' h k t u =
     let a = le→units f x x' r r' h in
@@ -56,6 +57,7 @@ mul-anti f x x' y r r' q z h t u =
     is-le f (mul f x' y) (mul f x y) _ _ (2 ^ low f) _ _ (2 ^ low f) (pow-pos (low f)) (pow-pos (low f)) (mul-Is f x' y r' q) (mul-Is f x y r q) u t
     (scaled-down (pl f x) (mi f x) (pl f x') (mi f x') (pl f y) (mi f y) (2 ^ low f) z (le→units f x x' r r' h))
 
+-- by a divisor above zero
 pub div-mono : (f : Format) (x x' y : Float) → Real f x → Real f x' → Real f y → 0 < pl f y → T (le x x') → T (finite (div f x y)) → T (finite (div f x' y)) → T (le (div f x y) (div f x' y))
 div-mono f x x' y r r' q z h t u =
     is-le f (div f x y) (div f x' y) _ _ (pl f y) _ _ (pl f y) z z (div-Is' f x y r q z) (div-Is' f x' y r' q z) t u

@@ -98,6 +98,7 @@ zero-rel f c C = none (rnd f 0 c) c (2 ^ prec f) (rnd-zero f c C)
     none r c K e = subst (λ (x : ℕ). (x * c * K ≤ 0 * (K + 1)) × (0 * K ≤ x * c * K + 0)) (sym e) (omega arith, omega arith)
 
 module _ (f : Format) (z : Float) (P N c D : ℕ) (C : 0 < c) (i : Is f z P N c) (t : T (finite z)) (d : Differ P N D) where
+  -- an exact size in the normal range
   pub is-relative : 2 ^ (prec f - 1) * c ≤ D → Relative f z P N c D 0
   is-relative h =
       let w = is-off f z P N c (2 * 2 ^ prec f) (D * 2 + 0 * 2 ^ prec f * c) C i t (sized (rnd f (P - N) c * c) (P - N) D (2 ^ prec f) c (differ-le P N D d .0) (left d)) (sized (rnd f (N - P) c * c) (N - P) D (2 ^ prec f) c (differ-le P N D d .1) (right d)) in
@@ -114,11 +115,13 @@ module _ (f : Format) (z : Float) (P N c D : ℕ) (C : 0 < c) (i : Is f z P N c)
       right (inl e) = subst Bounds (sym (e .1)) (zero-rel f c C)
       right (inr e) = subst Bounds (sym (e .0)) (rnd-rel f D c C h)
 
+  -- every exact size, subnormal results included: half a unit more
   pub is-relative-any : Relative f z P N c D 1
   is-relative-any =
       let w = is-off f z P N c (2 * 2 ^ prec f) (D * 2 + 1 * 2 ^ prec f * c) C i t (sized-any (rnd f (P - N) c * c) (P - N) D (2 ^ prec f) c (differ-le P N D d .0) (rnd-rel-any f (P - N) c C)) (sized-any (rnd f (N - P) c * c) (N - P) D (2 ^ prec f) c (differ-le P N D d .1) (rnd-rel-any f (N - P) c C)) in
       record { above = w .0; below = w .1 }
 
+-- a whole number of units, as sums and differences are: never the half unit; A is any bound on the exact size
 pub is-relative-whole : (f : Format) (z : Float) (P N A : ℕ) → Is f z P N 1 → T (finite z) → P ≤ A + N → N ≤ A + P → Relative f z P N 1 A 0
 is-relative-whole f z P N A i t a b =
     let w = is-off f z P N 1 (2 * 2 ^ prec f) (A * 2 + 0 * 2 ^ prec f * 1) (pow-pos 0) i t (sized (rnd f (P - N) 1 * 1) (P - N) A (2 ^ prec f) 1 (omega arith) (rnd-rel-whole f (P - N))) (sized (rnd f (N - P) 1 * 1) (N - P) A (2 ^ prec f) 1 (omega arith) (rnd-rel-whole f (N - P))) in
@@ -132,6 +135,7 @@ pub sub-relative : (f : Format) (x y : Float) (A : ℕ) → Real f x → Real f 
 sub-relative f x y A r q t a b = is-relative-whole f (sub f x y) (pl f x + mi f y) (mi f x + pl f y) A (sub-Is f x y r q) t a b
 
 module _ (f : Format) (x y : Float) (r : Real f x) (q : Real f y) (t : T (finite (mul f x y))) where
+  -- a product, and a quotient by a divisor above zero: for every size, and in the normal range
   pub mul-relative-any : Relative f (mul f x y) (pl f x * pl f y + mi f x * mi f y) (pl f x * mi f y + mi f x * pl f y) (2 ^ low f) (mag f x * mag f y) 1
   mul-relative-any = is-relative-any f (mul f x y) _ _ (2 ^ low f) (mag f x * mag f y) (pow-pos (low f)) (mul-Is f x y r q) t (mul-differ f x y)
 

@@ -38,6 +38,7 @@ within-of-le f x A r q h k =
       | inr z ↦ record { value = r; bound = q; plus = z; le = elim (one-side f x) [ inl w ↦ omega arith | inr w ↦ omega arith ] }
     ]
 
+-- back to an order of values, as a contract states it
 pub le-of-within : (f : Format) (x A : Float) → Within f x A → T (le (neg A) x) × T (le x A)
 le-of-within f x A w =
     let p = neg-pl f A (w .bound) in
@@ -98,6 +99,7 @@ within f z B P N Q R c C i j r t h k =
     let s = is-bounded f z P N c Q C i h k (b .2) in
     record { value = s .0; bound = record { finite = t; fits = j .fits }; plus = b .1; le = le-trans (s .1) (le-of-eq (b .0)) }
 
+-- |x| ≤ A and |y| ≤ B: the bound is the sum of the bounds, or their product, as computed
 pub add-within : (f : Format) (x y A B : Float) → Within f x A → Within f y B → T (finite (add f A B)) → Within f (add f x y) (add f A B)
 add-within f x y A B v w t =
     let a = v .le in
@@ -141,6 +143,7 @@ within-mono f x A B w r h =
 pub within-self : (f : Format) (A : Float) → Real f A → mi f A ≡ 0 → Within f A A
 within-self f A r z = record { value = r; bound = r; plus = z; le = le-of-eq (mag-is f A ∙ ap (λ (n : ℕ). pl f A + n) z ∙ add-zero (pl f A)) }
 
+-- the test of `within-const`: for constants it computes, so that `tt` proves it (under `unfolding ofBits fits le neg`)
 abbrev pub is-within : Format → Float → Float → Bool
 is-within f c A = (finite c && fits f c) && ((finite A && fits f A) && (le (neg A) c && le c A))
 
@@ -226,6 +229,7 @@ nn-round⁻ f a c C z = go (round f true a c) (round-has f true a c (subst (λ (
 zero-of : (m u v : ℕ) → T (eqb m 0) → m * u * v ≡ 0
 zero-of m u v t = ap (λ (n : ℕ). n * u * v) (eqb→eq m 0 t) ∙ ap (λ (n : ℕ). n * v) (zero-mul u) ∙ zero-mul v
 
+-- the operations keep it
 pub add-nn : (f : Format) (x y : Float) → T (nn x) → T (nn y) → T (nn (add f x y))
 unfolding add sum
 add-nn f nan y p q = tt
@@ -282,6 +286,7 @@ mul-nn f (fin true m e) (fin false n d) p q = nn-round⁻ f _ _ (mul-pos (down-p
 mul-nn f (fin false m e) (fin true n d) p q = nn-round⁻ f _ _ (mul-pos (down-pos e) (down-pos d)) (mul-comm (m * up e) (n * up d) ∙ zero-of n (up d) (m * up e) q)
 mul-nn f (fin false m e) (fin false n d) p q = nn-round⁺ f _ _
 
+-- so a bound that is at most a finite limit is finite
 pub fin-of-le : (B limit : Float) → T (nn B) → T (finite limit) → T (le B limit) → T (finite B)
 unfolding le
 fin-of-le nan l s t h = h
@@ -324,6 +329,7 @@ nn-of-le f x (fin true m e) a b h k = zero-m
 unfoldable pub size : Float → Float
 size x = cond (lt x nil) (neg x) x
 
+-- of the size as computed: a finite size has a finite value, it is not below zero, and it bounds the value
 pub size-fin : (x : Float) → T (finite (size x)) → T (finite x)
 unfolding size
 size-fin x = go (lt x nil) x

@@ -231,6 +231,7 @@ long3 f e X Y Z h (inl g) = le-trans (long2 f e X Y h (inl g)) (mul-le-mul-right
 long3 f e X Y Z h (inr (inl g)) = le-trans (long2 f e X Y h (inr g)) (mul-le-mul-right (2 ^ (e + e)) (le-add-right (X * X + Y * Y) (Z * Z)))
 long3 f e X Y Z h (inr (inr g)) = long-enough f e Z (X * X + Y * Y + Z * Z) (low-room f e h) g (le-add-left (Z * Z) (X * X + Y * Y))
 
+-- such a vector is not zero
 pub long-some : (f : Format) (e G : ℕ) → 2 ^ low f * 2 ^ low f ≤ G * 2 ^ (e + e) → 0 < G
 long-some f e G h = elim (eq-zero-or-pos G) [
   | inl z ↦ absurd (not-le-of-lt (mul-pos (pow-pos (low f)) (pow-pos (low f))) (le-trans h (le-of-eq (ap (λ (n : ℕ). n * 2 ^ (e + e)) z ∙ zero-mul (2 ^ (e + e))))))
@@ -290,6 +291,7 @@ module _ (f : Format) (s q : Float) (G : ℕ) (n : Norm f s G) (some : 0 < G) (r
   root-facts : Close (2 ^ 20) G (pl f q * pl f q) 6 (pl f q * pl f q) × (G ≤ 2 * (pl f q * pl f q))
   root-facts = rooted (pl f q) (pl f s) (2 ^ low f) G (n .close) above below
 
+  -- so the quotients exist
   pub root-positive : 0 < pl f q
   root-positive = elim (eq-zero-or-pos (pl f q)) [
     | inl z ↦ absurd (none (pl f q) G z some (root-facts .1))
@@ -313,6 +315,7 @@ module _ (f : Format) (s q : Float) (G : ℕ) (n : Norm f s G) (some : 0 < G) (r
       let d : Close (2 ^ 20) (A * QQ) (QQ * LL) 10 (QQ * LL) = close-trans a b in
       close-unscale QQ (mul-pos root-positive root-positive) (subst (λ (m : ℕ). Close (2 ^ 20) (A * QQ) m 10 m) (mul-comm QQ LL) d)
 
+  -- the quotients are finite, and their squares add up to 1 but for ten parts in 2 ^ 20
   pub unit2 : (x y : Float) → Real f x → Real f y → G ≡ mag f x * mag f x + mag f y * mag f y
       → Real f (div f x q) × Real f (div f y q) × Close (2 ^ 20) (mag f (div f x q) * mag f (div f x q) + mag f (div f y q) * mag f (div f y q)) (2 ^ low f * 2 ^ low f) 10 (2 ^ low f * 2 ^ low f)
   unit2 x y rx ry e =
@@ -343,6 +346,7 @@ module _ (f : Format) (s q : Float) (G : ℕ) (n : Norm f s G) (some : 0 < G) (r
 
 -- ---- all in one, from the vector's sizes: q is a root of the sum of squares as computed, one component is at least 2 ^ -e, and none is more than 2 ^ e
 module _ (f : Format) (e : ℕ) (he : e * 2 + 2 ≤ emax f) (x y q : Float) (rx : Real f x) (ry : Real f y) (rq : Real f q) (hx : mag f x ≤ 2 ^ (low f + e)) (hy : mag f y ≤ 2 ^ (low f + e)) where
+  -- for a vector in the plane, and for one in space: the quotients are finite, and their squares add up to 0.999 .. 1.001
   pub normalised2 : (2 ^ (low f - e) ≤ mag f x) ⊎ (2 ^ (low f - e) ≤ mag f y)
       → pl f q * pl f q * 2 ^ 20 ≤ pl f (squares2 f x y) * 2 ^ low f * (2 ^ 20 + 1) → pl f (squares2 f x y) * 2 ^ low f * 2 ^ 20 ≤ pl f q * pl f q * (2 ^ 20 + 1)
       → Real f (div f x q) × Real f (div f y q)
