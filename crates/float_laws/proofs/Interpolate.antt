@@ -13,6 +13,7 @@ use lib.Ieee.Fits.{two, two-le-pos}
 use Rattle.float_laws.proofs.Value.{mag, pl, mi, Real, mag-is, pl-le, mi-le, one-side}
 use Rattle.float_laws.proofs.Operation.{add-Is, sub-Is, mul-Is, mul-differ, differ-le}
 use Rattle.float_laws.proofs.Error.{is-near-le}
+use Rattle.float_laws.proofs.Size.{Within}
 
 -- as code has it
 abbrev pub interpolate : Format → Float → Float → Float → Float
@@ -213,3 +214,16 @@ interpolate-outside f a b t M U j ra rb rt ha hb hM hU z ht o =
         let y : F * L ≤ e * 4 * L = mul-le-mul-right L g2 in
         let z : G * L ≤ e * 8 * L = mul-le-mul-right L g3 in
         omega arith
+
+-- ---- the same for callers that carry sizes as `Within`: the ends are within A, and B is larger by the roundings, which is a computed test for constants
+pub interpolate-within : (f : Format) (a b t A B : Float) (j : ℕ) → Within f a A → Within f b A → Real f t → mi f t ≡ 0 → pl f t ≤ 2 ^ low f → pl f A ≤ 2 ^ j → j < low f + emax f → Real f B → mi f B ≡ 0 → pl f A + 3 * 2 ^ (j - prec f) ≤ pl f B
+    → Within f (interpolate f a b t) B
+interpolate-within f a b t A B j wa wb rt z h hj o rB zB hB =
+    let r = interpolate-inside f a b t (pl f A) j (wa .value) (wb .value) rt (wa .le) (wb .le) hj z h o in
+    record { value = r .0; bound = rB; plus = zB; le = le-trans (r .1) hB }
+
+pub interpolate-within-outside : (f : Format) (a b t A B : Float) (U j : ℕ) → Within f a A → Within f b A → Real f t → U ≤ 2 ^ low f → mi f t ≤ U → pl f t ≤ 2 ^ low f + U → pl f A ≤ 2 ^ j → j + 2 < low f + emax f → Real f B → mi f B ≡ 0
+    → (pl f A + 8 * 2 ^ (j - prec f)) * 2 ^ low f + 2 * (pl f A * U) ≤ pl f B * 2 ^ low f → Within f (interpolate f a b t) B
+interpolate-within-outside f a b t A B U j wa wb rt hU h h' hj o rB zB hB =
+    let r = interpolate-outside f a b t (pl f A) U j (wa .value) (wb .value) rt (wa .le) (wb .le) hj hU h h' o in
+    record { value = r .0; bound = rB; plus = zB; le = le-of-mul-le-mul-right (le-trans (r .1) hB) (pow-pos (low f)) }
