@@ -1,5 +1,6 @@
 -- Sizes: |x| ≤ A and |y| ≤ B give |x + y| ≤ A + B, |x - y| ≤ A + B and |x * y| ≤ A * B, each sum and product rounded, wherever the right side is finite.
--- So a bound that a program computes from sizes, in its own arithmetic, bounds whatever the same operations give on smaller values. Assumes nothing.
+-- So a bound that a program computes from sizes, in its own arithmetic, bounds whatever the same operations give on smaller values. The size of a quotient is `div-within` of Order.
+-- Besides: larger bounds, constants by a computed test, |x| as code has it, and a cubic and its slope against the bounds that a program tests. Assumes nothing.
 use mathlib.Core.Path.{_≡_, refl, sym, ap, _∙_, subst}
 use mathlib.Core.Logic.{inl, inr}
 use Prim.Native.Nat.{ℕ, zero, suc, _+_, _-_, _*_, _/_, _^_, _≤_, _<_, zero-le}

@@ -1,6 +1,6 @@
 -- A vector divided by the root of its sum of squares, as computed: every component is finite, and the exact sum of the squares of the three quotients is 1 but for ten parts in 2 ^ 20, so within 1/1000 of 1.
 -- The vector's components are at most 2 ^ e in size and one is at least 2 ^ -e, where 2 * e + 2 ≤ emax (for e = 20, both formats); the root's square is within a part in 2 ^ 20 of the sum.
--- The idea: with L units to 1 and the sizes X, Y, Z, Q in units, S * L is G = X*X + Y*Y + Z*Z but for ten parts in 2 ^ prec, a square that underflows being small against G; U * Q is X * L but for three parts of Q * L.
+-- The idea: with L units to 1 and the sizes X, Y, Z, Q in units, S * L is G = X*X + Y*Y + Z*Z but for ten parts in 2 ^ prec, a square that underflows being small against G; U, the size of a quotient, has U * Q = X * L but for three parts in 2 ^ prec of Q * L.
 -- All is carried as `Close` over the scales G and Q * L. The same for two components, of a vector in the plane. Assumes nothing.
 use mathlib.Core.Path.{_≡_, refl, sym, ap, _∙_, subst}
 use mathlib.Core.Logic.{_⊎_, inl, inr}
@@ -20,6 +20,7 @@ use Rattle.float_laws.proofs.Error.{is-near-le}
 use Rattle.float_laws.proofs.Relative.{rnd-rel-any, rnd-rel-whole}
 use Rattle.float_laws.proofs.Close.{Close, close-parts, close-trans, close-add, close-scale, close-unscale, close-square}
 
+-- ---- what both formats have
 digits : (f : Format) → 24 ≤ prec f
 digits binary32 = omega arith
 digits binary64 = omega arith
