@@ -1,19 +1,17 @@
 -- A checker by computation. `Ex` is straight-line float code; `eval` is its value, by the operations of `lib.Ieee`; `ival` computes an interval for it, with values of the format as ends.
 -- `sound`: a value lies in its interval, and is finite, wherever `ival` gives one. `check` is a Bool: where it computes to true, the fact is proved. `bisect` cuts one variable's interval as often as is needed.
 -- Assumes nothing.
-use mathlib.Core.Path.{_≡_, refl, sym, subst}
 use mathlib.Core.List.{List, [], _∷_}
 use mathlib.Core.Logic.{_⊎_, inl, inr}
 use Prim.Native.Nat.{ℕ, zero, suc}
 use mathlib.Core.Bool.{Bool, true, false, not, _&&_, cond}
-use lib.IntN.{pos, negsuc}
+use lib.IntN.{negsuc}
 use lib.Dec.{T}
 use native.Mathlib.Omega.{arith}
-use Prim.Native.Nat.{_+_, _≤_, _<_}
-use lib.Ieee.{Float, nan, inf, fin, Format, lt, le, neg, add, sub, mul, div, fits}
-use lib.Ieee.Fits.{and-i, and-l, and-r}
+use lib.Ieee.{Float, nan, fin, Format, lt, le, neg, add, sub, mul, div, fits}
+use lib.Ieee.Fits.{and-l, and-r}
 use lib.Ieee.Scale.{finite}
-use Rattle.float_laws.proofs.Value.{Real, pl, mi, le-refl, le-trans', nle→le, le→units, lt→units, nlt→units}
+use Rattle.float_laws.proofs.Value.{Real, le-refl, le-trans', nle→le, le→units, lt→units, nlt→units}
 use Rattle.float_laws.proofs.Interval.{In, least, most, least-is, most-is, nil, sq-low, add-in, sub-in, neg-in, mul-in, sq-in, div-in}
 
 -- ---- code. `pick a b c d` is `if a < b { c } else { d }`. `bind e b` is `let x = e; b`, with x as variable 0 of b and the others one up
@@ -25,11 +23,13 @@ pub data Ex : Type 0 where
   pick : Ex → Ex → Ex → Ex → Ex
   bind : Ex → Ex → Ex
 
+-- variable n of the list; a NaN past its end, which no interval holds
 abbrev pub get : List Float → ℕ → Float
 get [] n = nan
 get (x ∷ ρ) zero = x
 get (x ∷ ρ) (suc n) = get ρ n
 
+-- the value, by the operations that code has
 unfoldable pub eval : Format → List Float → Ex → Float
 eval f ρ (var n) = get ρ n
 eval f ρ (con c) = c
@@ -47,13 +47,16 @@ pub data Iv : Type 0 where
   bad : Iv
   iv : Float → Float → Iv
 
+-- x lies in the interval; of `bad` this says nothing, so that soundness needs no side condition
 abbrev pub Holds : Format → Iv → Float → Type 0
 Holds f bad x = Unit {0}
 Holds f (iv lo hi) x = In f lo hi x
 
+-- a test for `Real`
 abbrev pub good : Format → Float → Bool
 good f x = finite x && fits f x
 
+-- each operation on intervals: the operation itself at the ends, and `bad` where an end is not finite
 unfoldable pub addI : Format → Iv → Iv → Iv
 addI f bad j = bad
 addI f (iv a b) bad = bad
@@ -113,6 +116,7 @@ at [] n = bad
 at (v ∷ Γ) zero = v
 at (v ∷ Γ) (suc n) = at Γ n
 
+-- the interval of an expression whose variables lie in the intervals of the list
 unfoldable pub ival : Format → List Iv → Ex → Iv
 unfolding addI subI mulI divI sqI negI pickI conI
 ival f Γ (var n) = at Γ n
@@ -243,6 +247,7 @@ at-holds f (v ∷ Γ) [] n h = absurd h
 at-holds f (v ∷ Γ) (x ∷ ρ) zero h = h .0
 at-holds f (v ∷ Γ) (x ∷ ρ) (suc n) h = at-holds f Γ ρ n (h .1)
 
+-- a value lies in its interval
 pub sound : (f : Format) (Γ : List Iv) (ρ : List Float) (e : Ex) → Inside f Γ ρ → Holds f (ival f Γ e) (eval f ρ e)
 unfolding ival eval
 sound f Γ ρ (var n) h = at-holds f Γ ρ n h
@@ -261,6 +266,7 @@ unfoldable pub covers : Format → Float → Float → Iv → Bool
 covers f lo hi bad = false
 covers f lo hi (iv a b) = le lo a && le b hi
 
+-- an interval that [lo, hi] covers
 pub widen : (f : Format) (lo hi x : Float) (i : Iv) → Real f lo → Real f hi → T (covers f lo hi i) → Holds f i x → In f lo hi x
 unfolding covers
 widen f lo hi x bad l h t p = absurd t
@@ -272,6 +278,7 @@ widen f lo hi x (iv a b) l h t p = record {
   below = le-trans' f x b hi (p .value) (p .high) h (p .below) (and-r (le lo a) (le b hi) t);
 }
 
+-- the interval of e lies in [lo, hi]
 unfoldable pub check : Format → List Iv → Ex → Float → Float → Bool
 unfolding ival covers
 check f Γ e lo hi = covers f lo hi (ival f Γ e)
@@ -294,6 +301,7 @@ bisect f (suc n) a b Γ e lo hi =
       | false ↦ let m = middle f a b in good f m && (bisect f n a m Γ e lo hi && bisect f n m b Γ e lo hi)
     ]
 
+-- what a bisection that computes to true proves
 pub bisected : (f : Format) (n : ℕ) (a b : Float) (Γ : List Iv) (e : Ex) (lo hi x : Float) (ρ : List Float) → Real f lo → Real f hi → T (bisect f n a b Γ e lo hi) → In f a b x → Inside f Γ ρ → In f lo hi (eval f (x ∷ ρ) e)
 unfolding bisect
 bisected f zero a b Γ e lo hi x ρ l h t i p = checked f (iv a b ∷ Γ) (x ∷ ρ) e lo hi l h t (i, p)
@@ -327,6 +335,7 @@ halves f (bad ∷ Γ) zero = uncut
 halves f (iv a b ∷ Γ) zero = let m = middle f a b in cond (good f m) (cut (iv a m ∷ Γ) (iv m b ∷ Γ)) uncut
 halves f (v ∷ Γ) (suc n) = elim (halves f Γ n) [ uncut ↦ uncut | cut Δ Θ ↦ cut (v ∷ Δ) (v ∷ Θ) ]
 
+-- the variables lie in one of the two halves
 abbrev pub Half : Format → Cut → List Float → Type 0
 Half f uncut ρ = Unit {0}
 Half f (cut Δ Θ) ρ = Inside f Δ ρ ⊎ Inside f Θ ρ
@@ -362,6 +371,7 @@ sweep f (n ∷ ns) Γ e lo hi =
       | false ↦ elim (halves f Γ n) [ uncut ↦ false | cut Δ Θ ↦ sweep f ns Δ e lo hi && sweep f ns Θ e lo hi ]
     ]
 
+-- what a sweep that computes to true proves
 pub swept : (f : Format) (ns : List ℕ) (Γ : List Iv) (ρ : List Float) (e : Ex) (lo hi : Float) → Real f lo → Real f hi → T (sweep f ns Γ e lo hi) → Inside f Γ ρ → In f lo hi (eval f ρ e)
 unfolding sweep
 swept f [] Γ ρ e lo hi l h t p = checked f Γ ρ e lo hi l h t p

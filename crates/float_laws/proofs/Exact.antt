@@ -1,9 +1,9 @@
 -- A value that the format holds is its own rounding, so it can be compared with a result by the laws on results: a ≤ a + b for b not below zero; and from a bound on x*x + y*y + z*z, as computed, bounds on |x|, |y| and |z|.
 -- Assumes nothing.
-use mathlib.Core.Path.{_≡_, refl, sym, ap, _∙_, subst}
+use mathlib.Core.Path.{_≡_, sym, ap, _∙_, subst}
 use mathlib.Core.Logic.{_⊎_, inl, inr}
-use Prim.Native.Nat.{ℕ, zero, suc, _+_, _-_, _*_, _/_, _%_, _^_, _≤_, _<_, zero-le}
-use native.Mathlib.Nat.{le-trans, le-of-eq, lt-of-not-le, not-le-of-lt, le-of-lt, mul-one, mul-assoc, zero-mul, zero-div, div-one, mul-div-cancel, sub-add-cancel, mul-le-mul}
+use Prim.Native.Nat.{ℕ, zero, suc, _+_, _-_, _*_, _/_, _%_, _^_, _≤_, _<_}
+use native.Mathlib.Nat.{le-trans, le-of-eq, not-le-of-lt, mul-one, mul-assoc, zero-mul, zero-div, div-one, mul-div-cancel, sub-add-cancel, mul-le-mul, mul-le-mul-right}
 use native.Mathlib.Omega.{arith}
 use mathlib.Core.Bool.{Bool, true, false, not, _&&_}
 use lib.IntN.{ℤ, pos, negsuc}
@@ -13,10 +13,10 @@ use lib.Ieee.{Float, nan, inf, fin, Format, prec, emax, low, up, down, le, add, 
 use lib.Ieee.Fits.{and-l, and-r, add-fits, mul-fits}
 use lib.Ieee.Scale.{finite}
 use Rattle.float_laws.proofs.Units.{rnd, rnd-exact, rnd-zero}
-use Rattle.float_laws.proofs.Value.{mag, pl, mi, Real, mag-is, one-side, units→le, le→units, le-trans', nle→le}
+use Rattle.float_laws.proofs.Value.{mag, pl, mi, Real, mag-is, one-side, parts→le, le→units, le-trans'}
 use Rattle.float_laws.proofs.Operation.{Is, add-Is, mul-Is, rnd-order}
 use Rattle.float_laws.proofs.Size.{Within, add-fin}
-use Rattle.float_laws.proofs.Interval.{Over, Under, over-of, under-of}
+use Rattle.float_laws.proofs.Interval.{no-minus}
 
 -- ---- the units of a value are m * 2 ^ j
 pub exponent : (k l : ℕ) → 2 ^ k ≤ 2 ^ l → k ≤ l
@@ -34,6 +34,7 @@ units-pow f s m (negsuc k) h =
     let e : 2 ^ low f ≡ 2 ^ j * 2 ^ suc k = ap (λ (x : ℕ). 2 ^ x) (sym (sub-add-cancel (exponent (suc k) (low f) h))) ∙ pow-add 2 j (suc k) in
     (j, ap (λ (x : ℕ). x / 2 ^ suc k) (ap (λ (x : ℕ). x * 2 ^ low f) (mul-one m) ∙ ap (λ (x : ℕ). m * x) e ∙ sym (mul-assoc m (2 ^ j) (2 ^ suc k))) ∙ mul-div-cancel (m * 2 ^ j) (pow-pos (suc k)))
 
+-- a value is its own rounding, as a size
 pub fixed : (f : Format) (x : Float) → Real f x → rnd f (mag f x) 1 ≡ mag f x
 unfolding fits
 fixed f nan r = absurd (r .finite)
@@ -74,16 +75,8 @@ self-Is f x r =
 pub is-le : (f : Format) (x y : Float) (P N c Q R d : ℕ) → 0 < c → 0 < d → Is f x P N c → Is f y Q R d → T (finite x) → T (finite y) → P * d + R * c ≤ Q * c + N * d → T (le x y)
 is-le f x y P N c Q R d C D i j t u h =
     let o = rnd-order f P N c Q R d C D h in
-    let o0 = o .0 in
-    let o1 = o .1 in
-    let a = i .plus t in
-    let b = i .minus t in
-    let k = j .plus u in
-    let l = j .minus u in
-    units→le f x y (record { finite = t; fits = i .fits }) (record { finite = u; fits = j .fits }) (join (pl f x) (mi f x) (pl f y) (mi f y) (le-trans (le-of-eq a) (le-trans o0 (le-of-eq (sym k)))) (le-trans (le-of-eq l) (le-trans o1 (le-of-eq (sym b)))))
-  where
-    join : (p n q m : ℕ) → p ≤ q → m ≤ n → p + m ≤ q + n
-    join p n q m a b = omega arith
+    parts→le f x y (record { finite = t; fits = i .fits }) (record { finite = u; fits = j .fits })
+    (le-trans (le-of-eq (i .plus t)) (le-trans (o .0) (le-of-eq (sym (j .plus u))))) (le-trans (le-of-eq (j .minus u)) (le-trans (o .1) (le-of-eq (sym (i .minus t)))))
 
 -- ---- a ≤ a + b for b not below zero, and b ≤ a + b for a not below zero
 pub add-grow-l : (f : Format) (a b : Float) → Real f a → Real f b → mi f b ≡ 0 → T (finite (add f a b)) → T (le a (add f a b))
@@ -97,11 +90,10 @@ none : (p n : ℕ) → (p ≡ 0) ⊎ (n ≡ 0) → p * n + n * p ≡ 0
 none p n (inl z) = subst (λ (w : ℕ). w * n + n * w ≡ 0) (sym z) (omega arith)
 none p n (inr z) = subst (λ (w : ℕ). p * w + w * p ≡ 0) (sym z) (omega arith)
 
+-- a square is not below zero
 pub sq-mi : (f : Format) (x : Float) → Real f x → T (finite (mul f x x)) → mi f (mul f x x) ≡ 0
 sq-mi f x r t =
-    mul-Is f x x r r .minus t
-    ∙ ap (λ (n : ℕ). rnd f n (2 ^ low f)) (let e = none (pl f x) (mi f x) (one-side f x) in let o : pl f x * mi f x + mi f x * pl f x - (pl f x * pl f x + mi f x * mi f x) ≡ 0 = omega arith in o)
-    ∙ rnd-zero f (2 ^ low f) (pow-pos (low f))
+    mul-Is f x x r r .minus t ∙ ap (λ (n : ℕ). rnd f n (2 ^ low f)) (no-minus (pl f x) (mi f x) (one-side f x)) ∙ rnd-zero f (2 ^ low f) (pow-pos (low f))
 
 square : (p n : ℕ) → (p ≡ 0) ⊎ (n ≡ 0) → p * p + n * n ≡ (p + n) * (p + n)
 square p n (inl z) = subst (λ (w : ℕ). w * w + n * n ≡ (w + n) * (w + n)) (sym z) (omega arith)
@@ -124,7 +116,7 @@ root-within f x c B r q b z t u h k = record { value = r; bound = q; plus = z; l
         (both (pl f c * pl f c + mi f c * mi f c) (pl f x * pl f x + mi f x * mi f x) (pl f c * mi f c + mi f c * pl f c) (pl f x * mi f x + mi f x * pl f x) (2 ^ low f) l nx)
       where
         both : (A S N M L : ℕ) → A ≤ S → M ≡ 0 → A * L + M * L ≤ S * L + N * L
-        both A S N M L h z = let k = native.Mathlib.Nat.mul-le-mul-right L h in subst (λ (n : ℕ). A * L + n * L ≤ S * L + N * L) (sym z) (omega arith)
+        both A S N M L h z = let k = mul-le-mul-right L h in subst (λ (n : ℕ). A * L + n * L ≤ S * L + N * L) (sym z) (omega arith)
 
     size : (v : Bool) → (T v → mag f x ≤ pl f c) → (T (not v) → pl f c < mag f x) → mag f x ≤ pl f c
     size true a d = a tt

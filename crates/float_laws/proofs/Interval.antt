@@ -2,19 +2,19 @@
 -- Assumes nothing.
 use mathlib.Core.Path.{_≡_, refl, sym, ap, _∙_, subst}
 use mathlib.Core.Logic.{_⊎_, inl, inr}
-use Prim.Native.Nat.{ℕ, zero, suc, _+_, _-_, _*_, _/_, _%_, _^_, _≤_, _<_, zero-le}
-use native.Mathlib.Nat.{le-trans, le-of-eq, lt-of-le-of-lt, lt-of-lt-of-le, mul-le-mul, mul-le-mul-right, mul-le-mul-left, mul-comm, mul-assoc, mul-left-comm, mul-right-comm}
+use Prim.Native.Nat.{ℕ, _+_, _-_, _*_, _/_, _^_, _≤_, _<_, zero-le}
+use native.Mathlib.Nat.{le-trans, le-of-eq, lt-of-le-of-lt, lt-of-lt-of-le, mul-le-mul-right, mul-le-mul-left, eq-zero-or-pos, lt-irrefl, zero-mul}
 use native.Mathlib.Omega.{arith}
-use mathlib.Core.Bool.{Bool, true, false, not, _&&_, _||_, cond}
-use lib.IntN.{ℤ, pos}
-use lib.Dec.{T, leb, ltb, leb→le, ltb→lt}
+use mathlib.Core.Bool.{Bool, true, false, not, cond}
+use lib.IntN.{pos}
+use lib.Dec.{T, T-not}
 use lib.Pow.{pow-pos}
-use lib.Ieee.{Float, nan, inf, fin, Format, low, up, down, le, lt, neg, add, sub, mul, div, fits}
-use lib.Ieee.Fits.{and-l, and-r, add-fits, mul-fits, sub-fits, div-fits}
-use lib.Ieee.Scale.{finite, overflow}
+use lib.Ieee.{Float, nan, inf, fin, Format, low, le, neg, add, sub, mul, div, fits}
+use lib.Ieee.Fits.{add-fits, mul-fits, sub-fits, div-fits}
+use lib.Ieee.Scale.{finite}
 use Rattle.float_laws.proofs.Units.{rnd, rnd-zero}
-use Rattle.float_laws.proofs.Value.{sign, sp, sn, mag, pl, mi, Real, mag-is, under, one-side, units→le, le→units, le-refl, le-trans', nle→le, neg-real, neg-pl, neg-mi}
-use Rattle.float_laws.proofs.Operation.{Is, add-Is, sub-Is, mul-Is, div-Is, rnd-order}
+use Rattle.float_laws.proofs.Value.{sign, sp, mag, pl, mi, Real, mag-is, pl-under, mi-under, parts→le, one-side, units→le, le→units, le-refl, le-trans', nle→le, neg-real, neg-pl, neg-mi}
+use Rattle.float_laws.proofs.Operation.{Is, add-Is, sub-Is, mul-Is, div-Is, is-mag, scale-differ, rnd-order}
 
 -- lo ≤ x ≤ hi, all finite
 pub record In (f : Format) (lo hi x : Float) : Type 0 where
@@ -42,6 +42,7 @@ pub record Under (f : Format) (lo : Float) (P N c : ℕ) : Type 0 where
   pub plus : pl f lo ≤ rnd f (P - N) c
   pub minus : rnd f (N - P) c ≤ mi f lo
 
+-- a larger exact value bounds the rounded one from above, and a smaller one from below
 pub over-of : (f : Format) (P N c Q R d : ℕ) (k : Float) → 0 < c → 0 < d → Is f k Q R d → T (finite k) → P * d + R * c ≤ Q * c + N * d → Over f P N c k
 over-of f P N c Q R d k C D i t h =
     let o = rnd-order f P N c Q R d C D h in
@@ -52,6 +53,7 @@ under-of f P N c Q R d k C D i t h =
     let o = rnd-order f Q R d P N c D C h in
     record { plus = le-trans (le-of-eq (i .plus t)) (o .0); minus = le-trans (o .1) (le-of-eq (sym (i .minus t))) }
 
+-- and whatever is beyond that bound
 pub over-trans : (f : Format) (P N c : ℕ) (k hi : Float) → Over f P N c k → Real f k → Real f hi → T (le k hi) → Over f P N c hi
 over-trans f P N c k hi o r q h =
     let p = le→parts f k hi r q h in
@@ -62,33 +64,20 @@ under-trans f P N c lo k u q r h =
     let p = le→parts f lo k q r h in
     record { plus = le-trans (p .0) (u .plus); minus = le-trans (u .minus) (p .1) }
 
+-- a result between two finite values is finite and lies between them: how every interval law ends
 pub enclose : (f : Format) (z lo hi : Float) (P N c : ℕ) → Is f z P N c → Real f lo → Real f hi → Under f lo P N c → Over f P N c hi → In f lo hi z
 enclose f z lo hi P N c i l h u o =
-    let a = under f hi h in
-    let b = under f lo l in
-    let m = mag-is f hi in
-    let n = mag-is f lo in
-    let up = u .plus in
-    let um = u .minus in
-    let op = o .plus in
-    let om = o .minus in
-    let t = i .small (small (rnd f (P - N) c) (pl f hi) (mi f hi) (mag f hi) (overflow f) op m a) (small (rnd f (N - P) c) (mi f lo) (pl f lo) (mag f lo) (overflow f) um (n ∙ swap (pl f lo) (mi f lo)) b) in
+    let t = i .small (lt-of-le-of-lt (o .plus) (pl-under f hi h)) (lt-of-le-of-lt (u .minus) (mi-under f lo l)) in
     let Z : Real f z = record { finite = t; fits = i .fits } in
     let p = i .plus t in
     let q = i .minus t in
-    record { low = l; high = h; value = Z; above = units→le f lo z l Z (joined (pl f lo) (mi f lo) (pl f z) (mi f z) up um p q); below = units→le f z hi Z h (joined' (pl f z) (mi f z) (pl f hi) (mi f hi) op om p q) }
-  where
-    small : (r p m k o : ℕ) → r ≤ p → k ≡ p + m → k < o → r < o
-    small r p m k o e g h = omega arith
-
-    swap : (a b : ℕ) → a + b ≡ b + a
-    swap a b = omega arith
-
-    joined : (p n q m : ℕ) {r s : ℕ} → p ≤ r → s ≤ n → q ≡ r → m ≡ s → p + m ≤ q + n
-    joined p n q m a b c d = omega arith
-
-    joined' : (p n q m : ℕ) {r s : ℕ} → r ≤ q → m ≤ s → p ≡ r → n ≡ s → p + m ≤ q + n
-    joined' p n q m a b c d = omega arith
+    record {
+      low = l;
+      high = h;
+      value = Z;
+      above = parts→le f lo z l Z (le-trans (u .plus) (le-of-eq (sym p))) (le-trans (le-of-eq q) (u .minus));
+      below = parts→le f z hi Z h (le-trans (le-of-eq p) (o .plus)) (le-trans (o .minus) (le-of-eq (sym q)));
+    }
 
 real : (f : Format) (x : Float) → T (finite x) → T (fits f x) → Real f x
 real f x t u = record { finite = t; fits = u }
@@ -139,6 +128,7 @@ least x y = cond (le x y) x y
 unfoldable pub most : Float → Float → Float
 most x y = cond (le x y) y x
 
+-- they are values of the format, and lie on their side of both
 pub least-is : (f : Format) (x y : Float) → Real f x → Real f y → Real f (least x y) × T (le (least x y) x) × T (le (least x y) y)
 unfolding least
 least-is f x y r q = go (le x y) (λ (t : T (le x y)). t) (nle→le f x y r q)
@@ -262,7 +252,7 @@ nil-real f = record { finite = tt; fits = tt }
 
 nil-mag : (f : Format) → mag f nil ≡ 0
 unfolding mag
-nil-mag f = ap (λ (n : ℕ). n / 1) (native.Mathlib.Nat.zero-mul (2 ^ low f))
+nil-mag f = ap (λ (n : ℕ). n / 1) (zero-mul (2 ^ low f))
 
 pub nil-pl : (f : Format) → pl f nil ≡ 0
 unfolding pl
@@ -287,10 +277,12 @@ to-zero f x r h =
     let q = p .0 in
     omega arith
 
-no-minus : (p n : ℕ) → (p ≡ 0) ⊎ (n ≡ 0) → p * n + n * p - (p * p + n * n) ≡ 0
+-- a square has no minus part
+pub no-minus : (p n : ℕ) → (p ≡ 0) ⊎ (n ≡ 0) → p * n + n * p - (p * p + n * n) ≡ 0
 no-minus p n (inl z) = subst (λ (w : ℕ). w * n + n * w - (w * w + n * n) ≡ 0) (sym z) (omega arith)
 no-minus p n (inr z) = subst (λ (w : ℕ). p * w + w * p - (p * p + w * w) ≡ 0) (sym z) (omega arith)
 
+-- the low end of a square: of the end that is nearer to zero, or zero where the interval holds it
 unfoldable pub sq-low : Format → Float → Float → Float
 sq-low f a b = cond (le nil a) (mul f a a) (cond (le b nil) (mul f b b) nil)
 
@@ -356,8 +348,9 @@ sign-of f y = go (sign y)
   where
     go : (s : Bool) → 0 < sp s (mag f y) → s ≡ false
     go false h = refl
-    go true h = absurd (native.Mathlib.Nat.lt-irrefl 0 h)
+    go true h = absurd (lt-irrefl 0 h)
 
+-- by a divisor above zero, with no case on a sign
 pub div-Is' : (f : Format) (x y : Float) → Real f x → Real f y → 0 < pl f y → Is f (div f x y) (pl f x * 2 ^ low f) (mi f x * 2 ^ low f) (pl f y)
 div-Is' f x y r q h =
     let g = mag-is f y in
@@ -365,6 +358,10 @@ div-Is' f x y r q h =
     let i = div-Is f x y r q (omega arith) in
     subst (λ (n : ℕ). Is f (div f x y) (pl f x * 2 ^ low f) (mi f x * 2 ^ low f) n) e
     (subst (λ (s : Bool). Is f (div f x y) (cond s (mi f x) (pl f x) * 2 ^ low f) (cond s (pl f x) (mi f x) * 2 ^ low f) (mag f y)) (sign-of f y h) i)
+
+-- the size of a quotient is the rounded quotient of the sizes
+pub div-mag : (f : Format) (x y : Float) → Real f x → Real f y → 0 < pl f y → T (finite (div f x y)) → mag f (div f x y) ≡ rnd f (mag f x * 2 ^ low f) (pl f y)
+div-mag f x y r q h t = is-mag f (div f x y) _ _ (pl f y) (mag f x * 2 ^ low f) h (div-Is' f x y r q h) (scale-differ f x (2 ^ low f)) t
 
 q1 : (xp xn bp bn L c y : ℕ) → bn ≡ 0 → xp + bn ≤ bp + xn → c ≤ y → xp * L * c + bn * L * y ≤ bp * L * y + xn * L * c
 q1 xp xn bp bn L c y z h k = subst (λ (w : ℕ). xp * L * c + w * L * y ≤ bp * L * y + xn * L * c) (sym z) (let g : xp * (L * c) ≤ (bp + xn) * (L * c) = mul-le-mul-right (L * c) (omega arith) in let j : bp * L * c ≤ bp * L * y = mul-le-mul-left (bp * L) k in omega arith)
@@ -380,8 +377,8 @@ q4 xp xn ap' an L c y z h k = subst (λ (w : ℕ). w * L * y + xn * L * c ≤ xp
 
 module _ (f : Format) (a b c d x y : Float) (i : In f a b x) (j : In f c d y) (C : T (not (le c nil))) where
   c-pos : 0 < pl f c
-  c-pos = elim (native.Mathlib.Nat.eq-zero-or-pos (pl f c)) [
-    | inl z ↦ absurd (lib.Dec.T-not (le c nil) C (units→le f c nil (j .low) (nil-real f) (let u = nil-pl f in let v = nil-mi f in omega arith)))
+  c-pos = elim (eq-zero-or-pos (pl f c)) [
+    | inl z ↦ absurd (T-not (le c nil) C (units→le f c nil (j .low) (nil-real f) (let u = nil-pl f in let v = nil-mi f in omega arith)))
     | inr p ↦ p
   ]
 
@@ -430,5 +427,6 @@ finite-between (fin s m e) (inf false) (inf u) l h p q = absurd h
 finite-between (fin s m e) (inf false) (fin u k g) l h p q = q
 finite-between (fin s m e) (fin t n d) hi l h p q = tt
 
+-- from the tests of a program, with nothing said of x but that it fits
 pub in-of-le : (f : Format) (lo hi x : Float) → Real f lo → Real f hi → T (fits f x) → T (le lo x) → T (le x hi) → In f lo hi x
 in-of-le f lo hi x l h t p q = record { low = l; high = h; value = record { finite = finite-between lo x hi (l .finite) (h .finite) p q; fits = t }; above = p; below = q }

@@ -6,6 +6,10 @@ pub mod Size
 pub mod Exact
 pub mod Order
 pub mod Error
+pub mod Relative
+pub mod Close
+pub mod Interpolate
+pub mod UnitVector
 pub mod Checker
 pub mod Nearest
 pub mod Pattern

@@ -2,21 +2,22 @@
 -- From there order, size and error of a result are facts on ℕ about `rnd`. Assumes nothing.
 use mathlib.Core.Path.{_≡_, refl, sym, ap, _∙_, subst}
 use mathlib.Core.Logic.{_⊎_, inl, inr}
-use Prim.Native.Nat.{ℕ, zero, suc, _+_, _-_, _*_, _/_, _%_, _^_, _≤_, _<_, zero-le, compare}
-use native.Mathlib.Nat.{le-trans, le-of-eq, le-of-lt, lt-of-le-of-lt, add-mul, zero-mul, zero-add, mul-zero, add-zero, mul-one, mul-comm, mul-assoc, mul-left-comm, mul-right-comm, mul-le-mul-right, le-of-mul-le-mul-right, mul-pos, mul-sub, mul-mul-mul-comm, sub-eq-zero-of-le}
+use Prim.Native.Nat.{ℕ, suc, _+_, _-_, _*_, _^_, _≤_, _<_}
+use native.Mathlib.Nat.{le-trans, le-of-eq, le-of-lt, lt-of-le-of-lt, mul-one, mul-comm, mul-assoc, mul-left-comm, mul-right-comm, mul-le-mul-right, le-of-mul-le-mul-right, mul-pos, mul-sub, mul-mul-mul-comm}
 use native.Mathlib.Omega.{arith}
-use mathlib.Core.Bool.{Bool, true, false, not, _&&_, _||_, Bool·beq, cond}
-use lib.Dec.{T, leb, ltb, eqb, leb→le, ltb→lt, lt→ltb, eqb→eq, nltb→le}
+use mathlib.Core.Bool.{Bool, true, false, not, _&&_, cond}
+use lib.Dec.{T, ltb, eqb, ltb→lt, eqb→eq, nltb→le}
 use lib.Pow.{pow-pos}
-use lib.Ieee.{Float, nan, inf, fin, Format, prec, emax, low, up, down, unlike, size, odd, units, round, sum, le, neg, add, sub, mul, div, fits}
-use lib.Ieee.Fits.{round-is, round-fits, add-fits, mul-fits, div-fits, sub-fits, down-pos, neg-fits}
+use lib.Ieee.{Float, nan, inf, fin, Format, prec, low, up, down, unlike, odd, units, round, sum, le, neg, add, sub, mul, div, fits}
+use lib.Ieee.Fits.{round-is, round-fits, down-pos, up-pos}
 use lib.Ieee.Exact.{HasValue, units-val}
 use lib.Ieee.Scale.{finite, overflow}
 use lib.Ieee.Order.{drop, kept}
-use lib.Ieee.Positive.{num, den, den-pos, first-pos}
-use Rattle.float_laws.proofs.Units.{rnd, rnd-same, rnd-mono, rnd-le, rnd-zero}
-use Rattle.float_laws.proofs.Value.{sign, mag, sp, sn, pl, mi, Real, units-of, mag-of, mag-is, under, one-side, units→le, le→units, neg-real, neg-pl, neg-mi}
+use lib.Ieee.Positive.{first-pos}
+use Rattle.float_laws.proofs.Units.{rnd, rnd-same, rnd-mono, rnd-zero}
+use Rattle.float_laws.proofs.Value.{sign, mag, sp, sn, pl, mi, Real, units-of, mag-of, mag-is, one-side, cross, cross', pl-under, mi-under, parts→le, neg-real, neg-pl, neg-mi}
 
+-- z is (P - N) / c units, rounded once: what it fits, when it is finite, and its two parts
 pub record Is (f : Format) (z : Float) (P N c : ℕ) : Type 0 where
   pub fits : T (fits f z)
   pub small : rnd f (P - N) c < overflow f → rnd f (N - P) c < overflow f → T (finite z)
@@ -36,6 +37,7 @@ round-under : (f : Format) (s : Bool) (a c : ℕ) → T (finite (round f s a c))
 unfolding rnd
 round-under f s a c t = units-under f s (kept (prec f) (a * 2 ^ low f) c) (drop (prec f) (a * 2 ^ low f) c) (subst (λ (z : Float). T (finite z)) (round-is f s a c) t)
 
+-- below the overflow a rounding is the value that `rnd` says
 pub round-has : (f : Format) (s : Bool) (a c : ℕ) → rnd f (a * 2 ^ low f) c < overflow f → HasValue (round f s a c) s (rnd f (a * 2 ^ low f) c) (2 ^ low f)
 unfolding rnd
 round-has f s a c h = subst (λ (z : Float). HasValue z s (rnd f (a * 2 ^ low f) c) (2 ^ low f)) (sym (round-is f s a c)) (units-val f s (kept (prec f) (a * 2 ^ low f) c) (drop (prec f) (a * 2 ^ low f) c) h)
@@ -52,6 +54,7 @@ bound-of : (s : Bool) (f : Format) (n c : ℕ) → 0 < c → rnd f (sp s n) c < 
 bound-of false f n c C h k = h
 bound-of true f n c C h k = k
 
+-- `round` of a fraction a / b that is n / c units, with its sign
 pub round-Is : (f : Format) (s : Bool) (a b P N c n : ℕ) → 0 < b → 0 < c → a * 2 ^ low f * c ≡ n * b → sp s n ≡ P - N → sn s n ≡ N - P → Is f (round f s a b) P N c
 unfolding pl mi
 round-Is f s a b P N c n B C e p q =
@@ -67,12 +70,6 @@ round-Is f s a b P N c n B C e p q =
     }
 
 -- ---- the sum
-cross : (n d L M c : ℕ) → n * L ≡ M * d → n * c * L ≡ M * (d * c)
-cross n d L M c e = mul-right-comm n c L ∙ ap (λ (x : ℕ). x * c) e ∙ mul-assoc M d c
-
-cross' : (n d L M c : ℕ) → n * L ≡ M * d → n * c * L ≡ M * (c * d)
-cross' n d L M c e = cross n d L M c e ∙ ap (λ (x : ℕ). M * x) (mul-comm d c)
-
 both : (A B M N L C : ℕ) → A * L ≡ M * C → B * L ≡ N * C → (A + B) * L * 1 ≡ (M + N) * C
 both A B M N L C p q = omega arith
 
@@ -190,7 +187,7 @@ div-Is f (fin s m e) (fin t n d) r q h =
     let N = mag f (fin t n d) in
     let np : 0 < n = first-pos n (up d) (no-zero (n * up d) (2 ^ low f) N (down d) (units-of f (fin t n d) q) h (down-pos d)) in
     let ip = round-Is f (unlike s t) (m * up e * down d) (n * up d * down e) (cond t (sn s M) (sp s M) * 2 ^ low f) (cond t (sp s M) (sn s M) * 2 ^ low f) N (M * 2 ^ low f)
-    (mul-pos (mul-pos np (lib.Ieee.Fits.up-pos d)) (down-pos e)) h
+    (mul-pos (mul-pos np (up-pos d)) (down-pos e)) h
     (over (m * up e) (down e) (n * up d) (down d) (2 ^ low f) M N (units-of f (fin s m e) r) (units-of f (fin t n d) q))
     (quot-pl s t M N (2 ^ low f) h) (quot-mi s t M N (2 ^ low f) h) in
     go (eqb n 0) (eqb→eq n 0) np ip
@@ -199,6 +196,58 @@ div-Is f (fin s m e) (fin t n d) r q h =
         → Is f (cond b (cond (eqb m 0) nan (inf (unlike s t))) (round f (unlike s t) (m * up e * down d) (n * up d * down e))) (cond t (sn s (mag f (fin s m e))) (sp s (mag f (fin s m e))) * 2 ^ low f) (cond t (sp s (mag f (fin s m e))) (sn s (mag f (fin s m e))) * 2 ^ low f) (mag f (fin t n d))
     go true z h i = let w = z tt in absurd (let o : _≡_ {A = ℕ} n 0 = w in omega arith)
     go false z h i = i
+
+-- ---- sizes: the size of a product is the rounded product of the sizes, and so for a quotient
+-- |P - N| = D
+abbrev pub Differ : ℕ → ℕ → ℕ → Type 0
+Differ P N D = ((P - N ≡ D) × (N - P ≡ 0)) ⊎ ((N - P ≡ D) × (P - N ≡ 0))
+
+pub differ-le : (P N D : ℕ) → Differ P N D → (P - N ≤ D) × (N - P ≤ D)
+differ-le P N D (inl h) = let a = h .0 in let b = h .1 in (omega arith, omega arith)
+differ-le P N D (inr h) = let a = h .0 in let b = h .1 in (omega arith, omega arith)
+
+product-differ : (a b c d : ℕ) → (a ≡ 0) ⊎ (b ≡ 0) → (c ≡ 0) ⊎ (d ≡ 0) → Differ (a * c + b * d) (a * d + b * c) ((a + b) * (c + d))
+product-differ a b c d (inl u) (inl v) = subst (λ (w : ℕ). Differ (w * c + b * d) (w * d + b * c) ((w + b) * (c + d))) (sym u) (subst (λ (w : ℕ). Differ (0 * w + b * d) (0 * d + b * w) ((0 + b) * (w + d))) (sym v) (inl (omega arith, omega arith)))
+product-differ a b c d (inl u) (inr v) = subst (λ (w : ℕ). Differ (w * c + b * d) (w * d + b * c) ((w + b) * (c + d))) (sym u) (subst (λ (w : ℕ). Differ (0 * c + b * w) (0 * w + b * c) ((0 + b) * (c + w))) (sym v) (inr (omega arith, omega arith)))
+product-differ a b c d (inr u) (inl v) = subst (λ (w : ℕ). Differ (a * c + w * d) (a * d + w * c) ((a + w) * (c + d))) (sym u) (subst (λ (w : ℕ). Differ (a * w + 0 * d) (a * d + 0 * w) ((a + 0) * (w + d))) (sym v) (inr (omega arith, omega arith)))
+product-differ a b c d (inr u) (inr v) = subst (λ (w : ℕ). Differ (a * c + w * d) (a * d + w * c) ((a + w) * (c + d))) (sym u) (subst (λ (w : ℕ). Differ (a * c + 0 * w) (a * w + 0 * c) ((a + 0) * (c + w))) (sym v) (inl (omega arith, omega arith)))
+
+-- of the exact product the size is the product of the sizes
+pub mul-differ : (f : Format) (x y : Float) → Differ (pl f x * pl f y + mi f x * mi f y) (pl f x * mi f y + mi f x * pl f y) (mag f x * mag f y)
+mul-differ f x y =
+    subst (λ (w : ℕ). Differ (pl f x * pl f y + mi f x * mi f y) (pl f x * mi f y + mi f x * pl f y) w)
+    (ap (λ (w : ℕ). w * (pl f y + mi f y)) (sym (mag-is f x)) ∙ ap (λ (w : ℕ). mag f x * w) (sym (mag-is f y)))
+    (product-differ (pl f x) (mi f x) (pl f y) (mi f y) (one-side f x) (one-side f y))
+
+scaled-differ : (a b l : ℕ) → (a ≡ 0) ⊎ (b ≡ 0) → Differ (a * l) (b * l) ((a + b) * l)
+scaled-differ a b l (inl u) = subst (λ (w : ℕ). Differ (w * l) (b * l) ((w + b) * l)) (sym u) (inr (omega arith, omega arith))
+scaled-differ a b l (inr u) = subst (λ (w : ℕ). Differ (a * l) (w * l) ((a + w) * l)) (sym u) (inl (omega arith, omega arith))
+
+-- of the exact quotient (l = 2 ^ low) the numerator of the size
+pub scale-differ : (f : Format) (x : Float) (l : ℕ) → Differ (pl f x * l) (mi f x * l) (mag f x * l)
+scale-differ f x l = subst (λ (w : ℕ). Differ (pl f x * l) (mi f x * l) (w * l)) (sym (mag-is f x)) (scaled-differ (pl f x) (mi f x) l (one-side f x))
+
+-- the size of a result is its exact size, rounded
+pub is-mag : (f : Format) (z : Float) (P N c D : ℕ) → 0 < c → Is f z P N c → Differ P N D → T (finite z) → mag f z ≡ rnd f D c
+is-mag f z P N c D C i h t = go h
+  where
+    z0 : (n : ℕ) → n ≡ 0 → rnd f n c ≡ 0
+    z0 n e = ap (λ (x : ℕ). rnd f x c) e ∙ rnd-zero f c C
+
+    go : Differ P N D → mag f z ≡ rnd f D c
+    go (inl k) =
+        let a : pl f z ≡ rnd f D c = i .plus t ∙ ap (λ (x : ℕ). rnd f x c) (k .0) in
+        let b : mi f z ≡ 0 = i .minus t ∙ z0 (N - P) (k .1) in
+        let g = mag-is f z in
+        omega arith
+    go (inr k) =
+        let a : mi f z ≡ rnd f D c = i .minus t ∙ ap (λ (x : ℕ). rnd f x c) (k .0) in
+        let b : pl f z ≡ 0 = i .plus t ∙ z0 (P - N) (k .1) in
+        let g = mag-is f z in
+        omega arith
+
+pub mul-mag : (f : Format) (x y : Float) → Real f x → Real f y → T (finite (mul f x y)) → mag f (mul f x y) ≡ rnd f (mag f x * mag f y) (2 ^ low f)
+mul-mag f x y r q t = is-mag f (mul f x y) _ _ (2 ^ low f) (mag f x * mag f y) (pow-pos (low f)) (mul-Is f x y r q) (mul-differ f x y) t
 
 -- ---- two results in order: (P - N) / c ≤ (Q - R) / d
 grow : (P N c Q R d : ℕ) → P * d + R * c ≤ Q * c + N * d → (P - N) * d ≤ (Q - R) * c
@@ -222,29 +271,13 @@ between f lo z hi P N c Q R d S W g C D G a b e l h u v =
     let y = rnd-order f Q R d S W g D G v in
     let L : Real f lo = record { finite = l; fits = a .fits } in
     let H : Real f hi = record { finite = h; fits = e .fits } in
-    let bl = under f lo L in
-    let bh = under f hi H in
-    let ml = mag-is f lo in
-    let mh = mag-is f hi in
-    let lp = a .plus l in
-    let lm = a .minus l in
-    let hp = e .plus h in
-    let hm = e .minus h in
-    let x0 = x .0 in
-    let x1 = x .1 in
-    let y0 = y .0 in
-    let y1 = y .1 in
-    let t : T (finite z) = b .small (lt-of-le-of-lt y0 (top (rnd f (S - W) g) (pl f hi) (mi f hi) (mag f hi) (overflow f) hp mh bh)) (lt-of-le-of-lt x1 (top (rnd f (N - P) c) (mi f lo) (pl f lo) (mag f lo) (overflow f) lm (ml ∙ swap (pl f lo) (mi f lo)) bl)) in
+    let upper = le-trans (y .0) (le-of-eq (sym (e .plus h))) in
+    let lower = le-trans (x .1) (le-of-eq (sym (a .minus l))) in
+    let t = b .small (lt-of-le-of-lt upper (pl-under f hi H)) (lt-of-le-of-lt lower (mi-under f lo L)) in
     let Z : Real f z = record { finite = t; fits = b .fits } in
-    let zp = b .plus t in
-    let zm = b .minus t in
-    (Z, units→le f lo z L Z (joined (pl f lo) (mi f lo) (pl f z) (mi f z) (le-of-eq lp) x0 zp zm x1 lm), units→le f z hi Z H (joined (pl f z) (mi f z) (pl f hi) (mi f hi) (le-of-eq zp) y0 hp hm y1 zm))
-  where
-    top : (r p m k o : ℕ) → p ≡ r → k ≡ p + m → k < o → r < o
-    top r p m k o e g h = omega arith
-
-    swap : (a b : ℕ) → a + b ≡ b + a
-    swap a b = omega arith
-
-    joined : (p n q m : ℕ) {r s u w : ℕ} → p ≤ r → r ≤ s → q ≡ s → m ≡ u → u ≤ w → n ≡ w → p + m ≤ q + n
-    joined p n q m a b c d e g = omega arith
+    let p = b .plus t in
+    let n = b .minus t in (
+      Z,
+      parts→le f lo z L Z (le-trans (le-of-eq (a .plus l)) (le-trans (x .0) (le-of-eq (sym p)))) (le-trans (le-of-eq n) lower),
+      parts→le f z hi Z H (le-trans (le-of-eq p) upper) (le-trans (le-of-eq (e .minus h)) (le-trans (y .1) (le-of-eq (sym n)))),
+    )

@@ -1,23 +1,23 @@
 -- Sizes: |x| ≤ A and |y| ≤ B give |x + y| ≤ A + B, |x - y| ≤ A + B and |x * y| ≤ A * B, each sum and product rounded, wherever the right side is finite.
--- So a bound that a program computes from sizes, in its own arithmetic, bounds whatever the same operations give on smaller values. Assumes nothing.
+-- So a bound that a program computes from sizes, in its own arithmetic, bounds whatever the same operations give on smaller values. The size of a quotient is `div-within` of Order.
+-- Besides: larger bounds, constants by a computed test, |x| as code has it, and a cubic and its slope against the bounds that a program tests. Assumes nothing.
 use mathlib.Core.Path.{_≡_, refl, sym, ap, _∙_, subst}
-use mathlib.Core.Logic.{_⊎_, inl, inr}
-use Prim.Native.Nat.{ℕ, zero, suc, _+_, _-_, _*_, _/_, _%_, _^_, _≤_, _<_, zero-le}
-use native.Mathlib.Nat.{le-trans, le-of-eq, lt-of-le-of-lt, mul-le-mul}
+use mathlib.Core.Logic.{inl, inr}
+use Prim.Native.Nat.{ℕ, zero, suc, _+_, _-_, _*_, _/_, _^_, _≤_, _<_, zero-le}
+use native.Mathlib.Nat.{le-trans, le-of-eq, lt-of-le-of-lt, mul-le-mul, add-zero, le-add-right, le-antisymm, lt-irrefl, mul-comm, mul-pos, not-le-of-lt, zero-div, zero-lt-suc, zero-mul}
 use native.Mathlib.Omega.{arith}
-use mathlib.Core.Bool.{Bool, true, false, not, _&&_, _||_, Bool·beq, cond}
+use mathlib.Core.Bool.{Bool, true, false, not, _&&_, cond, true≢false}
 use lib.Dec.{T, ltb, eqb, eqb→eq, ltb→lt, nltb→le}
-use lib.IntN.{pos}
 use lib.Pow.{pow-pos}
-use lib.Ieee.{Float, nan, inf, fin, Format, prec, emax, low, up, down, unlike, odd, units, round, sum, lt, le, neg, add, sub, mul, div, fits}
+use lib.Ieee.{Float, nan, inf, fin, Format, prec, emax, low, up, down, unlike, odd, units, round, sum, lt, le, neg, add, sub, mul, fits}
 use lib.Ieee.Exact.{HasValue}
 use lib.Ieee.Order.{drop, kept}
-use lib.Ieee.Fits.{round-is, add-fits, mul-fits, sub-fits, up-pos, down-pos, eq→eqb}
+use lib.Ieee.Fits.{and-l, and-r, round-is, up-pos, down-pos, eq→eqb}
 use lib.Ieee.Scale.{finite, overflow}
 use Rattle.float_laws.proofs.Units.{rnd, rnd-le, rnd-zero}
-use Rattle.float_laws.proofs.Value.{sign, mag, sp, sn, pl, mi, Real, units-of, mag-is, under, one-side, units→le, le→units, lt→units, nlt→units, neg-real, neg-pl, neg-mi}
-use Rattle.float_laws.proofs.Operation.{Is, add-Is, sub-Is, mul-Is, round-has}
-use Rattle.float_laws.proofs.Interval.{In, nil, nil-real, nil-pl, nil-mi, finite-between}
+use Rattle.float_laws.proofs.Value.{sign, mag, pl, mi, Real, units-of, mag-is, under, one-side, units→le, le→units, lt→units, nlt→units, neg-real, neg-pl, neg-mi}
+use Rattle.float_laws.proofs.Operation.{Is, differ-le, mul-differ, add-Is, sub-Is, mul-Is, round-has}
+use Rattle.float_laws.proofs.Interval.{In, le→parts, nil, nil-real, nil-pl, nil-mi, finite-between}
 
 -- |x| ≤ A, both finite, and A is not below zero
 pub record Within (f : Format) (x A : Float) : Type 0 where
@@ -39,6 +39,7 @@ within-of-le f x A r q h k =
       | inr z ↦ record { value = r; bound = q; plus = z; le = elim (one-side f x) [ inl w ↦ omega arith | inr w ↦ omega arith ] }
     ]
 
+-- back to an order of values, as a contract states it
 pub le-of-within : (f : Format) (x A : Float) → Within f x A → T (le (neg A) x) × T (le x A)
 le-of-within f x A w =
     let p = neg-pl f A (w .bound) in
@@ -71,8 +72,9 @@ within-trans f x A B v w =
     record { value = v .value; bound = w .bound; plus = w .plus; le = omega arith }
 
 -- ---- the laws
-size-of : (f : Format) (z : Float) (P N c S : ℕ) → 0 < c → Is f z P N c → P - N ≤ S → N - P ≤ S → rnd f S c < overflow f → Real f z × (mag f z ≤ rnd f S c)
-size-of f z P N c S C i h k b =
+-- a result whose exact value is at most S / c units in size is at most that, rounded
+pub is-bounded : (f : Format) (z : Float) (P N c S : ℕ) → 0 < c → Is f z P N c → P - N ≤ S → N - P ≤ S → rnd f S c < overflow f → Real f z × (mag f z ≤ rnd f S c)
+is-bounded f z P N c S C i h k b =
     let u = rnd-le f (P - N) S c C h in
     let v = rnd-le f (N - P) S c C k in
     let t = i .small (lt-of-le-of-lt u b) (lt-of-le-of-lt v b) in
@@ -82,7 +84,7 @@ size-of f z P N c S C i h k b =
     (record { finite = t; fits = i .fits }, elim (one-side f z) [ inl w ↦ omega arith | inr w ↦ omega arith ])
 
 -- of a bound: it is its own positive part
-bound-of : (f : Format) (B : Float) (P N c : ℕ) → 0 < c → Is f B P N c → N ≡ 0 → T (finite B) → (rnd f P c ≡ pl f B) × (mi f B ≡ 0) × (rnd f P c < overflow f)
+pub bound-of : (f : Format) (B : Float) (P N c : ℕ) → 0 < c → Is f B P N c → N ≡ 0 → T (finite B) → (rnd f P c ≡ pl f B) × (mi f B ≡ 0) × (rnd f P c < overflow f)
 bound-of f B P N c C i z t =
     let e : P - N ≡ P = omega arith in
     let d : N - P ≡ 0 = omega arith in
@@ -95,9 +97,10 @@ bound-of f B P N c C i z t =
 within : (f : Format) (z B : Float) (P N Q R c : ℕ) → 0 < c → Is f z P N c → Is f B Q R c → R ≡ 0 → T (finite B) → P - N ≤ Q → N - P ≤ Q → Within f z B
 within f z B P N Q R c C i j r t h k =
     let b = bound-of f B Q R c C j r t in
-    let s = size-of f z P N c Q C i h k (b .2) in
+    let s = is-bounded f z P N c Q C i h k (b .2) in
     record { value = s .0; bound = record { finite = t; fits = j .fits }; plus = b .1; le = le-trans (s .1) (le-of-eq (b .0)) }
 
+-- |x| ≤ A and |y| ≤ B: the bound is the sum of the bounds, or their product, as computed
 pub add-within : (f : Format) (x y A B : Float) → Within f x A → Within f y B → T (finite (add f A B)) → Within f (add f x y) (add f A B)
 add-within f x y A B v w t =
     let a = v .le in
@@ -122,24 +125,37 @@ sub-within f x y A B v w t =
 
 pub mul-within : (f : Format) (x y A B : Float) → Within f x A → Within f y B → T (finite (mul f A B)) → Within f (mul f x y) (mul f A B)
 mul-within f x y A B v w t =
-    let p = v .plus in
-    let q = w .plus in
-    let m = mag-is f x in
-    let n = mag-is f y in
-    let k : (pl f x + mi f x) * (pl f y + mi f y) ≤ pl f A * pl f B = mul-le-mul (le-trans (le-of-eq (sym m)) (v .le)) (le-trans (le-of-eq (sym n)) (w .le)) in
-    let r : pl f A * mi f B + mi f A * pl f B ≡ 0 = ap (λ (z : ℕ). pl f A * z + mi f A * pl f B) q ∙ ap (λ (z : ℕ). pl f A * 0 + z * pl f B) p ∙ zeros (pl f A) (pl f B) in
+    let d = differ-le _ _ _ (mul-differ f x y) in
+    let k : mag f x * mag f y ≤ pl f A * pl f B + mi f A * mi f B = le-trans (mul-le-mul (v .le) (w .le)) (le-add-right (pl f A * pl f B) (mi f A * mi f B)) in
+    let r : pl f A * mi f B + mi f A * pl f B ≡ 0 = ap (λ (z : ℕ). pl f A * z + mi f A * pl f B) (w .plus) ∙ ap (λ (z : ℕ). pl f A * 0 + z * pl f B) (v .plus) ∙ zeros (pl f A) (pl f B) in
     within f (mul f x y) (mul f A B) (pl f x * pl f y + mi f x * mi f y) (pl f x * mi f y + mi f x * pl f y) (pl f A * pl f B + mi f A * mi f B) (pl f A * mi f B + mi f A * pl f B) (2 ^ low f) (pow-pos (low f))
-    (mul-Is f x y (v .value) (w .value)) (mul-Is f A B (v .bound) (w .bound)) r t
-    (part-l (pl f x) (mi f x) (pl f y) (mi f y) (pl f A * pl f B) (mi f A * mi f B) k) (part-r (pl f x) (mi f x) (pl f y) (mi f y) (pl f A * pl f B) (mi f A * mi f B) k)
+    (mul-Is f x y (v .value) (w .value)) (mul-Is f A B (v .bound) (w .bound)) r t (le-trans (d .0) k) (le-trans (d .1) k)
   where
     zeros : (a b : ℕ) → a * 0 + 0 * b ≡ 0
     zeros a b = omega arith
 
-    part-l : (a b c d k j : ℕ) → (a + b) * (c + d) ≤ k → a * c + b * d - (a * d + b * c) ≤ k + j
-    part-l a b c d k j h = omega arith
+-- ---- by a test: A ≤ B as the code compares them; and of constants, where the test computes to true
+pub within-mono : (f : Format) (x A B : Float) → Within f x A → Real f B → T (le A B) → Within f x B
+within-mono f x A B w r h =
+    let p = le→parts f A B (w .bound) r h in
+    record { value = w .value; bound = r; plus = le-antisymm (le-trans (p .1) (le-of-eq (w .plus))) zero-le; le = le-trans (w .le) (p .0) }
 
-    part-r : (a b c d k j : ℕ) → (a + b) * (c + d) ≤ k → a * d + b * c - (a * c + b * d) ≤ k + j
-    part-r a b c d k j h = omega arith
+-- a value that is not below zero bounds itself
+pub within-self : (f : Format) (A : Float) → Real f A → mi f A ≡ 0 → Within f A A
+within-self f A r z = record { value = r; bound = r; plus = z; le = le-of-eq (mag-is f A ∙ ap (λ (n : ℕ). pl f A + n) z ∙ add-zero (pl f A)) }
+
+-- the test of `within-const`: for constants it computes, so that `tt` proves it (under `unfolding ofBits fits le neg`)
+abbrev pub is-within : Format → Float → Float → Bool
+is-within f c A = (finite c && fits f c) && ((finite A && fits f A) && (le (neg A) c && le c A))
+
+pub within-const : (f : Format) (c A : Float) → T (is-within f c A) → Within f c A
+within-const f c A t =
+    let one = and-l (finite c && fits f c) ((finite A && fits f A) && (le (neg A) c && le c A)) t in
+    let rest = and-r (finite c && fits f c) ((finite A && fits f A) && (le (neg A) c && le c A)) t in
+    let two = and-l (finite A && fits f A) (le (neg A) c && le c A) rest in
+    let order = and-r (finite A && fits f A) (le (neg A) c && le c A) rest in
+    within-of-le f c A (record { finite = and-l (finite c) (fits f c) one; fits = and-r (finite c) (fits f c) one }) (record { finite = and-l (finite A) (fits f A) two; fits = and-r (finite A) (fits f A) two })
+    (and-l (le (neg A) c) (le c A) order) (and-r (le (neg A) c) (le c A) order)
 
 -- ---- a result that is finite has operands that are
 pub add-fin : (f : Format) (x y : Float) → T (finite (add f x y)) → T (finite x) × T (finite y)
@@ -190,30 +206,31 @@ nn-round⁺ f a c = go (round f false a c) (ap sign (round-is f false a c) ∙ u
 
     go : (z : Float) → sign z ≡ false → T (nn z)
     go nan e = tt
-    go (inf true) e = absurd (mathlib.Core.Bool.true≢false e)
+    go (inf true) e = absurd (true≢false e)
     go (inf false) e = tt
-    go (fin true m x) e = absurd (mathlib.Core.Bool.true≢false e)
+    go (fin true m x) e = absurd (true≢false e)
     go (fin false m x) e = tt
+
+factor-zero : (m u L : ℕ) → 0 < u → 0 < L → m * u * L ≡ 0 → m ≡ 0
+factor-zero zero u L h k e = refl
+factor-zero (suc m) u L h k e = absurd (lt-irrefl 0 (subst (λ (n : ℕ). 0 < n) e (mul-pos (mul-pos (zero-lt-suc m) h) k)))
 
 nn-round⁻ : (f : Format) (a c : ℕ) → 0 < c → a ≡ 0 → T (nn (round f true a c))
 nn-round⁻ f a c C z = go (round f true a c) (round-has f true a c (subst (λ (n : ℕ). n < overflow f) (sym w) (pow-pos (low f + suc (emax f)))))
   where
     w : rnd f (a * 2 ^ low f) c ≡ 0
-    w = ap (λ (n : ℕ). rnd f n c) (ap (λ (n : ℕ). n * 2 ^ low f) z ∙ native.Mathlib.Nat.zero-mul (2 ^ low f)) ∙ rnd-zero f c C
-
-    none : (m u L : ℕ) → 0 < u → 0 < L → m * u * L ≡ 0 → m ≡ 0
-    none zero u L h k e = refl
-    none (suc m) u L h k e = absurd (native.Mathlib.Nat.lt-irrefl 0 (subst (λ (n : ℕ). 0 < n) e (native.Mathlib.Nat.mul-pos (native.Mathlib.Nat.mul-pos (native.Mathlib.Nat.zero-lt-suc m) h) k)))
+    w = ap (λ (n : ℕ). rnd f n c) (ap (λ (n : ℕ). n * 2 ^ low f) z ∙ zero-mul (2 ^ low f)) ∙ rnd-zero f c C
 
     go : (x : Float) → HasValue x true (rnd f (a * 2 ^ low f) c) (2 ^ low f) → T (nn x)
     go nan h = absurd h
     go (inf s) h = absurd h
     go (fin false m e) h = tt
-    go (fin true m e) h = eq→eqb (none m (up e) (2 ^ low f) (up-pos e) (pow-pos (low f)) (h .1 ∙ ap (λ (n : ℕ). n * down e) w ∙ native.Mathlib.Nat.zero-mul (down e)))
+    go (fin true m e) h = eq→eqb (factor-zero m (up e) (2 ^ low f) (up-pos e) (pow-pos (low f)) (h .1 ∙ ap (λ (n : ℕ). n * down e) w ∙ zero-mul (down e)))
 
 zero-of : (m u v : ℕ) → T (eqb m 0) → m * u * v ≡ 0
-zero-of m u v t = ap (λ (n : ℕ). n * u * v) (eqb→eq m 0 t) ∙ ap (λ (n : ℕ). n * v) (native.Mathlib.Nat.zero-mul u) ∙ native.Mathlib.Nat.zero-mul v
+zero-of m u v t = ap (λ (n : ℕ). n * u * v) (eqb→eq m 0 t) ∙ ap (λ (n : ℕ). n * v) (zero-mul u) ∙ zero-mul v
 
+-- the operations keep it
 pub add-nn : (f : Format) (x y : Float) → T (nn x) → T (nn y) → T (nn (add f x y))
 unfolding add sum
 add-nn f nan y p q = tt
@@ -225,7 +242,7 @@ add-nn f (inf s) (fin t n d) p q = p
 add-nn f (fin s m e) nan p q = tt
 add-nn f (fin s m e) (inf t) p q = q
 add-nn f (fin false m e) (fin false n d) p q = nn-round⁺ f _ _
-add-nn f (fin true m e) (fin true n d) p q = nn-round⁻ f _ _ (native.Mathlib.Nat.mul-pos (down-pos e) (down-pos d)) (let a = zero-of m (up e) (down d) p in let b = zero-of n (up d) (down e) q in omega arith)
+add-nn f (fin true m e) (fin true n d) p q = nn-round⁻ f _ _ (mul-pos (down-pos e) (down-pos d)) (let a = zero-of m (up e) (down d) p in let b = zero-of n (up d) (down e) q in omega arith)
 add-nn f (fin false m e) (fin true n d) p q = go (ltb (m * up e * down d) (n * up d * down e)) (ltb→lt (m * up e * down d) (n * up d * down e)) (zero-of n (up d) (down e) q)
   where
     go : (b : Bool) → (T b → m * up e * down d < n * up d * down e) → n * up d * down e ≡ 0 → T (nn (cond b (round f true (n * up d * down e - m * up e * down d) (down e * down d)) (round f false (m * up e * down d - n * up d * down e) (down e * down d))))
@@ -266,10 +283,11 @@ mul-nn f (fin true m e) (inf false) p q = never-minus m true p
 mul-nn f (fin false m e) (inf true) p q = absurd q
 mul-nn f (fin false m e) (inf false) p q = plus-or-nan (eqb m 0)
 mul-nn f (fin true m e) (fin true n d) p q = nn-round⁺ f _ _
-mul-nn f (fin true m e) (fin false n d) p q = nn-round⁻ f _ _ (native.Mathlib.Nat.mul-pos (down-pos e) (down-pos d)) (zero-of m (up e) (n * up d) p)
-mul-nn f (fin false m e) (fin true n d) p q = nn-round⁻ f _ _ (native.Mathlib.Nat.mul-pos (down-pos e) (down-pos d)) (native.Mathlib.Nat.mul-comm (m * up e) (n * up d) ∙ zero-of n (up d) (m * up e) q)
+mul-nn f (fin true m e) (fin false n d) p q = nn-round⁻ f _ _ (mul-pos (down-pos e) (down-pos d)) (zero-of m (up e) (n * up d) p)
+mul-nn f (fin false m e) (fin true n d) p q = nn-round⁻ f _ _ (mul-pos (down-pos e) (down-pos d)) (mul-comm (m * up e) (n * up d) ∙ zero-of n (up d) (m * up e) q)
 mul-nn f (fin false m e) (fin false n d) p q = nn-round⁺ f _ _
 
+-- so a bound that is at most a finite limit is finite
 pub fin-of-le : (B limit : Float) → T (nn B) → T (finite limit) → T (le B limit) → T (finite B)
 unfolding le
 fin-of-le nan l s t h = h
@@ -302,20 +320,17 @@ nn-of-le f x (fin true m e) a b h k = zero-m
     X : Real f x
     X = record { finite = finite-between (neg (fin true m e)) x (fin true m e) (nR .finite) tt h k; fits = a }
 
-    none : (m u L d g : ℕ) → 0 < u → 0 < L → g ≡ 0 → m * u * L ≡ g * d → m ≡ 0
-    none zero u L d g h k z e = refl
-    none (suc m) u L d g h k z e = absurd (native.Mathlib.Nat.lt-irrefl 0 (subst (λ (n : ℕ). 0 < n) (e ∙ ap (λ (n : ℕ). n * d) z ∙ native.Mathlib.Nat.zero-mul d) (native.Mathlib.Nat.mul-pos (native.Mathlib.Nat.mul-pos (native.Mathlib.Nat.zero-lt-suc m) h) k)))
-
     zero-m : T (eqb m 0)
     zero-m =
         let w = within-of-le f x (fin true m e) X R h k in
         let z : mag f (fin true m e) ≡ 0 = unfold mi in w .plus in
-        eq→eqb (none m (up e) (2 ^ low f) (down e) (mag f (fin true m e)) (up-pos e) (pow-pos (low f)) z (units-of f (fin true m e) R))
+        eq→eqb (factor-zero m (up e) (2 ^ low f) (up-pos e) (pow-pos (low f)) (units-of f (fin true m e) R ∙ ap (λ (n : ℕ). n * down e) z ∙ zero-mul (down e)))
 
 -- ---- the size as code has it: `if x < 0.0 { -x } else { x }`
 unfoldable pub size : Float → Float
 size x = cond (lt x nil) (neg x) x
 
+-- of the size as computed: a finite size has a finite value, it is not below zero, and it bounds the value
 pub size-fin : (x : Float) → T (finite (size x)) → T (finite x)
 unfolding size
 size-fin x = go (lt x nil) x
@@ -333,17 +348,16 @@ size-nn f (inf true) h = tt
 size-nn f (inf false) h = tt
 size-nn f (fin true m e) h = go (ltb 0 (m * up e * 1 + 0 * 1 * down e)) (nltb→le 0 (m * up e * 1 + 0 * 1 * down e))
   where
-    first : (m u : ℕ) → 0 < u → m * u * 1 + 0 ≤ 0 → m ≡ 0
-    first zero u h k = refl
-    first (suc m) u h k = absurd (native.Mathlib.Nat.not-le-of-lt (native.Mathlib.Nat.mul-pos (native.Mathlib.Nat.zero-lt-suc m) h) (let g : suc m * u ≤ 0 = omega arith in g))
+    first : (n d : ℕ) → n * 1 + 0 * 1 * d ≤ 0 → n * 1 ≡ 0
+    first n d h = omega arith
 
     go : (b : Bool) → (T (not b) → m * up e * 1 + 0 * 1 * down e ≤ 0) → T (nn (cond b (fin false m e) (fin true m e)))
     go true k = tt
-    go false k = eq→eqb (first m (up e) (up-pos e) (le-trans (le-of-eq (ap (λ (n : ℕ). m * up e * 1 + n) (sym (native.Mathlib.Nat.zero-mul (down e))))) (k tt)))
+    go false k = eq→eqb (factor-zero m (up e) 1 (up-pos e) (pow-pos 0) (first (m * up e) (down e) (k tt)))
 size-nn f (fin false m e) h = go (ltb (m * up e * 1) (0 * 1 * down e)) (ltb→lt (m * up e * 1) (0 * 1 * down e))
   where
     go : (b : Bool) → (T b → m * up e * 1 < 0 * 1 * down e) → T (nn (cond b (fin true m e) (fin false m e)))
-    go true k = absurd (native.Mathlib.Nat.not-le-of-lt (k tt) (le-trans (le-of-eq (native.Mathlib.Nat.zero-mul (down e))) zero-le))
+    go true k = absurd (not-le-of-lt (k tt) (le-trans (le-of-eq (zero-mul (down e))) zero-le))
     go false k = tt
 
 pub size-within : (f : Format) (x : Float) → T (fits f x) → T (finite (size x)) → Within f x (size x)
@@ -375,7 +389,33 @@ size-within f x h t = go (lt x nil) (lt→units f x nil r (nil-real f)) (nlt→u
           | inr z ↦ record { value = r; bound = r; plus = z; le = omega arith }
         ]
 
--- ---- a cubic: a + b*s + c*s*s + d*s*s*s, and the bound that the same operations give on the sizes
+-- |x| ≤ A says the same of the size as computed
+pub size-keeps : (f : Format) (x A : Float) → Within f x A → Within f (size x) A
+unfolding size
+size-keeps f x A w = go (lt x nil)
+  where
+    go : (b : Bool) → Within f (cond b (neg x) x) A
+    go true = neg-within f x A w
+    go false = w
+
+-- ---- what a program has tested, -R ≤ s ≤ R, as a size
+pub reach-within : (f : Format) (s R : Float) → T (fits f s) → T (fits f R) → T (le (neg R) s) → T (le s R) → T (finite R) → Within f s R
+reach-within f s R hs hR lo hi t =
+    let r : Real f R = record { finite = t; fits = hR } in
+    within-of-le f s R (record { finite = finite-between (neg R) s R (neg-real f R r .finite) t lo hi; fits = hs }) r lo hi
+
+-- a constant that is not below zero bounds itself
+pub nn-within : (f : Format) (k : Float) → T (fits f k) → T (nn k) → T (finite k) → Within f k k
+nn-within f k h n t = within-self f k (record { finite = t; fits = h }) (no-minus-part k t n)
+  where
+    no-minus-part : (k : Float) → T (finite k) → T (nn k) → mi f k ≡ 0
+    no-minus-part nan t n = absurd t
+    no-minus-part (inf s) t n = absurd t
+    no-minus-part (fin false m e) t n = unfold mi in refl
+    no-minus-part (fin true m e) t n = unfold mi mag in ap (λ (z : ℕ). z / down e) (ap (λ (z : ℕ). z * up e * 2 ^ low f) (eqb→eq m 0 n) ∙ ap (λ (z : ℕ). z * 2 ^ low f) (zero-mul (up e)) ∙ zero-mul (2 ^ low f)) ∙ zero-div (down e)
+
+-- ---- a cubic and its slope, against the bounds that the same operations give on the sizes. In `..-within` each operand is bounded wherever its bound is finite, which a finite result shows
+-- ((a + b*s) + (c*s)*s) + ((d*s)*s)*s
 unfoldable pub cubic : Format → Float → Float → Float → Float → Float → Float
 cubic f a b c d s = add f (add f (add f a (mul f b s)) (mul f (mul f c s) s)) (mul f (mul f (mul f d s) s) s)
 
@@ -404,14 +444,40 @@ unfolding cubic
 cubic-nn f a b c d s p q r u z =
     add-nn f _ _ (add-nn f _ _ (add-nn f _ _ p (mul-nn f _ _ q z)) (mul-nn f _ _ (mul-nn f _ _ r z) z)) (mul-nn f _ _ (mul-nn f _ _ (mul-nn f _ _ u z) z) z)
 
--- with the tests that a program makes, and nothing else: B ≤ limit, and -R ≤ s ≤ R
+-- from the tests that a program makes, and nothing else: the bound is at most a limit, and -R ≤ s ≤ R. So no coefficient is a NaN or an infinity, and the value is finite and within the bound
 pub cubic-admitted : (f : Format) (a b c d s R limit : Float) → T (fits f a) → T (fits f b) → T (fits f c) → T (fits f d) → T (fits f s) → T (fits f R) → T (le (neg R) s) → T (le s R) → T (finite limit)
     → T (le (cubic f (size a) (size b) (size c) (size d) R) limit) → Within f (cubic f a b c d s) (cubic f (size a) (size b) (size c) (size d) R)
 cubic-admitted f a b c d s R limit ha hb hc hd hs hR lo hi l h =
-    cubic-within f a b c d s (size a) (size b) (size c) (size d) R (size-within f a ha) (size-within f b hb) (size-within f c hc) (size-within f d hd) reach
+    cubic-within f a b c d s (size a) (size b) (size c) (size d) R (size-within f a ha) (size-within f b hb) (size-within f c hc) (size-within f d hd) (reach-within f s R hs hR lo hi)
     (fin-of-le (cubic f (size a) (size b) (size c) (size d) R) limit (cubic-nn f (size a) (size b) (size c) (size d) R (size-nn f a ha) (size-nn f b hb) (size-nn f c hc) (size-nn f d hd) (nn-of-le f s R hs hR lo hi)) l h)
-  where
-    reach : T (finite R) → Within f s R
-    reach t =
-        let rR : Real f R = record { finite = t; fits = hR } in
-        within-of-le f s R (record { finite = finite-between (neg R) s R (neg-real f R rR .finite) t lo hi; fits = hs }) rR lo hi
+
+-- (b + (m*c)*s) + ((n*d)*s)*s, where m and n are the constants 2 and 3 of the code
+unfoldable pub slope : Format → Float → Float → Float → Float → Float → Float → Float
+slope f m n b c d s = add f (add f b (mul f (mul f m c) s)) (mul f (mul f (mul f n d) s) s)
+
+pub slope-within : (f : Format) (m n b c d s B C D R : Float) → (T (finite m) → Within f m m) → (T (finite n) → Within f n n) → (T (finite B) → Within f b B) → (T (finite C) → Within f c C) → (T (finite D) → Within f d D) → (T (finite R) → Within f s R)
+    → T (finite (slope f m n B C D R)) → Within f (slope f m n b c d s) (slope f m n B C D R)
+unfolding slope
+slope-within f m n b c d s B C D R wm wn wb wc wd ws t =
+    let t1 = add-fin f _ _ t in
+    let t2 = add-fin f _ _ (t1 .0) in
+    let tc = mul-fin f _ _ (t2 .1) in
+    let tc' = mul-fin f _ _ (tc .0) in
+    let td = mul-fin f _ _ (t1 .1) in
+    let td' = mul-fin f _ _ (td .0) in
+    let td'' = mul-fin f _ _ (td' .0) in
+    let w = ws (tc .1) in
+    add-within f _ _ _ _
+    (add-within f _ _ _ _ (wb (t2 .0)) (mul-within f _ _ _ _ (mul-within f _ _ _ _ (wm (tc' .0)) (wc (tc' .1)) (tc .0)) w (t2 .1)) (t1 .0))
+    (mul-within f _ _ _ _ (mul-within f _ _ _ _ (mul-within f _ _ _ _ (wn (td'' .0)) (wd (td'' .1)) (td' .0)) w (td .0)) w (t1 .1)) t
+
+slope-nn : (f : Format) (m n b c d s : Float) → T (nn m) → T (nn n) → T (nn b) → T (nn c) → T (nn d) → T (nn s) → T (nn (slope f m n b c d s))
+unfolding slope
+slope-nn f m n b c d s p q r u v z =
+    add-nn f _ _ (add-nn f _ _ r (mul-nn f _ _ (mul-nn f _ _ p u) z)) (mul-nn f _ _ (mul-nn f _ _ (mul-nn f _ _ q v) z) z)
+
+pub slope-admitted : (f : Format) (m n b c d s R limit : Float) → T (fits f m) → T (nn m) → T (fits f n) → T (nn n) → T (fits f b) → T (fits f c) → T (fits f d) → T (fits f s) → T (fits f R) → T (le (neg R) s) → T (le s R) → T (finite limit)
+    → T (le (slope f m n (size b) (size c) (size d) R) limit) → Within f (slope f m n b c d s) (slope f m n (size b) (size c) (size d) R)
+slope-admitted f m n b c d s R limit hm pm hn pn hb hc hd hs hR lo hi l h =
+    slope-within f m n b c d s (size b) (size c) (size d) R (nn-within f m hm pm) (nn-within f n hn pn) (size-within f b hb) (size-within f c hc) (size-within f d hd) (reach-within f s R hs hR lo hi)
+    (fin-of-le (slope f m n (size b) (size c) (size d) R) limit (slope-nn f m n (size b) (size c) (size d) R pm pn (size-nn f b hb) (size-nn f c hc) (size-nn f d hd) (nn-of-le f s R hs hR lo hi)) l h)
