@@ -17,10 +17,10 @@ use Rattle.float_laws.proofs.Whole.{Whole, Nearest, nearest-is, reach-plus, rea
 use Rattle.arithmetic.specs.Floor.{floorOf, quarterOf}
 use Rattle.arithmetic.proofs.FloorLaws.{nearby, stepped, stays, falls, less-one, floor-by, floor-zero, floor-large, floor-other, quarter-whole}
 
-yes : {b : Bool} → b ≡ true → T b
+pub yes : {b : Bool} → b ≡ true → T b
 yes e = subst T (sym e) tt
 
-no : {b : Bool} → b ≡ false → T (not b)
+pub no : {b : Bool} → b ≡ false → T (not b)
 no e = subst (λ (b : Bool). T (not b)) (sym e) tt
 
 lt→le : (x y : Float) → T (lt x y) → T (le x y)
@@ -163,7 +163,7 @@ zero-whole f x r z =
     let m : mi f x ≡ 0 = omega arith in
     record { value = r; plus = p ∙ sym (zero-mul (2 ^ low f)); minus = m ∙ sym (zero-mul (2 ^ low f)) }
 
-real-no-nan : (f : Format) (x : Float) → Real f x → T (not (isNan x))
+pub real-no-nan : (f : Format) (x : Float) → Real f x → T (not (isNan x))
 unfolding isNan
 real-no-nan f nan r = r .finite
 real-no-nan f (inf s) r = tt

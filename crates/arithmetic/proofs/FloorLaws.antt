@@ -22,7 +22,7 @@ use Rattle.float_laws.proofs.Whole.{Steps, Whole, Nearest, Reach, large-whole, 
 use Rattle.arithmetic.specs.Floor.{floorOf, quarterOf}
 
 -- ---- the whole part of num / d, which is M / U
-cut-plus : (num d M U k : ℕ) → 0 < U → num * U ≡ M * d → 0 < d → k * U ≤ M → M < k * U + U → num / d ≡ k
+pub cut-plus : (num d M U k : ℕ) → 0 < U → num * U ≡ M * d → 0 < d → k * U ≤ M → M < k * U + U → num / d ≡ k
 cut-plus num d M U k u e D h l =
     let a : k * d * U ≤ num * U = let b = mul-le-mul-right d h in omega arith in
     let c : num * U < (k + 1) * d * U = let b = mul-lt-mul-of-pos-right l D in omega arith in

@@ -2,3 +2,4 @@ pub mod NarrowBits
 pub mod NarrowCases
 pub mod FloorLaws
 pub mod FloorCases
+pub mod CountLaws

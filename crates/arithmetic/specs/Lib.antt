@@ -1,3 +1,5 @@
 pub mod Narrow
 pub mod Floor
 pub mod Refusal
+pub mod Answer
+pub mod Count
