@@ -3,9 +3,9 @@ mod narrowing;
 mod refusals;
 mod whole;
 
-pub use counting::counts;
 pub use counting::Counted;
+pub use counting::counts;
 pub use narrowing::narrow;
-pub use refusals::number;
 pub use refusals::Refusal;
+pub use refusals::number;
 pub use whole::floor;
