@@ -1,15 +1,14 @@
 -- The rounding of a count. In units, `nearestAway` is the k with k ≤ |x| + 1/2 < k + 1; the sum with 2 ^ 52 gives a nearest n, which is that k but where x is n + 1/2.
 -- The only laws that know the tie rule are `away-is`, `case-half` and `case-keeps`. Assumes nothing.
 use mathlib.Core.Path.{_≡_, refl, sym, ap, _∙_, subst}
-use mathlib.Core.Logic.{_⊎_, inl, inr}
-use Prim.Native.Nat.{ℕ, zero, suc, _+_, _-_, _*_, _/_, _%_, _^_, _≤_, _<_, zero-le}
-use native.Mathlib.Nat.{le-refl, le-trans, le-of-eq, lt-of-le-of-lt, lt-of-lt-of-le, le-of-suc-le-suc, lt-of-not-le, mul-pos, mul-le-mul-right, lt-of-mul-lt-mul-right, le-of-mul-le-mul-right, div-lt-iff-lt-mul, zero-mul, suc-mul, lt-irrefl}
+use Prim.Native.Nat.{ℕ, zero, suc, _+_, _-_, _*_, _^_, _≤_, _<_}
+use native.Mathlib.Nat.{le-trans, le-of-eq, lt-of-le-of-lt, le-of-suc-le-suc, lt-of-not-le, mul-le-mul-right, lt-of-mul-lt-mul-right, le-of-mul-le-mul-right, div-lt-iff-lt-mul, zero-mul, suc-mul, lt-irrefl}
 use native.Mathlib.Omega.{arith}
-use mathlib.Core.Bool.{Bool, true, false, not, cond, _&&_}
+use mathlib.Core.Bool.{Bool, true, false, not}
 use lib.Dec.{T, lit≤, lit<, T-not}
 use lib.Pow.{pow-pos}
 use lib.IntN.{ℤ, pos, negsuc, negℤ, natAbs, _-ℤ_, +ℤ-idl}
-use lib.Ieee.{Float, nan, inf, fin, Format, binary32, binary64, prec, low, up, down, hid, add, sub, neg, mul, lt, le, fits, isNan, toBits, ofBits}
+use lib.Ieee.{Float, nan, inf, fin, Format, binary32, binary64, prec, low, up, down, hid, add, neg, mul, lt, le, fits, isNan, toBits, ofBits}
 use lib.Ieee.Positive.{num, den, den-pos}
 use lib.Ieee.Scale.{finite}
 use lib.Ieee.Fits.{add-fits}
@@ -17,12 +16,12 @@ use lib.Ieee.Bits.{toBits-lt}
 use mir.Syntax.{w64}
 use mir.Val.{SFits, toZ, ofZ}
 use mir.ValLaws.{toZ-pos, toZ-ofZ}
-use Rattle.float_laws.proofs.Value.{mag, pl, mi, Real, mag-is, one-side, units-of, le→units, units→le, lt→units, nlt→units, neg-real, neg-pl, neg-mi}
+use Rattle.float_laws.proofs.Value.{mag, pl, mi, Real, mag-is, units-of, le→units, units→le, lt→units, nlt→units, neg-real, neg-pl, neg-mi}
 use Rattle.float_laws.proofs.Interval.{nil, nil-real, nil-pl, nil-mi, finite-between, from-zero}
 use Rattle.float_laws.proofs.Size.{Within, within-of-le, le-of-within, mul-within}
 use Rattle.float_laws.proofs.Whole.{Steps, Whole, Nearest, nearest-is, reach-plus, twice-hid, steps-add}
 use Rattle.arithmetic.specs.Count.{nearestAway, nearestWhole, countOf}
-use Rattle.arithmetic.specs.Answer.{Answer, value, refused}
+use Rattle.arithmetic.specs.Answer.{value, refused}
 use Rattle.arithmetic.proofs.FloorLaws.{cut-plus, nearby}
 use Rattle.arithmetic.proofs.FloorCases.{yes, no, hid-whole, real-no-nan}
 
@@ -39,6 +38,7 @@ away-is f x k r h l =
     crossed : (n d M U : ℕ) → n * U ≡ M * d → (2 * n + d) * (2 * U) ≡ (2 * M + U) * (2 * d)
     crossed n d M U e = omega arith
 
+-- what is at most a whole number is not rounded past it
 pub away-le : (f : Format) (x : Float) (a : ℕ) → Real f x → mag f x ≤ a * 2 ^ low f → nearestAway (num x) (den x) ≤ a
 unfolding nearestAway
 away-le f x a r h =
@@ -165,6 +165,7 @@ module _ (f : Format) (x c : Float) (a : ℕ) (r : Real f x) (z : mi f x ≡ 0) 
       down : (m U M p : ℕ) → 0 < U → M ≡ p → p * 2 ≤ m * U * 2 + U → 2 * M + U < (m + 1) * (2 * U) + 2 * U
       down m U M p u e h = omega arith
 
+  -- n is nearest, or a half that went up
   pub case-keeps : T (not (le (add f (nearby f x c) half) x)) → toBits f (add f x c) - suc (low f) * hid f ≡ nearestAway (num x) (den x)
   case-keeps t =
       let v = add f (nearby f x c) half in

@@ -1,6 +1,6 @@
 -- Document 01, "Counts (added)": v × 10,000 in f64 to the nearest whole number, halves away from zero; and row 12: a value outside -80..80, as a NaN is.
 use Prim.Native.Nat.{ℕ, _+_, _*_, _/_}
-use mathlib.Core.Bool.{Bool, cond, _&&_}
+use mathlib.Core.Bool.{cond, _&&_}
 use lib.IntN.{ℤ, pos, negℤ}
 use lib.Ieee.{Float, nan, inf, fin, binary64, up, down, neg, mul, le, ofBits}
 use Rattle.arithmetic.specs.Answer.{Answer, value, refused}

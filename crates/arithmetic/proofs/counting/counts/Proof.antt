@@ -1,7 +1,7 @@
 -- `counts` meets its contract: the range's tests are those of `countOf`, and the product stays within 800,000.
-use mathlib.Core.Path.{_≡_, sym, ap, _∙_}
+use mathlib.Core.Path.{sym, ap, _∙_}
 use lib.Dec.{T}
-use lib.Ieee.{binary64, fits, ofBits}
+use lib.Ieee.{binary64, fits}
 use mir.Syntax.{w64}
 use mir.ValLaws.{toZ-ofZ}
 use borrow.Author.Needs.{needs}

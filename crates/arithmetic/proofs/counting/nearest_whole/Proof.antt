@@ -1,5 +1,5 @@
 -- `nearest_whole` meets its contract: the size's nearest whole number, which is at most 800,000, with the sign put back.
-use mathlib.Core.Path.{_≡_, sym, ap, _∙_, subst}
+use mathlib.Core.Path.{sym, ap, _∙_}
 use Prim.Native.Nat.{ℕ, _≤_}
 use native.Mathlib.Nat.{le-trans, le-of-eq}
 use native.Mathlib.Omega.{arith}
