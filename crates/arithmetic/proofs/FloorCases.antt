@@ -1,26 +1,24 @@
 -- The answers of `floor` and `below`, one law for each way through them.
 use mathlib.Core.Path.{_≡_, refl, sym, ap, _∙_, subst}
-use mathlib.Core.Logic.{_⊎_, inl, inr}
-use Prim.Native.Nat.{ℕ, _+_, _-_, _*_, _/_, _%_, _^_, _≤_, _<_}
+use mathlib.Core.Logic.{inl, inr}
+use Prim.Native.Nat.{ℕ, _+_, _-_, _*_, _%_, _^_, _≤_, _<_}
 use native.Mathlib.Nat.{le-refl, le-trans, le-of-eq, zero-mul}
 use native.Mathlib.Omega.{arith}
-use mathlib.Core.Bool.{Bool, true, false, not, _||_, cond}
+use mathlib.Core.Bool.{Bool, true, false, not, _||_}
 use lib.Dec.{T, leb, leb→le, nleb→lt, lit≤}
-use lib.IntN.{pos}
 use lib.Ieee.{Float, nan, inf, fin, Format, binary64, prec, low, hid, add, sub, neg, lt, le, eq, fits, isNan, toBits, ofBits}
-use lib.Ieee.Bits.{is-true, is-false}
 use lib.Ieee.Scale.{finite}
 use Rattle.float_laws.proofs.Value.{mag, pl, mi, Real, mag-is, one-side, lt→units, nlt→units, neg-real, neg-pl, neg-mi}
 use Rattle.float_laws.proofs.Interval.{nil, nil-real, nil-pl, nil-mi, finite-between}
-use Rattle.float_laws.proofs.Size.{Within, within-of-le}
+use Rattle.float_laws.proofs.Size.{within-of-le}
 use Rattle.float_laws.proofs.Whole.{Whole, Nearest, nearest-is, reach-plus, reach-minus, nearest-magic, twice-hid, magic, unit, one, is-zero, not-zero}
 use Rattle.arithmetic.specs.Floor.{floorOf, quarterOf}
 use Rattle.arithmetic.proofs.FloorLaws.{nearby, stepped, stays, falls, less-one, floor-by, floor-zero, floor-large, floor-other, quarter-whole}
 
-yes : {b : Bool} → b ≡ true → T b
+pub yes : {b : Bool} → b ≡ true → T b
 yes e = subst T (sym e) tt
 
-no : {b : Bool} → b ≡ false → T (not b)
+pub no : {b : Bool} → b ≡ false → T (not b)
 no e = subst (λ (b : Bool). T (not b)) (sym e) tt
 
 lt→le : (x y : Float) → T (lt x y) → T (le x y)
@@ -163,7 +161,7 @@ zero-whole f x r z =
     let m : mi f x ≡ 0 = omega arith in
     record { value = r; plus = p ∙ sym (zero-mul (2 ^ low f)); minus = m ∙ sym (zero-mul (2 ^ low f)) }
 
-real-no-nan : (f : Format) (x : Float) → Real f x → T (not (isNan x))
+pub real-no-nan : (f : Format) (x : Float) → Real f x → T (not (isNan x))
 unfolding isNan
 real-no-nan f nan r = r .finite
 real-no-nan f (inf s) r = tt

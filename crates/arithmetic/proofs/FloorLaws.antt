@@ -2,27 +2,26 @@
 -- From it follow what the floor is of a value that is whole, and that every finite value has a floor of this kind. Assumes nothing.
 use mathlib.Core.Path.{_≡_, refl, sym, ap, _∙_, subst}
 use mathlib.Core.Logic.{_⊎_, inl, inr}
-use Prim.Native.Nat.{ℕ, zero, suc, _+_, _-_, _*_, _/_, _%_, _^_, _≤_, _<_, zero-le}
-use native.Mathlib.Nat.{eq-of-mul-eq-mul-right, div-mul-le-self, lt-div-mul-add, zero-mul, le-refl, le-trans, le-of-eq, lt-of-le-of-lt, lt-of-lt-of-le, mul-le-mul-right, mul-lt-mul-of-pos-right, le-of-mul-le-mul-right, lt-of-mul-lt-mul-right, div-eq-of-lt-le, eq-zero-or-pos}
+use Prim.Native.Nat.{ℕ, zero, suc, _+_, _-_, _*_, _/_, _%_, _^_, _≤_, _<_}
+use native.Mathlib.Nat.{eq-of-mul-eq-mul-right, div-mul-le-self, lt-div-mul-add, zero-mul, le-refl, le-of-eq, lt-of-le-of-lt, mul-le-mul-right, mul-lt-mul-of-pos-right, le-of-mul-le-mul-right, lt-of-mul-lt-mul-right, div-eq-of-lt-le, eq-zero-or-pos}
 use native.Mathlib.Omega.{arith}
 use mathlib.Core.Bool.{Bool, true, false, not, cond}
 use lib.Dec.{T, leb, leb→le, nleb→lt}
 use lib.Pow.{pow-pos}
-use lib.IntN.{pos}
-use lib.Ieee.{Float, nan, inf, fin, Format, binary64, prec, low, up, down, hid, round, add, sub, lt, le, toBits}
+use lib.Ieee.{Float, nan, inf, fin, Format, prec, low, up, down, hid, round, add, sub, lt, le}
 use lib.Ieee.Fits.{down-pos, round-fits}
-use lib.Ieee.Scale.{finite, overflow}
+use lib.Ieee.Scale.{finite}
 use Rattle.float_laws.proofs.Units.{rnd}
 use Rattle.float_laws.proofs.Value.{sign, sp, sn, mag, pl, mi, Real, mag-is, mag-of, one-side, under, units-of, le→units, units→le, lt→units, nlt→units}
 use Rattle.float_laws.proofs.Value.{le-refl as le-refl'}
 use Rattle.float_laws.proofs.Operation.{round-has}
 use Rattle.float_laws.proofs.Exact.{fixed}
 use Rattle.float_laws.proofs.Same.{same-value, sign-plus, sign-minus}
-use Rattle.float_laws.proofs.Whole.{Steps, Whole, Nearest, Reach, large-whole, twice-hid, steps-rnd, steps-under, steps-sub, one, one-whole, self-sub, parted}
+use Rattle.float_laws.proofs.Whole.{Whole, Nearest, large-whole, twice-hid, steps-rnd, steps-under, steps-sub, one, one-whole, self-sub, parted}
 use Rattle.arithmetic.specs.Floor.{floorOf, quarterOf}
 
 -- ---- the whole part of num / d, which is M / U
-cut-plus : (num d M U k : ℕ) → 0 < U → num * U ≡ M * d → 0 < d → k * U ≤ M → M < k * U + U → num / d ≡ k
+pub cut-plus : (num d M U k : ℕ) → 0 < U → num * U ≡ M * d → 0 < d → k * U ≤ M → M < k * U + U → num / d ≡ k
 cut-plus num d M U k u e D h l =
     let a : k * d * U ≤ num * U = let b = mul-le-mul-right d h in omega arith in
     let c : num * U < (k + 1) * d * U = let b = mul-lt-mul-of-pos-right l D in omega arith in
@@ -71,7 +70,7 @@ minus-mi : (f : Format) (m : ℕ) (e : lib.IntN.ℤ) → mi f (fin true m e) ≡
 unfolding mi
 minus-mi f m e = refl
 
--- ---- uniqueness
+-- ---- uniqueness: n is whole, n ≤ x < n + 1, and where n is zero it has x's sign
 pub floor-unique : (f : Format) (x n : Float) (p q : ℕ) → Real f x → Whole f n p q → T (le n x) → pl f x + mi f n < pl f n + mi f x + 2 ^ low f → (mag f n ≡ 0 → sign n ≡ sign x) → n ≡ floorOf f x
 unfolding floorOf
 floor-unique f nan n p q r w b a z = absurd (r .finite)
@@ -161,6 +160,7 @@ positive-side p n M (inr z) g h k = omega arith
 none-left : (k U : ℕ) → 0 < U → k * U ≡ 0 → k ≡ 0
 none-left k U u e = eq-of-mul-eq-mul-right U u k 0 (e ∙ sym (zero-mul U))
 
+-- (x + c) - c
 abbrev pub nearby : Format → Float → Float → Float
 nearby f x c = sub f (add f x c) c
 
@@ -183,6 +183,7 @@ module _ (f : Format) (x c : Float) (C : ℕ) (r : Real f x) (some : 0 < mag f x
   abbrev n : Float
   n = nearby f x c
 
+  -- n is at most x: it is the floor
   pub stays : T (not (lt x (nearby f x c))) → nearby f x c ≡ floorOf f x
   stays h =
       let U = 2 ^ low f in
@@ -200,6 +201,7 @@ module _ (f : Format) (x c : Float) (C : ℕ) (r : Real f x) (some : 0 < mag f x
       let zq : C - k ≡ 0 = none-left (C - k) U u (let o : (C - k) * U ≡ 0 = omega arith in o) in
       i .zero (omega arith) ∙ sym (sign-plus f x (positive-side (pl f x) (mi f x) (mag f x) (one-side f x) g some (omega arith))))
 
+  -- n - 1 is exact
   pub less-one : Whole f (sub f (nearby f x c) one) (i .k - C + 0 - (C - i .k + 1)) (C - i .k + 1 - (i .k - C + 0))
   less-one =
       let t = twice-hid f in
@@ -208,6 +210,7 @@ module _ (f : Format) (x c : Float) (C : ℕ) (r : Real f x) (some : 0 < mag f x
       let hi = i .most in
       steps-sub f (low f) n one (i .k - C) (C - i .k) 1 0 (i .is) (one-whole f) (le-refl (low f)) (omega arith) (omega arith)
 
+  -- n is above x: n - 1 is the floor
   pub falls : T (lt x (nearby f x c)) → sub f (nearby f x c) one ≡ floorOf f x
   falls h =
       let U = 2 ^ low f in
@@ -341,7 +344,7 @@ floor-below f x r = go (leb (hid f * 2 ^ low f) (mag f x)) (leb→le (hid f * 2 
     go true h k = subst (λ (n : Float). Floored f x n) (floor-large f x r (h tt)) (own-floor f x r (h tt))
     go false h k = small-floor f x r (k tt)
 
--- ---- n mod 4 of a whole number
+-- ---- n mod 4 of the whole number p - q, of which one is 0
 pub quarter-whole : (f : Format) (n : Float) (p q : ℕ) → Whole f n p q → quarterOf n ≡ (p + (4 - q % 4)) % 4
 unfolding quarterOf
 quarter-whole f nan p q w = absurd (w .value .finite)

@@ -15,3 +15,4 @@ pub mod Reduction
 pub mod SineKernel
 pub mod SineLaws
 pub mod SineExamples
+pub mod CountLaws

@@ -1,5 +1,5 @@
 -- A value of a format is known by its sign and its magnitude in units: these two give its pattern, and the pattern gives it back. Assumes nothing.
-use mathlib.Core.Path.{_≡_, refl, sym, ap, _∙_, subst}
+use mathlib.Core.Path.{_≡_, refl, sym, ap, _∙_}
 use Prim.Native.Nat.{ℕ, _+_, _-_, _*_, _/_, _^_, _<_}
 use native.Mathlib.Nat.{lt-irrefl}
 use mathlib.Core.Bool.{Bool, true, false, cond}

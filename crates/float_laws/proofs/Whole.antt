@@ -2,15 +2,15 @@
 -- is the whole number nearest to x. The pattern of x + c then counts them: it is that of c, plus n. Assumes nothing.
 use mathlib.Core.Path.{_≡_, refl, sym, ap, _∙_, subst}
 use mathlib.Core.Logic.{_⊎_, inl, inr}
-use Prim.Native.Nat.{ℕ, zero, suc, _+_, _-_, _*_, _/_, _%_, _^_, _≤_, _<_, zero-le}
-use native.Mathlib.Nat.{eq-zero-or-pos, zero-div, add-mul, mul-lt-mul-of-pos-right, zero-add, le-refl, lt-of-lt-of-le, le-of-suc-le-suc, zero-mul, le-of-lt, le-trans, le-of-eq, lt-of-le-of-lt, mul-one, one-mul, add-sub-cancel-left, mul-le-mul-right, mul-comm, mul-sub, mul-pos, eq-or-lt-of-le, lt-of-mul-lt-mul-right, le-of-mul-le-mul-right, lt-irrefl, sub-self, eq-of-mul-eq-mul-right}
+use Prim.Native.Nat.{ℕ, zero, suc, _+_, _-_, _*_, _/_, _^_, _≤_, _<_}
+use native.Mathlib.Nat.{eq-zero-or-pos, zero-div, add-mul, mul-lt-mul-of-pos-right, zero-add, le-refl, lt-of-lt-of-le, le-of-suc-le-suc, zero-mul, le-of-lt, le-trans, le-of-eq, lt-of-le-of-lt, mul-one, one-mul, add-sub-cancel-left, mul-le-mul-right, mul-comm, mul-sub, mul-pos, eq-or-lt-of-le, lt-of-mul-lt-mul-right, sub-self, eq-of-mul-eq-mul-right}
 use native.Mathlib.Omega.{arith}
 use mathlib.Core.Bool.{Bool, true, false, not, _&&_, _||_, Bool·beq, cond}
 use lib.Dec.{T, T-not, eqb, eqb→eq, leb, ltb, lit≤, lit<, leb→le, nleb→lt}
 use borrow.Author.Tests.{le-ltb}
-use lib.Pow.{pow-add, pow-pos, pow-mono, pow-lt}
+use lib.Pow.{pow-add, pow-pos, pow-lt}
 use lib.IntN.{pos}
-use lib.Ieee.{Float, nan, inf, fin, Format, binary32, binary64, prec, emax, low, up, down, hid, top, units, round, sum, add, sub, neg, eq, fits, toBits, ofBits}
+use lib.Ieee.{Float, nan, inf, fin, Format, binary32, binary64, prec, emax, low, up, down, hid, units, round, sum, add, sub, neg, eq, fits, toBits, ofBits}
 use lib.Ieee.Exact.{HasValue, units-val}
 use lib.Ieee.Fits.{down-pos, and-l, and-i, eq→eqb}
 use lib.Ieee.Scale.{finite, overflow}

@@ -1,5 +1,4 @@
 -- `stepped_down` meets its contract: each answer by the test that led to it.
-use borrow.Author.Needs.{needs}
 use Rattle.arithmetic.proofs.whole.stepped_down.Statement.{statement}
 use Rattle.arithmetic.proofs.whole.stepped_down.Tie as tie
 
