@@ -6,3 +6,4 @@ pub mod Sine
 pub mod Refusal
 pub mod Answer
 pub mod Count
+pub mod Marked
