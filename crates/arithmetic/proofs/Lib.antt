@@ -17,3 +17,4 @@ pub mod SineLaws
 pub mod SineExamples
 pub mod CountLaws
 pub mod MarkedHold
+pub mod UnitLaws
