@@ -1,6 +1,6 @@
 -- The one NaN: what is read from a NaN's pattern, and the pattern that is written for it.
 use mathlib.Core.Path.{_≡_, refl, sym, subst}
-use mathlib.Core.Bool.{Bool, true, false, not}
+use mathlib.Core.Bool.{true, false}
 use Prim.Native.Nat.{ℕ, _+_, _*_, _/_}
 use native.Mathlib.Omega.{arith}
 use lib.Dec.{T}
@@ -15,12 +15,6 @@ unfolding isNan
 nan-is nan h = refl
 nan-is (inf s) h = absurd (apart (sym h))
 nan-is (fin s m e) h = absurd (apart (sym h))
-
-pub no-nan : (x : Float) → ne x x ≡ false → T (not (isNan x))
-unfolding ne isNan
-no-nan nan h = subst T h tt
-no-nan (inf s) h = tt
-no-nan (fin s m e) h = tt
 
 pub nan-bits : (f : Format) (x : Float) → ne x x ≡ true → ones f * hid f + hid f / 2 ≡ toBits f x
 unfolding toBits

@@ -5,8 +5,11 @@
 ghost use mathlib.Core.Path.{_≡_};
 ghost use Prim.Native.Nat.{_+_, _≤_, _<_};
 ghost use lib.ListN.{length};
+ghost use Rattle.vectors.specs.Vector.{kindOf, answerWord, comparedOf, verdictOf};
 use crate::digits::Word;
 use crate::digits::word_at;
+use crate::patterns::bits_of;
+use crate::patterns::bits_of_counts;
 use crate::patterns::bits_of_single;
 use crate::patterns::of_bits;
 use libc::STDIN_FILENO;
@@ -14,7 +17,7 @@ use libc::STDOUT_FILENO;
 
 // The place of a letter's function among the five, 5 for any other byte.
 fn kind_of(letter: u8) -> usize
-    ensures { λ r. ⌜ r ≤ 5 ⌝ }
+    ensures { λ r. ⌜ (r ≡ kindOf letter) × (r ≤ 5) ⌝ }
 {
     match letter {
         b'r' => 0,
@@ -27,14 +30,19 @@ fn kind_of(letter: u8) -> usize
 }
 
 // What the function at a place answers, as digits would write it.
-fn answer(kind: usize, x: f64) -> u64 {
+fn answer(kind: usize, x: f64) -> u64
+    ensures { λ r. ⌜ r ≡ answerWord kind x ⌝ }
+{
     match kind {
+        0 => bits_of(arithmetic::root(x)),
         1 => bits_of_single(arithmetic::narrow(x)),
-        _ => 0,
+        2 => bits_of(arithmetic::sin_cos(x).sin),
+        3 => bits_of(arithmetic::sin_cos(x).cos),
+        _ => bits_of_counts(arithmetic::counts(x)),
     }
 }
 
-// Writes a line that differs, and the answer in place of its own.
+// Writes the answer given here, then the line that it differs from.
 fn show(line: &[u8], got: u64) {
     io::write_all(STDOUT_FILENO, b"differs, here ");
     io::print_hex(STDOUT_FILENO, got, 16);
@@ -42,22 +50,15 @@ fn show(line: &[u8], got: u64) {
     io::write_all(STDOUT_FILENO, line);
 }
 
-// Twice the kind of a line, and one more where it differs; 11 for a line that breaks the form.
-fn verdict(line: &[u8]) -> usize
-    requires { ⌜ 36 ≡ length (now line) ⌝ }
-    ensures { λ r. ⌜ r < 12 ⌝ }
+// Twice the kind, and one more where the answer is not the one expected; 11 where either word is broken.
+fn compared(line: &[u8], kind: usize, argument: Word, expected: Word) -> usize
+    requires { ⌜ kind < 5 ⌝ }
+    ensures { λ r. ⌜ (r ≡ comparedOf kind argument expected) × (r < 12) ⌝ }
 {
-    let kind = kind_of(line[0]);
-    if kind == 5 {
-        return 11;
-    }
-    if line[1] != b' ' {
-        return 11;
-    }
-    let Word::Number(argument) = word_at(line, 2, b' ') else {
+    let Word::Number(argument) = argument else {
         return 11;
     };
-    let Word::Number(expected) = word_at(line, 19, b'\n') else {
+    let Word::Number(expected) = expected else {
         return 11;
     };
     let got = answer(kind, of_bits(argument));
@@ -68,13 +69,29 @@ fn verdict(line: &[u8]) -> usize
     kind * 2 + 1
 }
 
+// The same for a whole line, 11 where it breaks the form.
+fn verdict(line: &[u8]) -> usize
+    requires { ⌜ 36 ≡ length (now line) ⌝ }
+    ensures { λ r. ⌜ (r ≡ verdictOf (now (line .entry))) × (r < 12) ⌝ }
+{
+    let kind = kind_of(line[0]);
+    let argument = word_at(line, 2, b' ');
+    let expected = word_at(line, 19, b'\n');
+    let known = (kind < 5) & (line[1] == b' ');
+    if known {
+        return compared(line, kind, argument, expected);
+    }
+    11
+}
+
+// One more at a place of the tally: of each kind the lines that agree and those that differ, then the broken ones.
 fn count(tally: &mut [u64; 12], place: usize)
     requires { ⌜ place < 12 ⌝ }
 {
     tally[place] = std::num::wrapping_add_u64(tally[place], 1);
 }
 
-// Bytes after the last whole line are a line that breaks the form.
+// Counts every line of a text. Bytes after the last whole line are a line that breaks the form.
 fn lines(text: &[u8], tally: &mut [u64; 12]) {
     let mut i = 0;
     while i < text.len() / 36 {

@@ -1,7 +1,8 @@
 -- A number that differs from itself is the NaN, whose pattern the code writes; any other has its own.
 use lib.Ieee.{binary64}
 use borrow.Author.Needs.{needs}
-use Rattle.vectors.proofs.Nans.{no-nan, nan-bits}
+use Rattle.arithmetic.proofs.Fields.{no-nan}
+use Rattle.vectors.proofs.Nans.{nan-bits}
 use Rattle.vectors.proofs.patterns.bits_of.Statement.{statement}
 use Rattle.vectors.proofs.patterns.bits_of.Tie as tie
 

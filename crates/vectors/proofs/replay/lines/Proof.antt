@@ -1,7 +1,6 @@
 -- Nothing has to hold from turn to turn: a turn's test is that a whole line is left. The measure is the lines that are left.
 use Prim.Native.Nat.{_-_, _/_}
 use lib.ListN.{length}
-use native.Mathlib.Omega.{arith}
 use borrow.Author.Needs.{needs}
 use Rattle.vectors.proofs.replay.lines.Statement.{statement}
 use Rattle.vectors.proofs.replay.lines.Tie as tie
