@@ -14,6 +14,8 @@ use Rattle.records.specs.declared.points.GeomShape.the-variants.{Line, A
 use Rattle.records.specs.declared.points.HeightDef.{HeightDef}
 use Rattle.records.specs.declared.points.StripKind.{StripKind}
 use Rattle.records.specs.declared.points.StripKind.the-variants.{Absent, Absolute, Relative}
+use Rattle.records.specs.declared.scan.Found.{Found}
+use Rattle.records.specs.declared.scan.Found.the-variants.{At, Nothing}
 use Rattle.records.specs.Lists.{table, span}
 use Rattle.records.specs.Cubics.{cubicsOf}
 use Rattle.records.specs.Active.{lastStart, orFirst, reached}
@@ -197,6 +199,11 @@ sectionOf road i = getD (road .sections) i noSection
 
 abbrev pub noLane : Lane
 noLane = record { border = false; level = false; extents = []; heights = [] }
+
+-- the lane that a line of the lane table holds, none for no line
+abbrev pub laneBy : List ℕ → List Float → Found → Lane
+laneBy words numbers (At j) = laneIn words numbers j
+laneBy words numbers Nothing = noLane
 
 -- the k-th lane of a section, from the center outward, on the right or on the left
 abbrev pub laneOf : Road → ℕ → Bool → ℕ → Lane

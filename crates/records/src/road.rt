@@ -11,9 +11,16 @@ use crate::scan::Found;
 use crate::scan::reach;
 ghost use mathlib.Core.Path.{_≡_};
 ghost use Prim.Native.Nat.{ℕ, _+_, _*_, _<_};
+ghost use mathlib.Core.Bool.{true, cond, _&&_};
+ghost use mathlib.Core.List.{List};
 ghost use lib.ListN.{length, getD};
+ghost use lib.Dec.{eqb};
+ghost use lib.Ieee.{Float};
+ghost use Rattle.records.specs.declared.scan.Found.the-variants.{At};
+ghost use Rattle.records.specs.declared.points.StripKind.the-variants.{Absent, Absolute, Relative};
 ghost use Rattle.records.specs.Cubics.{cubicsOf};
-ghost use Rattle.records.specs.Roads.{roadOf, geomAt, shapeOf, geomFrom, heightDefAt, heightsOf, sectionOf, laneOf, profileAt, stripAt, kindOf, columnOf, unusedZero, geomIndex, sectionIndex};
+ghost use Rattle.records.specs.Active.{foundOf, orFirst};
+ghost use Rattle.records.specs.Roads.{roadOf, laneBy, geomAt, shapeOf, geomFrom, heightDefAt, heightsOf, sectionOf, laneOf, profileAt, stripAt, kindOf, columnOf, unusedZero, geomIndex, sectionIndex};
 
 // ---- the road and its flat tables
 
@@ -105,7 +112,9 @@ pub fn unused_zero(words: &[u16], numbers: &[f64], i: usize) -> bool
     }
 }
 
-fn unused_of(kind: usize, k0: bool, k1: bool) -> bool {
+fn unused_of(kind: usize, k0: bool, k1: bool) -> bool
+    ensures { λ r. ⌜ r ≡ cond (eqb kind 1) k1 (cond (eqb kind 2) true (k0 && k1)) ⌝ }
+{
     match kind {
         1 => k1,
         2 => true,
@@ -120,7 +129,9 @@ pub fn geom_at(words: &[u16], numbers: &[f64], s: f64) -> usize
     less_one(reach(numbers, 1, 7, word(words, 0), s + 1e-9))
 }
 
-fn less_one(n: usize) -> usize {
+fn less_one(n: usize) -> usize
+    ensures { λ r. ⌜ r ≡ orFirst (foundOf n) ⌝ }
+{
     if n == 0 { 0 } else { n - 1 }
 }
 
@@ -170,8 +181,11 @@ pub fn right_count(words: &[u16], numbers: &[f64], section: usize) -> usize
     }
 }
 
-// The place among the words of the k-th lane of a section's side.
-fn lane_place(words: &[u16], section: usize, right: bool, k: usize) -> Found {
+// The line of the lane table that has the k-th lane of a section's side.
+fn lane_line(words: &[u16], section: usize, right: bool, k: usize) -> Found
+    ensures { λ r. ⌜ ((numbers : List Float) → laneOf (roadOf (now (words .entry)) numbers) section right k ≡ laneBy (now (words .entry)) numbers r) ⌝ }
+    ensures small { λ r. ⌜ ((j : ℕ) → r ≡ At j → j < 196608) ⌝ }
+{
     if word(words, 5) <= section {
         return Found::Nothing;
     }
@@ -179,12 +193,12 @@ fn lane_place(words: &[u16], section: usize, right: bool, k: usize) -> Found {
     let left = word(words, 72 + section * 3);
     if right {
         if k < word(words, 73 + section * 3) {
-            return Found::At(119 + (first + left + k) * 6);
+            return Found::At(first + left + k);
         }
         return Found::Nothing;
     }
     if k < left {
-        return Found::At(119 + (first + k) * 6);
+        return Found::At(first + k);
     }
     Found::Nothing
 }
@@ -193,8 +207,8 @@ fn lane_place(words: &[u16], section: usize, right: bool, k: usize) -> Found {
 pub fn lane_is_border(words: &[u16], numbers: &[f64], section: usize, right: bool, k: usize) -> bool
     ensures { λ r. ⌜ r ≡ laneOf (roadOf (now (words .entry)) (now (numbers .entry))) section right k .border ⌝ }
 {
-    match lane_place(words, section, right, k) {
-        Found::At(at) => word(words, at) == 1,
+    match lane_line(words, section, right, k) {
+        Found::At(j) => word(words, 119 + j * 6) == 1,
         Found::Nothing => false,
     }
 }
@@ -202,8 +216,8 @@ pub fn lane_is_border(words: &[u16], numbers: &[f64], section: usize, right: boo
 pub fn lane_is_level(words: &[u16], numbers: &[f64], section: usize, right: bool, k: usize) -> bool
     ensures { λ r. ⌜ r ≡ laneOf (roadOf (now (words .entry)) (now (numbers .entry))) section right k .level ⌝ }
 {
-    match lane_place(words, section, right, k) {
-        Found::At(at) => word(words, at + 1) == 1,
+    match lane_line(words, section, right, k) {
+        Found::At(j) => word(words, 120 + j * 6) == 1,
         Found::Nothing => false,
     }
 }
@@ -218,12 +232,11 @@ pub fn extents<'a>(
 ) -> &'a [f64]
     ensures { λ r. ⌜ cubicsOf (now r) ≡ laneOf (roadOf (now (words .entry)) (now (numbers .entry))) section right k .extents ⌝ }
 {
-    match lane_place(words, section, right, k) {
-        Found::At(at) => part(
-            numbers,
-            1745 + word(words, at + 2) * 5,
-            word(words, at + 3) * 5,
-        ),
+    match lane_line(words, section, right, k) {
+        Found::At(j) => {
+            let at = 119 + j * 6;
+            part(numbers, 1745 + word(words, at + 2) * 5, word(words, at + 3) * 5)
+        }
         Found::Nothing => part(numbers, 0, 0),
     }
 }
@@ -238,12 +251,11 @@ pub fn heights<'a>(
 ) -> &'a [f64]
     ensures { λ r. ⌜ heightsOf (now r) ≡ laneOf (roadOf (now (words .entry)) (now (numbers .entry))) section right k .heights ⌝ }
 {
-    match lane_place(words, section, right, k) {
-        Found::At(at) => part(
-            numbers,
-            4305 + word(words, at + 4) * 3,
-            word(words, at + 5) * 3,
-        ),
+    match lane_line(words, section, right, k) {
+        Found::At(j) => {
+            let at = 119 + j * 6;
+            part(numbers, 4305 + word(words, at + 4) * 3, word(words, at + 5) * 3)
+        }
         Found::Nothing => part(numbers, 0, 0),
     }
 }
@@ -299,7 +311,9 @@ pub fn shapes<'a>(words: &[u16], numbers: &'a [f64], i: usize) -> &'a [f64]
     }
 }
 
-fn kind_of(code: usize) -> StripKind {
+fn kind_of(code: usize) -> StripKind
+    ensures { λ r. ⌜ r ≡ cond (eqb code 0) Absent (cond (eqb code 2) Relative Absolute) ⌝ }
+{
     match code {
         0 => StripKind::Absent,
         2 => StripKind::Relative,

@@ -26,7 +26,7 @@ fn found_of(reach: usize) -> Found
 
 // Of count starts, stride places apart from base on, one more than the place of the last that is at most the limit; 0 where none is.
 pub(crate) fn reach(numbers: &[f64], base: usize, stride: usize, count: usize, limit: f64) -> usize
-    requires { ⌜ (base < 65536) × (stride < 16) × (count < 2305843009213693952) ⌝ }
+    requires { ⌜ (base < 65536) × (stride < 16) × (count < 1152921504606846976) ⌝ }
     ensures { λ r. ⌜ foundOf r ≡ lastStart (λ (i : ℕ). getD (now (numbers .entry)) (base + i * stride) nan) limit count ⌝ }
 {
     let mut i = count;

@@ -1,0 +1,52 @@
+use borrow.Author.Needs.{needs}
+use Rattle.records.proofs.road.geom.Statement.{statement}
+use Rattle.records.proofs.road.geom.Tie as tie
+
+word-requires : tie.Need-word-requires
+word-requires c κs = search needs
+
+mul-part : tie.Need-mul-part
+mul-part c = search needs
+
+add-part : tie.Need-add-part
+add-part c = search needs
+
+part-requires : tie.Need-part-requires
+part-requires c κs = search needs
+
+add-word : tie.Need-add-word
+add-word c = search needs
+
+word-requires-2 : tie.Need-word-requires-2
+word-requires-2 c κs = search needs
+
+geom-from-requires : tie.Need-geom-from-requires
+geom-from-requires c κs = search needs
+
+part-requires-2 : tie.Need-part-requires-2
+part-requires-2 c κs = search needs
+
+geom-from-requires-2 : tie.Need-geom-from-requires-2
+geom-from-requires-2 c κs = search needs
+
+returns : tie.Need-returns
+returns c = ?
+
+returns-2 : tie.Need-returns-2
+returns-2 c = ?
+
+pub geom-spec : {M : Type 1} → statement M
+geom-spec =
+    tie.close
+    (tie.spec
+    word-requires
+    mul-part
+    add-part
+    part-requires
+    add-word
+    word-requires-2
+    geom-from-requires
+    part-requires-2
+    geom-from-requires-2
+    returns
+    returns-2)

@@ -1,0 +1,18 @@
+use borrow.Author.Needs.{needs}
+use Rattle.records.proofs.road.offsets.Statement.{statement}
+use Rattle.records.proofs.road.offsets.Tie as tie
+
+word-requires : tie.Need-word-requires
+word-requires c κs = search needs
+
+mul-part : tie.Need-mul-part
+mul-part c = search needs
+
+part-requires : tie.Need-part-requires
+part-requires c κs = search needs
+
+returns : tie.Need-returns
+returns c = ?
+
+pub offsets-spec : {M : Type 1} → statement M
+offsets-spec = tie.close (tie.spec word-requires mul-part part-requires returns)
