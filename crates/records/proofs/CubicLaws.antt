@@ -15,6 +15,15 @@ use Rattle.records.specs.Active.{activeIn, valueIn, slopeIn}
 use Rattle.records.specs.Roads.{heightsOf, heightDefAt, heightFrom, noHeight}
 use Rattle.records.proofs.TableLaws.{length-table, table-at, table-past}
 
+-- no numbers, no cubics
+pub cubics-none : {xs : List Float} → xs ≡ [] → cubicsOf xs ≡ []
+unfolding cubicsOf
+cubics-none e = rw e
+
+pub heights-none : {xs : List Float} → xs ≡ [] → heightsOf xs ≡ []
+unfolding heightsOf
+heights-none e = rw e
+
 module _ (xs : List Float) where
   pub cubic-count : length (cubicsOf xs) ≡ length xs / 5
   unfolding cubicsOf

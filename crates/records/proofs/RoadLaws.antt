@@ -1,6 +1,7 @@
 -- What the road of two lent lists holds, place by place: how long each list is, its i-th element below that, nothing past it. Every list is a table, so each law is one of TableLaws.
 use Prim.Native.Nat.{ℕ, zero, suc, _+_, _*_, _/_, _<_, _≤_}
 use native.Mathlib.Omega.{arith}
+use native.Mathlib.Numerals.{add-one}
 use mathlib.Core.Path.{_≡_, refl, ap, _∙_, sym}
 use mathlib.Core.Bool.{Bool, true, false, _&&_, cond}
 use mathlib.Core.List.{List, [], _∷_}
@@ -9,6 +10,7 @@ use lib.Dec.{eqb}
 use lib.Ieee.{Float, nan, eq}
 use Rattle.float_laws.specs.Binary64.{zero64}
 use Rattle.records.specs.declared.cubics.Cubic.{Cubic}
+use Rattle.records.specs.declared.points.GeomRec.{GeomRec}
 use Rattle.records.specs.declared.points.StripKind.{StripKind}
 use Rattle.records.specs.declared.points.StripKind.the-variants.{Absent, Absolute, Relative}
 use Rattle.records.specs.declared.scan.Found.{Found}
@@ -23,6 +25,16 @@ use Rattle.records.proofs.ScanLaws.{lastStart-same}
 -- a place by a sum of two literals, and by a sum of three
 plus : (a b x : ℕ) → a + x + b ≡ a + b + x
 plus a b x = omega arith
+
+more : (a : ℕ) → a ≡ a + 0
+more a = omega arith
+
+once : (i : ℕ) → 1729 + i * 1 ≡ 1729 + i
+once i = omega arith
+
+and-true : (a : Bool) → a && true ≡ a
+and-true true = refl
+and-true false = refl
 
 module _ (words : List ℕ) (numbers : List Float) where
   abbrev road : Road
@@ -85,6 +97,37 @@ module _ (words : List ℕ) (numbers : List Float) where
   unfolding sectionIn
   right-count i h = ap (λ (x : Section). length (x .right)) (section-in i h) ∙ length-table _ _ ∙ ap (wordAt words numbers) (plus 71 2 (i * 3))
 
+  -- ---- the lanes of a section: the left ones from its first lane on, then the right ones
+  pub left-lane-in :
+      (i k : ℕ) → i < getD words 5 0 → k < getD words (72 + i * 3) 0
+      → laneOf road i false k ≡ laneIn words numbers (getD words (71 + i * 3) 0 + k)
+  unfolding sectionIn
+  left-lane-in i k h l =
+      ap (λ (x : Section). getD (x .left) k noLane) (section-in i h)
+      ∙ table-at (λ j. laneIn words numbers (getD words (71 + i * 3) 0 + j)) (getD words (71 + i * 3 + 1) 0) k noLane (rw (plus 71 1 (i * 3)) l)
+
+  pub left-lane-past : (i k : ℕ) → i < getD words 5 0 → getD words (72 + i * 3) 0 ≤ k → laneOf road i false k ≡ noLane
+  unfolding sectionIn
+  left-lane-past i k h l = ap (λ (x : Section). getD (x .left) k noLane) (section-in i h) ∙ table-past _ (getD words (71 + i * 3 + 1) 0) k noLane (rw (plus 71 1 (i * 3)) l)
+
+  pub right-lane-in :
+      (i k : ℕ) → i < getD words 5 0 → k < getD words (73 + i * 3) 0
+      → laneOf road i true k ≡ laneIn words numbers (getD words (71 + i * 3) 0 + getD words (72 + i * 3) 0 + k)
+  unfolding sectionIn
+  right-lane-in i k h l =
+      ap (λ (x : Section). getD (x .right) k noLane) (section-in i h)
+      ∙ table-at (λ j. laneIn words numbers (getD words (71 + i * 3) 0 + getD words (71 + i * 3 + 1) 0 + j)) (getD words (71 + i * 3 + 2) 0) k noLane (rw (plus 71 2 (i * 3)) l)
+      ∙ ap (λ (n : ℕ). laneIn words numbers (getD words (71 + i * 3) 0 + getD words n 0 + k)) (plus 71 1 (i * 3))
+
+  pub right-lane-past : (i k : ℕ) → i < getD words 5 0 → getD words (73 + i * 3) 0 ≤ k → laneOf road i true k ≡ noLane
+  unfolding sectionIn
+  right-lane-past i k h l = ap (λ (x : Section). getD (x .right) k noLane) (section-in i h) ∙ table-past _ (getD words (71 + i * 3 + 2) 0) k noLane (rw (plus 71 2 (i * 3)) l)
+
+  -- no section, no lane
+  pub no-lane : (i k : ℕ) (r : Bool) → getD words 5 0 ≤ i → laneOf road i r k ≡ noLane
+  no-lane i k true h = ap (λ (x : Section). getD (x .right) k noLane) (section-past i h)
+  no-lane i k false h = ap (λ (x : Section). getD (x .left) k noLane) (section-past i h)
+
   -- ---- profiles and strips
   pub profile-count : length (road .profiles) ≡ getD words 6 0
   unfolding roadOf
@@ -100,12 +143,82 @@ module _ (words : List ℕ) (numbers : List Float) where
 
   pub strip-count : length (road .strips) ≡ 4
   unfolding roadOf
-  strip-count = length-table _ _
+  strip-count = length-table (stripIn words numbers) 4
 
   pub strip-in : (i : ℕ) → i < 4 → stripAt road i ≡ stripIn words numbers i
   unfolding roadOf
-  strip-in i h = table-at _ _ i absent h
+  strip-in i h = table-at (stripIn words numbers) 4 i absent h
 
   pub strip-past : (i : ℕ) → 4 ≤ i → stripAt road i ≡ absent
   unfolding roadOf
-  strip-past i h = table-past _ _ i absent h
+  strip-past i h = table-past (stripIn words numbers) 4 i absent h
+
+-- ---- the same, by the values that a function has read
+
+-- a list of columns is zero by the tests on them
+zero-tests : (p q : Bool) (x y : Float) → cond p (eq y zero64) (cond q true (eq x zero64 && eq y zero64)) ≡ allZero (cond p (y ∷ []) (cond q [] (x ∷ y ∷ [])))
+zero-tests true q x y = sym (and-true (eq y zero64))
+zero-tests false true x y = refl
+zero-tests false false x y = ap (λ (b : Bool). eq x zero64 && b) (sym (and-true (eq y zero64)))
+
+module _ (words : List ℕ) (numbers : List Float) where
+  pub geom-by :
+      (i : ℕ) {xs : List Float} {kind : ℕ} → i < getD words 0 0 → xs ≡ span numbers (1 + i * 7) 7 → kind ≡ getD words (7 + i) 0
+      → geomFrom xs kind ≡ geomAt (roadOf words numbers) i
+  unfolding geomIn
+  geom-by i h e f = rw (e, f) (sym (geom-in words numbers i h))
+
+  pub unused-by :
+      (i : ℕ) {kind : ℕ} {x y : Float} → i < getD words 0 0 → kind ≡ getD words (7 + i) 0 → x ≡ getD numbers (6 + i * 7) nan → y ≡ getD numbers (7 + i * 7) nan
+      → cond (eqb kind 1) (eq y zero64) (cond (eqb kind 2) true (eq x zero64 && eq y zero64)) ≡ unusedZero (roadOf words numbers) i
+  unfolding unusedIn
+  unused-by i h e f g =
+      rw (e, f, g, ← plus 1 5 (i * 7), ← plus 1 6 (i * 7)) (zero-tests _ _ _ _)
+      ∙ ap allZero (sym (unused-in words numbers i h))
+
+  pub strip-by : (i : ℕ) {code : ℕ} → i < 4 → code ≡ getD words (1303 + i * 11) 0
+      → cond (eqb code 0) Absent (cond (eqb code 2) Relative Absolute) ≡ kindOf (stripAt (roadOf words numbers) i)
+  unfolding stripIn
+  strip-by i {code} h e = rw (strip-in words numbers i h, ← e) (go (eqb code 0))
+    where
+      go : (b : Bool) → cond b Absent (cond (eqb code 2) Relative Absolute) ≡ kindOf (cond b absent (present (record { relative = eqb code 2; width = columnIn words numbers i 0; terms = table (λ j. columnIn words numbers i (j + 1)) 4 })))
+      go true = refl
+      go false = refl
+
+  -- the column of a strip that is there, one that is not, and past the last
+  pub column-in : (i column : ℕ) → i < 4 → column < 5 → eqb (getD words (1303 + i * 11) 0) 0 ≡ false → columnOf (stripAt (roadOf words numbers) i) column ≡ columnIn words numbers i column
+  unfolding stripIn
+  column-in i zero h l e = rw (strip-in words numbers i h, e)
+  column-in i (suc j) h l e = rw (strip-in words numbers i h, e, ← add-one j) (table-at (λ j. columnIn words numbers i (j + 1)) 4 j [] (omega arith))
+
+  pub column-absent : (i column : ℕ) → i < 4 → eqb (getD words (1303 + i * 11) 0) 0 ≡ true → columnOf (stripAt (roadOf words numbers) i) column ≡ []
+  unfolding stripIn
+  column-absent i column h e = rw (strip-in words numbers i h, e)
+
+  pub column-past : (i column : ℕ) → 4 ≤ i → columnOf (stripAt (roadOf words numbers) i) column ≡ []
+  column-past i column h = rw (strip-past words numbers i h)
+
+  -- ---- the geometry and the section at s
+  geom-start : (i : ℕ) → i < getD words 0 0 → getD numbers (1 + i * 7) nan ≡ geomAt (roadOf words numbers) i .s
+  unfolding geomIn
+  geom-start i h =
+      ap (λ (k : ℕ). getD numbers k nan) (more (1 + i * 7)) ∙ sym (span-at numbers (1 + i * 7) 7 0 nan (omega arith))
+      ∙ ap (λ (g : GeomRec). g .s) (sym (geom-in words numbers i h))
+
+  pub geom-index :
+      (s : Float) (r : ℕ) {n : ℕ} → n ≡ getD words 0 0 → foundOf r ≡ lastStart (λ (i : ℕ). getD numbers (1 + i * 7) nan) (reached s) n
+      → orFirst (foundOf r) ≡ geomIndex (roadOf words numbers) s
+  unfolding geomIndex
+  geom-index s r e f =
+      rw (geom-count words numbers, f, e) (ap orFirst (lastStart-same _ _ (reached s) _ geom-start))
+
+  section-start : (i : ℕ) → i < getD words 5 0 → getD numbers (1729 + i * 1) nan ≡ sectionOf (roadOf words numbers) i .start
+  unfolding sectionIn
+  section-start i h = ap (λ (k : ℕ). getD numbers k nan) (once i) ∙ ap (λ (x : Section). x .start) (sym (section-in words numbers i h))
+
+  pub section-index :
+      (s : Float) (r : ℕ) {n : ℕ} → n ≡ getD words 5 0 → foundOf r ≡ lastStart (λ (i : ℕ). getD numbers (1729 + i * 1) nan) (reached s) n
+      → orFirst (foundOf r) ≡ sectionIndex (roadOf words numbers) s
+  unfolding sectionIndex
+  section-index s r e f =
+      rw (section-count words numbers, f, e) (ap orFirst (lastStart-same _ _ (reached s) _ section-start))

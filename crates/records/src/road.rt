@@ -217,7 +217,7 @@ pub fn lane_is_level(words: &[u16], numbers: &[f64], section: usize, right: bool
     ensures { λ r. ⌜ r ≡ laneOf (roadOf (now (words .entry)) (now (numbers .entry))) section right k .level ⌝ }
 {
     match lane_line(words, section, right, k) {
-        Found::At(j) => word(words, 120 + j * 6) == 1,
+        Found::At(j) => word(words, 119 + j * 6 + 1) == 1,
         Found::Nothing => false,
     }
 }

@@ -1,3 +1,12 @@
+-- `geom`: the i-th line of the table, or a line of NaNs.
+use Prim.Native.Nat.{_<_, _≤_}
+use native.Mathlib.Omega.{arith}
+use mathlib.Core.Path.{_∙_, ap, sym}
+use mathlib.Core.List.{List}
+use lib.ListN.{getD}
+use lib.Ieee.{Float}
+use Rattle.records.specs.Roads.{geomFrom}
+use Rattle.records.proofs.RoadLaws.{geom-by, geom-past}
 use borrow.Author.Needs.{needs}
 use Rattle.records.proofs.road.geom.Statement.{statement}
 use Rattle.records.proofs.road.geom.Tie as tie
@@ -30,10 +39,16 @@ geom-from-requires-2 : tie.Need-geom-from-requires-2
 geom-from-requires-2 c κs = search needs
 
 returns : tie.Need-returns
-returns c = ?
+returns c = 
+    let a = c .before .before .before .before .before .before .before .args in
+    let h : a .i < getD (a .words .now) 0 0 = omega arith in
+    c .geom-from .ensures ∙ geom-by (a .words .now) (a .numbers .now) (a .i) h (c .before .before .part .ensures) (c .before .word2 .ensures .0)
 
 returns-2 : tie.Need-returns-2
-returns-2 c = ?
+returns-2 c = 
+    let a = c .before .before .before .before .before .before .args in
+    let h : getD (a .words .now) 0 0 ≤ a .i = omega arith in
+    c .geom-from2 .ensures ∙ ap (λ (xs : List Float). geomFrom xs 0) (c .before .part2 .ensures) ∙ sym (geom-past (a .words .now) (a .numbers .now) (a .i) h)
 
 pub geom-spec : {M : Type 1} → statement M
 geom-spec =
