@@ -1,6 +1,7 @@
 -- The cubics and the heights that a list of numbers holds, and the value and the slope by the active cubic. From the laws on tables.
 use Prim.Native.Nat.{ℕ, _+_, _*_, _/_, _<_, _≤_}
-use mathlib.Core.Path.{_≡_, refl, ap}
+use native.Mathlib.Omega.{arith}
+use mathlib.Core.Path.{_≡_, refl, ap, _∙_, sym}
 use mathlib.Core.List.{List, []}
 use lib.ListN.{length, getD}
 use lib.Ieee.{Float, nan}
@@ -11,9 +12,13 @@ use Rattle.records.specs.declared.scan.Found.{Found}
 use Rattle.records.specs.declared.scan.Found.the-variants.{At, Nothing}
 use Rattle.records.specs.Lists.{table}
 use Rattle.records.specs.Cubics.{cubicsOf, cubicAt, cubicFrom, noCubic, evalAt, slopeAt}
-use Rattle.records.specs.Active.{activeIn, valueIn, slopeIn}
+use Rattle.records.specs.Active.{lastStart, reached, activeIn, valueIn, slopeIn}
 use Rattle.records.specs.Roads.{heightsOf, heightDefAt, heightFrom, noHeight}
 use Rattle.records.proofs.TableLaws.{length-table, table-at, table-past}
+use Rattle.records.proofs.ScanLaws.{lastStart-same}
+
+none-more : (k : ℕ) → 0 + k ≡ k
+none-more k = omega arith
 
 -- no numbers, no cubics
 pub cubics-none : {xs : List Float} → xs ≡ [] → cubicsOf xs ≡ []
@@ -36,6 +41,12 @@ module _ (xs : List Float) where
   pub cubic-past : (i : ℕ) → length xs / 5 ≤ i → cubicAt (cubicsOf xs) i ≡ noCubic
   unfolding cubicsOf
   cubic-past i h = table-past _ _ i noCubic h
+
+  -- the active cubic by the starts where they stand
+  pub active-by : (s : Float) → lastStart (λ (i : ℕ). getD xs (0 + i * 5) nan) (reached s) (length xs / 5) ≡ activeIn (cubicsOf xs) s
+  unfolding activeIn
+  active-by s =
+      rw cubic-count (lastStart-same _ _ (reached s) _ (λ i h. ap (λ (k : ℕ). getD xs k nan) (none-more (i * 5)) ∙ sym (ap (λ (c : Cubic). c .start) (cubic-in i h))))
 
   pub height-count : length (heightsOf xs) ≡ length xs / 3
   unfolding heightsOf

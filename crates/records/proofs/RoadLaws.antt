@@ -155,6 +155,17 @@ module _ (words : List ℕ) (numbers : List Float) where
 
 -- ---- the same, by the values that a function has read
 
+-- a strip that is there
+abbrev there : List ℕ → List Float → ℕ → ℕ → Strip
+there words numbers i code = present (record { relative = eqb code 2; width = columnIn words numbers i 0; terms = table (λ j. columnIn words numbers i (j + 1)) 4 })
+
+-- the line of a lane is small, as the words that make it are
+pub line-small : (x : ℕ) → x < 196608 → (j : ℕ) → At x ≡ At j → j < 196608
+line-small x h j e = let g : x ≡ j = cc in omega arith
+
+pub no-line : (j : ℕ) → Nothing ≡ At j → j < 196608
+no-line j e = let z : _≡_ {A = ℕ} 0 1 = cc in omega arith
+
 -- a list of columns is zero by the tests on them
 zero-tests : (p q : Bool) (x y : Float) → cond p (eq y zero64) (cond q true (eq x zero64 && eq y zero64)) ≡ allZero (cond p (y ∷ []) (cond q [] (x ∷ y ∷ [])))
 zero-tests true q x y = sym (and-true (eq y zero64))
@@ -173,19 +184,37 @@ module _ (words : List ℕ) (numbers : List Float) where
       → cond (eqb kind 1) (eq y zero64) (cond (eqb kind 2) true (eq x zero64 && eq y zero64)) ≡ unusedZero (roadOf words numbers) i
   unfolding unusedIn
   unused-by i h e f g =
-      rw (e, f, g, ← plus 1 5 (i * 7), ← plus 1 6 (i * 7)) (zero-tests _ _ _ _)
+      rw (e, f, g, ← plus 1 5 (i * 7), ← plus 1 6 (i * 7)) (zero-tests (eqb (getD words (7 + i) 0) 1) (eqb (getD words (7 + i) 0) 2) (getD numbers (1 + i * 7 + 5) nan) (getD numbers (1 + i * 7 + 6) nan))
       ∙ ap allZero (sym (unused-in words numbers i h))
+
+  pub left-lane-by :
+      (i k : ℕ) {r : Bool} {first left : ℕ} → i < getD words 5 0 → r ≡ false → first ≡ getD words (71 + i * 3) 0 → left ≡ getD words (72 + i * 3) 0 → k < left
+      → laneOf (roadOf words numbers) i r k ≡ laneIn words numbers (first + k)
+  left-lane-by i k h r e f l = rw (r, e) (left-lane-in words numbers i k h (rw f at l))
+
+  pub right-lane-by :
+      (i k : ℕ) {r : Bool} {first left right : ℕ} → i < getD words 5 0 → r ≡ true → first ≡ getD words (71 + i * 3) 0 → left ≡ getD words (72 + i * 3) 0
+      → right ≡ getD words (73 + i * 3) 0 → k < right → laneOf (roadOf words numbers) i r k ≡ laneIn words numbers (first + left + k)
+  right-lane-by i k h r e f g l = rw (r, e, f) (right-lane-in words numbers i k h (rw g at l))
+
+  pub left-none-by :
+      (i k : ℕ) {r : Bool} {left : ℕ} → i < getD words 5 0 → r ≡ false → left ≡ getD words (72 + i * 3) 0 → left ≤ k → laneOf (roadOf words numbers) i r k ≡ noLane
+  left-none-by i k h r f l = rw r (left-lane-past words numbers i k h (rw f at l))
+
+  pub right-none-by :
+      (i k : ℕ) {r : Bool} {right : ℕ} → i < getD words 5 0 → r ≡ true → right ≡ getD words (73 + i * 3) 0 → right ≤ k → laneOf (roadOf words numbers) i r k ≡ noLane
+  right-none-by i k h r g l = rw r (right-lane-past words numbers i k h (rw g at l))
 
   pub strip-by : (i : ℕ) {code : ℕ} → i < 4 → code ≡ getD words (1303 + i * 11) 0
       → cond (eqb code 0) Absent (cond (eqb code 2) Relative Absolute) ≡ kindOf (stripAt (roadOf words numbers) i)
   unfolding stripIn
   strip-by i {code} h e = rw (strip-in words numbers i h, ← e) (go (eqb code 0))
     where
-      go : (b : Bool) → cond b Absent (cond (eqb code 2) Relative Absolute) ≡ kindOf (cond b absent (present (record { relative = eqb code 2; width = columnIn words numbers i 0; terms = table (λ j. columnIn words numbers i (j + 1)) 4 })))
+      go : (b : Bool) → cond b Absent (cond (eqb code 2) Relative Absolute) ≡ kindOf (cond b absent (there words numbers i code))
       go true = refl
       go false = refl
 
-  -- the column of a strip that is there, one that is not, and past the last
+  -- a column of a strip that is there, of one that is not, past the last column, past the last strip
   pub column-in : (i column : ℕ) → i < 4 → column < 5 → eqb (getD words (1303 + i * 11) 0) 0 ≡ false → columnOf (stripAt (roadOf words numbers) i) column ≡ columnIn words numbers i column
   unfolding stripIn
   column-in i zero h l e = rw (strip-in words numbers i h, e)
@@ -194,6 +223,15 @@ module _ (words : List ℕ) (numbers : List Float) where
   pub column-absent : (i column : ℕ) → i < 4 → eqb (getD words (1303 + i * 11) 0) 0 ≡ true → columnOf (stripAt (roadOf words numbers) i) column ≡ []
   unfolding stripIn
   column-absent i column h e = rw (strip-in words numbers i h, e)
+
+  pub column-over : (i column : ℕ) → i < 4 → 5 ≤ column → columnOf (stripAt (roadOf words numbers) i) column ≡ []
+  unfolding stripIn
+  column-over i zero h l = absurd (omega arith)
+  column-over i (suc j) h l = rw (strip-in words numbers i h) (go (getD words (1303 + i * 11) 0) (eqb (getD words (1303 + i * 11) 0) 0))
+    where
+      go : (code : ℕ) (b : Bool) → columnOf (cond b absent (there words numbers i code)) (suc j) ≡ []
+      go code true = refl
+      go code false = table-past (λ j. columnIn words numbers i (j + 1)) 4 j [] (omega arith)
 
   pub column-past : (i column : ℕ) → 4 ≤ i → columnOf (stripAt (roadOf words numbers) i) column ≡ []
   column-past i column h = rw (strip-past words numbers i h)

@@ -1,46 +1,46 @@
+-- `lane_is_level`: what the word of the lane's line says, or no.
+use Prim.Native.Nat.{ℕ}
+use native.Mathlib.Omega.{arith}
+use mathlib.Core.Path.{_∙_, ap, sym}
+use lib.Dec.{eqb}
+use Rattle.records.specs.Roads.{Lane, laneBy, laneIn}
 use borrow.Author.Needs.{needs}
 use Rattle.records.proofs.road.lane_is_level.Statement.{statement}
 use Rattle.records.proofs.road.lane_is_level.Tie as tie
-use Rattle.records.proofs.road.lane_is_level.Reads as reads
-use Rattle.records.proofs.road.lane_is_level.Lts as lts
-use Rattle.records.proofs.access.word.Reads as word-reads
-use Rattle.records.proofs.road.lane_line.Reads as lane-line-reads
 
--- src/road.rt:219:11
 lane-line-requires : tie.Need-lane-line-requires
 lane-line-requires c κs = search needs
 
--- src/road.rt:220:19
 enum-known-j : tie.Need-enum-known-j
 enum-known-j c = search needs
 
--- src/road.rt:220:43
 mul-word : tie.Need-mul-word
-mul-word c = search needs
+mul-word c = omega (arith, c .before .before .before .lane-line .ensures .1 _ (c .before .j .given .1))
 
--- src/road.rt:220:37
 add-word : tie.Need-add-word
-add-word c = search needs
+add-word c = omega (arith, c .before .before .before .lane-line .ensures .1 _ (c .before .j .given .1))
 
--- src/road.rt:220:37
 add-word-2 : tie.Need-add-word-2
-add-word-2 c = search needs
+add-word-2 c = omega (arith, c .before .before .before .lane-line .ensures .1 _ (c .before .j .given .1))
 
--- src/road.rt:220:25
 word-requires : tie.Need-word-requires
 word-requires c κs = search needs
 
--- src/road.rt:221:27
 enum-told : tie.Need-enum-told
 enum-told c = search needs
 
--- src/road.rt:216:1
 returns : tie.Need-returns
-returns c = search needs
+unfolding laneIn
+returns c = 
+    let a = c .before .before .before .before .before .before .before .args in
+    let e = c .before .before .before .before .lane-line .ensures .0 (a .numbers .now) ∙ ap (laneBy (a .words .now) (a .numbers .now)) (c .before .before .j .given .1) in
+    ap (λ (n : ℕ). eqb n 1) (c .word .ensures .0) ∙ sym (ap (λ (l : Lane). l .level) e)
 
--- src/road.rt:216:1
 returns-2 : tie.Need-returns-2
-returns-2 c = search needs
+returns-2 c = 
+    let a = c .before .before .before .before .before .args in
+    let e = c .before .before .lane-line .ensures .0 (a .numbers .now) ∙ ap (laneBy (a .words .now) (a .numbers .now)) (c .enum-told .given .1) in
+    sym (ap (λ (l : Lane). l .level) e)
 
 pub lane-is-level-spec : {M : Type 1} → statement M
 lane-is-level-spec =

@@ -1,11 +1,9 @@
+-- `section_at`: the scan reads the starts where they stand.
+use mathlib.Core.Path.{_∙_}
+use Rattle.records.proofs.RoadLaws.{section-index}
 use borrow.Author.Needs.{needs}
 use Rattle.records.proofs.road.section_at.Statement.{statement}
 use Rattle.records.proofs.road.section_at.Tie as tie
-use Rattle.records.proofs.road.section_at.Reads as reads
-use Rattle.records.proofs.road.section_at.Lts as lts
-use Rattle.records.proofs.access.word.Reads as word-reads
-use Rattle.records.proofs.road.less_one.Reads as less-one-reads
-use Rattle.records.proofs.scan.reach.Reads as reach-reads
 
 word-requires : tie.Need-word-requires
 word-requires c κs = search needs
@@ -17,7 +15,9 @@ less-one-requires : tie.Need-less-one-requires
 less-one-requires c κs = search needs
 
 returns : tie.Need-returns
-returns c = search needs
+returns c = 
+    let a = c .before .before .before .before .before .args in
+    c .less-one .ensures ∙ section-index (a .words .now) (a .numbers .now) (a .s) (c .before .reach .result) (c .before .before .word .ensures .0) (c .before .reach .ensures)
 
 pub section-at-spec : {M : Type 1} → statement M
 section-at-spec = tie.close (tie.spec word-requires reach-requires less-one-requires returns)

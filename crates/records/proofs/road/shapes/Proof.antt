@@ -3,8 +3,8 @@ use Prim.Native.Nat.{_<_, _≤_}
 use native.Mathlib.Omega.{arith}
 use mathlib.Core.Path.{_∙_, ap, sym}
 use lib.ListN.{getD}
-use Rattle.records.proofs.CubicLaws.{cubics-none}
 use Rattle.records.specs.Roads.{Profile, profileIn}
+use Rattle.records.proofs.CubicLaws.{cubics-none}
 use Rattle.records.proofs.RoadLaws.{cubics-by, profile-in, profile-past}
 use borrow.Author.Needs.{needs}
 use Rattle.records.proofs.road.shapes.Statement.{statement}
@@ -46,7 +46,7 @@ part-requires-2 c κs = search needs
 returns : tie.Need-returns
 unfolding profileIn
 returns c = 
-    let a = c .before .before .before .before .before .before .before .before .args in
+    let a = c .before .before .before .before .before .before .before .args in
     let h : a .i < getD (a .words .now) 6 0 = omega arith in
     cubics-by (a .words .now) (a .numbers .now) 5857 _ _ (c .before .before .word2 .ensures .0) (c .before .word3 .ensures .0) (c .part .ensures)
     ∙ sym (ap (λ (x : Profile). x .shapes) (profile-in (a .words .now) (a .numbers .now) (a .i) h))

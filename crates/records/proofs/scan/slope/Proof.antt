@@ -1,11 +1,11 @@
+-- `slope`: by whether a cubic is active.
+use mathlib.Core.Path.{_∙_, ap, sym}
+use Rattle.records.specs.declared.cubics.Cubic.{Cubic}
+use Rattle.records.specs.Cubics.{slopeAt}
+use Rattle.records.proofs.CubicLaws.{slope-at, slope-none}
 use borrow.Author.Needs.{needs}
 use Rattle.records.proofs.scan.slope.Statement.{statement}
 use Rattle.records.proofs.scan.slope.Tie as tie
-use Rattle.records.proofs.scan.slope.Reads as reads
-use Rattle.records.proofs.scan.slope.Lts as lts
-use Rattle.records.proofs.cubics.Cubic.slope.Reads as slope-reads
-use Rattle.records.proofs.cubics.cubic_at.Reads as cubic-at-reads
-use Rattle.records.proofs.scan.active.Reads as active-reads
 
 active-requires : tie.Need-active-requires
 active-requires c κs = search needs
@@ -23,10 +23,13 @@ enum-told : tie.Need-enum-told
 enum-told c = search needs
 
 returns : tie.Need-returns
-returns c = search needs
+returns c = 
+    let a = c .before .before .before .before .before .before .before .args in
+    let e = sym (c .before .before .before .before .before .active .ensures) ∙ c .before .before .before .i .given .1 in
+    c .slope .ensures ∙ ap (λ (x : Cubic). slopeAt x (a .s)) (c .before .cubic-at .ensures) ∙ sym (slope-at _ _ _ e)
 
 returns-2 : tie.Need-returns-2
-returns-2 c = search needs
+returns-2 c = sym (slope-none _ _ (sym (c .before .before .active .ensures) ∙ c .enum-told .given .1))
 
 pub slope-spec : {M : Type 1} → statement M
 slope-spec =

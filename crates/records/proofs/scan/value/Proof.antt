@@ -1,11 +1,11 @@
+-- `value`: by whether a cubic is active.
+use mathlib.Core.Path.{_∙_, ap, sym}
+use Rattle.records.specs.declared.cubics.Cubic.{Cubic}
+use Rattle.records.specs.Cubics.{evalAt}
+use Rattle.records.proofs.CubicLaws.{value-at, value-none}
 use borrow.Author.Needs.{needs}
 use Rattle.records.proofs.scan.value.Statement.{statement}
 use Rattle.records.proofs.scan.value.Tie as tie
-use Rattle.records.proofs.scan.value.Reads as reads
-use Rattle.records.proofs.scan.value.Lts as lts
-use Rattle.records.proofs.cubics.Cubic.eval.Reads as eval-reads
-use Rattle.records.proofs.cubics.cubic_at.Reads as cubic-at-reads
-use Rattle.records.proofs.scan.active.Reads as active-reads
 
 active-requires : tie.Need-active-requires
 active-requires c κs = search needs
@@ -23,10 +23,13 @@ enum-told : tie.Need-enum-told
 enum-told c = search needs
 
 returns : tie.Need-returns
-returns c = search needs
+returns c = 
+    let a = c .before .before .before .before .before .before .before .args in
+    let e = sym (c .before .before .before .before .before .active .ensures) ∙ c .before .before .before .i .given .1 in
+    c .eval .ensures ∙ ap (λ (x : Cubic). evalAt x (a .s)) (c .before .cubic-at .ensures) ∙ sym (value-at _ _ _ e)
 
 returns-2 : tie.Need-returns-2
-returns-2 c = search needs
+returns-2 c = sym (value-none _ _ (sym (c .before .before .active .ensures) ∙ c .enum-told .given .1))
 
 pub value-spec : {M : Type 1} → statement M
 value-spec =
