@@ -1,0 +1,48 @@
+// The records layer: a road in two lent slices, its records by value, and the record that is active at a station.
+// Every accessor is total: past the end of a slice a number is NaN, a word 0 and a part shorter, so no caller needs a bound.
+mod access;
+mod cubics;
+mod points;
+mod road;
+mod scan;
+
+pub use access::number;
+pub use access::part;
+pub use access::word;
+pub use cubics::Cubic;
+pub use cubics::cubic_at;
+pub use points::GeomRec;
+pub use points::GeomShape;
+pub use points::HeightDef;
+pub use points::Point;
+pub use points::RefPoint;
+pub use points::StripKind;
+pub use road::elevations;
+pub use road::extents;
+pub use road::geom;
+pub use road::geom_at;
+pub use road::geom_count;
+pub use road::height_def;
+pub use road::heights;
+pub use road::lane_is_border;
+pub use road::lane_is_level;
+pub use road::left_count;
+pub use road::offsets;
+pub use road::profile_count;
+pub use road::profile_start;
+pub use road::right_count;
+pub use road::road_length;
+pub use road::section_at;
+pub use road::section_count;
+pub use road::section_start;
+pub use road::shapes;
+pub use road::strip;
+pub use road::strip_column;
+pub use road::superelevations;
+pub use road::tshifts;
+pub use road::unused_zero;
+pub use scan::Found;
+pub use scan::active;
+pub use scan::active_in;
+pub use scan::slope;
+pub use scan::value;
