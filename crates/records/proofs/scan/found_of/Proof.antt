@@ -1,4 +1,4 @@
--- `found_of`: by whether the number is 0.
+-- `scan::found_of`: 0 is no place (`found-none`), and another number is the place before it (`found-some`).
 use Rattle.records.proofs.ScanLaws.{found-none, found-some}
 use borrow.Author.Needs.{needs}
 use Rattle.records.proofs.scan.found_of.Statement.{statement}
