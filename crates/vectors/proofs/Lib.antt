@@ -1,0 +1,4 @@
+pub mod HexDigits
+pub mod Nans
+pub mod Signs
+pub mod Verdicts

@@ -1,0 +1,57 @@
+// Numbers as bit patterns, NaNs included, which `from_bits` and `to_bits` leave out.
+ghost use mathlib.Core.Path.{_≡_};
+ghost use lib.Ieee.{binary32, binary64, ofBits, toBits};
+ghost use Rattle.vectors.specs.Raise.{raisedOf};
+ghost use Rattle.arithmetic.specs.Count.{answerOf};
+ghost use Rattle.vectors.specs.Vector.{countWord};
+
+// The f64 of a pattern, any NaN's too.
+pub(crate) fn of_bits(n: u64) -> f64
+    ensures { λ r. ⌜ r ≡ ofBits binary64 n ⌝ }
+{
+    if 0x7ff0_0000_0000_0000 < n % 0x8000_0000_0000_0000 {
+        0.0 / 0.0
+    } else {
+        f64::from_bits(n)
+    }
+}
+
+// The pattern of an f64, 7ff8000000000000 for a NaN.
+pub(crate) fn bits_of(x: f64) -> u64
+    ensures { λ r. ⌜ r ≡ toBits binary64 x ⌝ }
+{
+    if x != x {
+        return 0x7ff8_0000_0000_0000;
+    }
+    f64::to_bits(x)
+}
+
+// The pattern of an f32, 7fc00000 for a NaN.
+pub(crate) fn bits_of_single(x: f32) -> u64
+    ensures { λ r. ⌜ r ≡ toBits binary32 x ⌝ }
+{
+    if x != x {
+        return 0x7fc0_0000;
+    }
+    f32::to_bits(x) as u64
+}
+
+// n + 2^63.
+fn raised(n: i64) -> u64
+    ensures { λ r. ⌜ r ≡ raisedOf n ⌝ }
+{
+    if n < 0 {
+        return 0x7fff_ffff_ffff_ffff - (-1 - n) as u64;
+    }
+    n as u64 + 0x8000_0000_0000_0000
+}
+
+// A whole number n as n + 2^63, a refusal as its number.
+pub(crate) fn bits_of_counts(c: arithmetic::Counted) -> u64
+    ensures { λ r. ⌜ r ≡ countWord (answerOf c) ⌝ }
+{
+    match c {
+        arithmetic::Counted::Count(n) => raised(n),
+        arithmetic::Counted::Refused(why) => arithmetic::number(why) as u64,
+    }
+}
