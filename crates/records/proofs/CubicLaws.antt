@@ -60,6 +60,12 @@ module _ (xs : List Float) where
   unfolding heightsOf
   height-past i h = table-past _ _ i noHeight h
 
+  -- the last height reached by the starts where they stand
+  pub height-by : (s : Float) → lastStart (λ (i : ℕ). getD xs (0 + i * 3) nan) (reached s) (length xs / 3)
+      ≡ lastStart (λ (i : ℕ). heightDefAt (heightsOf xs) i .«s_offset») (reached s) (length (heightsOf xs))
+  height-by s =
+      rw height-count (lastStart-same _ _ (reached s) _ (λ i h. ap (λ (k : ℕ). getD xs k nan) (none-more (i * 3)) ∙ sym (ap (λ (x : HeightDef). x .«s_offset») (height-in i h))))
+
 -- ---- by the active cubic
 
 module _ (cs : List Cubic) (s : Float) where

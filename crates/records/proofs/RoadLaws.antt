@@ -29,8 +29,8 @@ plus a b x = omega arith
 more : (a : ℕ) → a ≡ a + 0
 more a = omega arith
 
-once : (i : ℕ) → 1729 + i * 1 ≡ 1729 + i
-once i = omega arith
+once : (base i : ℕ) → base + i * 1 ≡ base + i
+once base i = omega arith
 
 and-true : (a : Bool) → a && true ≡ a
 and-true true = refl
@@ -252,7 +252,7 @@ module _ (words : List ℕ) (numbers : List Float) where
 
   section-start : (i : ℕ) → i < getD words 5 0 → getD numbers (1729 + i * 1) nan ≡ sectionOf (roadOf words numbers) i .start
   unfolding sectionIn
-  section-start i h = ap (λ (k : ℕ). getD numbers k nan) (once i) ∙ ap (λ (x : Section). x .start) (sym (section-in words numbers i h))
+  section-start i h = ap (λ (k : ℕ). getD numbers k nan) (once 1729 i) ∙ ap (λ (x : Section). x .start) (sym (section-in words numbers i h))
 
   pub section-index :
       (s : Float) (r : ℕ) {n : ℕ} → n ≡ getD words 5 0 → foundOf r ≡ lastStart (λ (i : ℕ). getD numbers (1729 + i * 1) nan) (reached s) n
@@ -260,3 +260,14 @@ module _ (words : List ℕ) (numbers : List Float) where
   unfolding sectionIndex
   section-index s r e f =
       rw (section-count words numbers, f, e) (ap orFirst (lastStart-same _ _ (reached s) _ section-start))
+
+  -- ---- the profile at s
+  profile-start : (i : ℕ) → i < getD words 6 0 → getD numbers (5841 + i * 1) nan ≡ profileAt (roadOf words numbers) i .s
+  unfolding profileIn
+  profile-start i h = ap (λ (k : ℕ). getD numbers k nan) (once 5841 i) ∙ ap (λ (x : Profile). x .s) (sym (profile-in words numbers i h))
+
+  pub profile-by :
+      (s : Float) {n : ℕ} → n ≡ getD words 6 0
+      → lastStart (λ (i : ℕ). getD numbers (5841 + i * 1) nan) (reached s) n
+      ≡ lastStart (λ (i : ℕ). profileAt (roadOf words numbers) i .s) (reached s) (length (roadOf words numbers .profiles))
+  profile-by s e = rw (profile-count words numbers, e) (lastStart-same _ _ (reached s) _ profile-start)

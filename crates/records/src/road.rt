@@ -8,6 +8,7 @@ use crate::points::GeomShape;
 use crate::points::HeightDef;
 use crate::points::StripKind;
 use crate::scan::Found;
+use crate::scan::found_of;
 use crate::scan::reach;
 ghost use mathlib.Core.Path.{_≡_};
 ghost use Prim.Native.Nat.{ℕ, _+_, _*_, _<_};
@@ -19,7 +20,7 @@ ghost use lib.Ieee.{Float};
 ghost use Rattle.records.specs.declared.scan.Found.the-variants.{At};
 ghost use Rattle.records.specs.declared.points.StripKind.the-variants.{Absent, Absolute, Relative};
 ghost use Rattle.records.specs.Cubics.{cubicsOf};
-ghost use Rattle.records.specs.Active.{foundOf, orFirst};
+ghost use Rattle.records.specs.Active.{foundOf, lastStart, orFirst, reached};
 ghost use Rattle.records.specs.Roads.{roadOf, laneBy, geomAt, shapeOf, geomFrom, heightDefAt, heightsOf, sectionOf, laneOf, profileAt, stripAt, kindOf, columnOf, unusedZero, geomIndex, sectionIndex};
 
 // ---- the road and its flat tables
@@ -298,6 +299,13 @@ pub fn profile_start(words: &[u16], numbers: &[f64], i: usize) -> f64
     } else {
         0.0 / 0.0
     }
+}
+
+// The last profile that stands at or before s + 1e-9.
+pub fn profile_at(words: &[u16], numbers: &[f64], s: f64) -> Found
+    ensures { λ r. ⌜ r ≡ lastStart (λ (i : ℕ). profileAt (roadOf (now (words .entry)) (now (numbers .entry))) i .s) (reached s) (length (roadOf (now (words .entry)) (now (numbers .entry)) .profiles)) ⌝ }
+{
+    found_of(reach(numbers, 5841, 1, word(words, 6), s + 1e-9))
 }
 
 pub fn shapes<'a>(words: &[u16], numbers: &'a [f64], i: usize) -> &'a [f64]

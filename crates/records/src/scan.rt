@@ -7,6 +7,7 @@ ghost use Prim.Native.Nat.{ℕ, _+_, _*_, _<_};
 ghost use lib.ListN.{getD, length};
 ghost use lib.Ieee.{nan};
 ghost use Rattle.records.specs.Cubics.{cubicsOf, cubicAt};
+ghost use Rattle.records.specs.Roads.{heightsOf, heightDefAt};
 ghost use Rattle.records.specs.Active.{lastStart, foundOf, activeIn, valueIn, slopeIn, reached};
 
 pub enum Found {
@@ -14,7 +15,7 @@ pub enum Found {
     Nothing,
 }
 
-fn found_of(reach: usize) -> Found
+pub(crate) fn found_of(reach: usize) -> Found
     ensures { λ r. ⌜ r ≡ foundOf reach ⌝ }
 {
     if reach == 0 {
@@ -45,6 +46,13 @@ pub fn active(part: &[f64], s: f64) -> Found
     ensures { λ r. ⌜ r ≡ activeIn (cubicsOf (now (part .entry))) s ⌝ }
 {
     found_of(reach(part, 0, 5, part.len() / 5, s + 1e-9))
+}
+
+// The last height of a part of the lent numbers, three a height, that starts at or before s + 1e-9.
+pub fn active_height(part: &[f64], s: f64) -> Found
+    ensures { λ r. ⌜ r ≡ lastStart (λ (i : ℕ). heightDefAt (heightsOf (now (part .entry))) i .«s_offset») (reached s) (length (heightsOf (now (part .entry)))) ⌝ }
+{
+    found_of(reach(part, 0, 3, part.len() / 3, s + 1e-9))
 }
 
 // The value at s of the active cubic, 0 where none is.
