@@ -1,9 +1,9 @@
 // Profiles and cross section together.
-use records::profile_count;
-use records::tshifts;
 use crate::profiles::shape_at;
 use crate::strips::cross_height;
 use crate::strips::is_present;
+use lane_records::profile_count;
+use records::tshifts;
 ghost use mathlib.Core.Path.{_≡_};
 ghost use Rattle.records.specs.Roads.{roadOf};
 ghost use Rattle.lateral.specs.Lateral.{heightToward, hasCrossSection, flatAcross};

@@ -1,8 +1,8 @@
 // A lane's own heights: linear from one to the next, the first before all, the last after all.
+use lane_records::height_def;
 use records::Found;
 use records::HeightDef;
 use records::active_height;
-use records::height_def;
 ghost use mathlib.Core.Path.{_≡_};
 ghost use Rattle.records.specs.Roads.{heightsOf};
 ghost use Rattle.lateral.specs.Lateral.{heightOf, heightBetween, heightHeld};

@@ -1,11 +1,11 @@
 // The lateral profiles: each a shape across the road at its own s, and linear from one to the next.
+use lane_records::profile_count;
+use lane_records::profile_start;
+use lane_records::shapes;
 use records::Found;
 use records::active;
 use records::cubic_at;
 use records::profile_at;
-use records::profile_count;
-use records::profile_start;
-use records::shapes;
 ghost use mathlib.Core.Path.{_≡_};
 ghost use Prim.Native.Nat.{_<_};
 ghost use Rattle.records.specs.Roads.{roadOf};

@@ -1,11 +1,11 @@
 // The cross section: up to two strips each side of the reference line, each a cubic across whose four terms are cubics along the road.
 // Strips are addressed by their place: left inner 0, left outer 1, right inner 2, right outer 3.
+use lane_records::strip;
+use lane_records::strip_column;
 use records::Found;
 use records::StripKind;
 use records::active;
 use records::cubic_at;
-use records::strip;
-use records::strip_column;
 use records::tshifts;
 use records::value;
 ghost use mathlib.Core.Path.{_≡_};

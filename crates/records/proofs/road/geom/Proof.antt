@@ -39,13 +39,13 @@ geom-from-requires-2 : tie.Need-geom-from-requires-2
 geom-from-requires-2 c κs = search needs
 
 returns : tie.Need-returns
-returns c = 
+returns c =
     let a = c .before .before .before .before .before .before .before .args in
     let h : a .i < getD (a .words .now) 0 0 = omega arith in
     c .geom-from .ensures ∙ geom-by (a .words .now) (a .numbers .now) (a .i) h (c .before .before .part .ensures) (c .before .word2 .ensures .0)
 
 returns-2 : tie.Need-returns-2
-returns-2 c = 
+returns-2 c =
     let a = c .before .before .before .before .before .before .args in
     let h : getD (a .words .now) 0 0 ≤ a .i = omega arith in
     c .geom-from2 .ensures ∙ ap (λ (xs : List Float). geomFrom xs 0) (c .before .part2 .ensures) ∙ sym (geom-past (a .words .now) (a .numbers .now) (a .i) h)

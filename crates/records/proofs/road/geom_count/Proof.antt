@@ -9,7 +9,7 @@ word-requires : tie.Need-word-requires
 word-requires c κs = search needs
 
 returns : tie.Need-returns
-returns c = 
+returns c =
     let a = c .before .before .before .args in
     c .word .ensures .0 ∙ sym (geom-count (a .words .now) (a .numbers .now))
 

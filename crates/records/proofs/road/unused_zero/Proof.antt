@@ -40,13 +40,13 @@ unused-of-requires : tie.Need-unused-of-requires
 unused-of-requires c κs = search needs
 
 returns : tie.Need-returns
-returns c = 
+returns c =
     let a = c .before .before .before .before .before .before .before .before .args in
     let h : a .i < getD (a .words .now) 0 0 = omega arith in
     c .unused-of .ensures ∙ unused-by (a .words .now) (a .numbers .now) (a .i) h (c .before .before .before .word2 .ensures .0) (c .before .before .number .ensures) (c .before .number2 .ensures)
 
 returns-2 : tie.Need-returns-2
-returns-2 c = 
+returns-2 c =
     let a = c .before .before .before .before .args in
     let h : getD (a .words .now) 0 0 ≤ a .i = omega arith in
     sym (ap allZero (unused-past (a .words .now) (a .numbers .now) (a .i) h))

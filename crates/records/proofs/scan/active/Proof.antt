@@ -12,7 +12,7 @@ found-of-requires : tie.Need-found-of-requires
 found-of-requires c κs = search needs
 
 returns : tie.Need-returns
-returns c = 
+returns c =
     let a = c .before .before .before .args in
     c .found-of .ensures ∙ c .before .reach .ensures ∙ active-by (a .part .now) (a .s)
 
