@@ -1,0 +1,4 @@
+pub mod TableLaws
+pub mod ScanLaws
+pub mod CubicLaws
+pub mod RoadLaws

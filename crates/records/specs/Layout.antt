@@ -1,0 +1,87 @@
+-- Where a lent road's tables stand: `numbers` has the f64 columns, `words` the counts, codes and ranges. Document 01 leaves the layout free; docs/MEMORY.md is the same table for whoever lends a road.
+-- A table has a first place, a stride (places a line) and a limit (lines). Limits are those of document 01, "The job text".
+use Prim.Native.Nat.{ℕ, _+_, _*_}
+
+-- ---- numbers: the road's length at 0, then the tables
+
+abbrev pub geomBase : ℕ
+geomBase = 1
+
+abbrev pub geomStride : ℕ
+geomStride = 7
+
+abbrev pub elevBase : ℕ
+elevBase = 449
+
+abbrev pub bankBase : ℕ
+bankBase = 769
+
+abbrev pub offsetBase : ℕ
+offsetBase = 1089
+
+abbrev pub tshiftBase : ℕ
+tshiftBase = 1409
+
+abbrev pub sectionBase : ℕ
+sectionBase = 1729
+
+abbrev pub extentBase : ℕ
+extentBase = 1745
+
+abbrev pub heightBase : ℕ
+heightBase = 4305
+
+abbrev pub profileBase : ℕ
+profileBase = 5841
+
+abbrev pub shapeBase : ℕ
+shapeBase = 5857
+
+abbrev pub cubicBase : ℕ
+cubicBase = 7137
+
+abbrev pub numbersNeeded : ℕ
+numbersNeeded = 7937
+
+-- a cubic is five numbers, a height three
+abbrev pub cubicStride : ℕ
+cubicStride = 5
+
+abbrev pub heightStride : ℕ
+heightStride = 3
+
+-- ---- words: the counts of geom, elev, bank, offset, tshift, section and profile at 0 to 6, then the tables
+
+abbrev pub kindBase : ℕ
+kindBase = 7
+
+-- a section: first lane, left lanes, right lanes
+abbrev pub sectionWords : ℕ
+sectionWords = 71
+
+abbrev pub sectionStride : ℕ
+sectionStride = 3
+
+-- a lane: extent code, level code, first extent, extents, first height, heights
+abbrev pub laneWords : ℕ
+laneWords = 119
+
+abbrev pub laneStride : ℕ
+laneStride = 6
+
+-- a profile: first shape, shapes
+abbrev pub profileWords : ℕ
+profileWords = 1271
+
+abbrev pub profileStride : ℕ
+profileStride = 2
+
+-- a strip (left inner, left outer, right inner, right outer): presence code, then first and count of its width's cubics and of its four terms'
+abbrev pub stripWords : ℕ
+stripWords = 1303
+
+abbrev pub stripStride : ℕ
+stripStride = 11
+
+abbrev pub wordsNeeded : ℕ
+wordsNeeded = 1347

@@ -1,0 +1,241 @@
+-- A road as the Rust's `Road` has it, a record of nested lists, and the road that two lent lists stand for. Every definition above this crate speaks of `Road`, never of places.
+-- Decoding is total. A code that stands for no listed word, a count over its limit or a range past its table's end is refused by admission (row 3), so what they decode to does not matter.
+use Prim.Native.Nat.{ℕ, zero, suc, _+_, _*_, _/_}
+use mathlib.Core.Bool.{Bool, true, false, _&&_, cond}
+use mathlib.Core.List.{List, [], _∷_}
+use lib.ListN.{length, getD}
+use lib.Dec.{eqb}
+use lib.Ieee.{Float, nan, eq}
+use Rattle.float_laws.specs.Binary64.{zero64}
+use Rattle.records.specs.declared.cubics.Cubic.{Cubic}
+use Rattle.records.specs.declared.points.GeomRec.{GeomRec}
+use Rattle.records.specs.declared.points.GeomShape.{GeomShape}
+use Rattle.records.specs.declared.points.GeomShape.the-variants.{Line, Arc, Spiral}
+use Rattle.records.specs.declared.points.HeightDef.{HeightDef}
+use Rattle.records.specs.declared.points.StripKind.{StripKind}
+use Rattle.records.specs.declared.points.StripKind.the-variants.{Absent, Absolute, Relative}
+use Rattle.records.specs.declared.scan.Found.{Found}
+use Rattle.records.specs.declared.scan.Found.the-variants.{At, Nothing}
+use Rattle.records.specs.Lists.{table, span}
+use Rattle.records.specs.Cubics.{cubicsOf}
+use Rattle.records.specs.Active.{lastStart, orFirst, reached}
+use Rattle.records.specs.Layout.{geomBase, geomStride, elevBase, bankBase, offsetBase, tshiftBase, sectionBase, extentBase, heightBase, profileBase, shapeBase, cubicBase, cubicStride, heightStride, kindBase, sectionWords, sectionStride, laneWords, laneStride, profileWords, profileStride, stripWords, stripStride}
+
+-- ---- the road
+
+-- "lane: section id extent level": a border lane has borders in place of widths; ids are places, 1, 2, .. left and -1, -2, .. right
+pub record Lane : Type 0 where
+  pub border : Bool
+  pub level : Bool
+  pub extents : List Cubic
+  pub heights : List HeightDef
+
+pub record Section : Type 0 where
+  pub start : Float
+  pub left : List Lane
+  pub right : List Lane
+
+pub record Profile : Type 0 where
+  pub s : Float
+  pub shapes : List Cubic
+
+-- a strip that is there, with its width's cubics and those of its terms 0 to 3
+pub record StripDef : Type 0 where
+  pub relative : Bool
+  pub width : List Cubic
+  pub terms : List (List Cubic)
+
+pub data Strip : Type 0 where
+  absent : Strip
+  present : StripDef → Strip
+
+-- `unused`: for each geometry the columns k0, k1 that its kind does not use
+pub record Road : Type 0 where
+  pub length : Float
+  pub geoms : List GeomRec
+  pub unused : List (List Float)
+  pub elevations : List Cubic
+  pub superelevations : List Cubic
+  pub offsets : List Cubic
+  pub tshifts : List Cubic
+  pub sections : List Section
+  pub profiles : List Profile
+  pub strips : List Strip
+
+-- ---- decoding
+
+-- "kind line, arc or spiral", in this order from 0
+abbrev pub shapeOf : ℕ → Float → Float → GeomShape
+shapeOf kind k0 k1 = cond (eqb kind 1) (Arc k0) (cond (eqb kind 2) (Spiral k0 k1) Line)
+
+abbrev pub unusedOf : ℕ → Float → Float → List Float
+unusedOf kind k0 k1 = cond (eqb kind 1) (k1 ∷ []) (cond (eqb kind 2) [] (k0 ∷ k1 ∷ []))
+
+-- a geometry out of its kind and its seven numbers: s x y hdg length k0 k1
+abbrev pub geomFrom : List Float → ℕ → GeomRec
+geomFrom xs kind =
+    record {
+      s = getD xs 0 nan;
+      x = getD xs 1 nan;
+      y = getD xs 2 nan;
+      hdg = getD xs 3 nan;
+      length = getD xs 4 nan;
+      shape = shapeOf kind (getD xs 5 nan) (getD xs 6 nan);
+    }
+
+abbrev pub noGeom : GeomRec
+noGeom = geomFrom [] 0
+
+-- three numbers from a place on: start inner outer
+abbrev pub heightFrom : List Float → ℕ → HeightDef
+heightFrom xs k = record { «s_offset» = getD xs k nan; inner = getD xs (k + 1) nan; outer = getD xs (k + 2) nan }
+
+abbrev pub noHeight : HeightDef
+noHeight = record { «s_offset» = nan; inner = nan; outer = nan }
+
+unfoldable pub heightsOf : List Float → List HeightDef
+unfolding table
+heightsOf xs = table (λ i. heightFrom xs (i * 3)) (length xs / 3)
+
+-- the i-th height of a list, one of NaNs past its end
+abbrev pub heightDefAt : List HeightDef → ℕ → HeightDef
+heightDefAt hs i = getD hs i noHeight
+
+module _ (words : List ℕ) (numbers : List Float) where
+  -- a word, 0 past the end; a number, NaN past the end
+  abbrev pub wordAt : ℕ → ℕ
+  wordAt k = getD words k 0
+
+  abbrev pub numberAt : ℕ → Float
+  numberAt k = getD numbers k nan
+
+  -- count cubics of the table at a base, from the first on
+  abbrev pub cubicsIn : ℕ → ℕ → ℕ → List Cubic
+  cubicsIn base first count = cubicsOf (span numbers (base + first * cubicStride) (count * cubicStride))
+
+  unfoldable pub geomIn : ℕ → GeomRec
+  geomIn i = geomFrom (span numbers (geomBase + i * geomStride) geomStride) (wordAt (kindBase + i))
+
+  unfoldable pub unusedIn : ℕ → List Float
+  unusedIn i = unusedOf (wordAt (kindBase + i)) (numberAt (geomBase + i * geomStride + 5)) (numberAt (geomBase + i * geomStride + 6))
+
+  abbrev pub heightsIn : ℕ → ℕ → List HeightDef
+  heightsIn first count = heightsOf (span numbers (heightBase + first * heightStride) (count * heightStride))
+
+  -- the j-th lane of the lane table; codes: extent 0 width, 1 border; level 0 or 1
+  unfoldable pub laneIn : ℕ → Lane
+  unfolding cubicsOf heightsOf
+  laneIn j =
+      let k = laneWords + j * laneStride in
+      record {
+        border = eqb (wordAt k) 1;
+        level = eqb (wordAt (k + 1)) 1;
+        extents = cubicsIn extentBase (wordAt (k + 2)) (wordAt (k + 3));
+        heights = heightsIn (wordAt (k + 4)) (wordAt (k + 5));
+      }
+
+  -- a section's lanes: from its first, the left ones, then the right ones
+  unfoldable pub sectionIn : ℕ → Section
+  unfolding table laneIn
+  sectionIn i =
+      let k = sectionWords + i * sectionStride in
+      record {
+        start = numberAt (sectionBase + i);
+        left = table (λ j. laneIn (wordAt k + j)) (wordAt (k + 1));
+        right = table (λ j. laneIn (wordAt k + wordAt (k + 1) + j)) (wordAt (k + 2));
+      }
+
+  unfoldable pub profileIn : ℕ → Profile
+  unfolding cubicsOf
+  profileIn i =
+      let k = profileWords + i * profileStride in
+      record { s = numberAt (profileBase + i); shapes = cubicsIn shapeBase (wordAt k) (wordAt (k + 1)) }
+
+  -- the cubics of a strip's width (column 0) or of its term (column term + 1)
+  unfoldable pub columnIn : ℕ → ℕ → List Cubic
+  unfolding cubicsOf
+  columnIn i column = let k = stripWords + i * stripStride + 1 + column * 2 in cubicsIn cubicBase (wordAt k) (wordAt (k + 1))
+
+  -- presence code: 0 absent, 1 there, 2 there and relative
+  unfoldable pub stripIn : ℕ → Strip
+  unfolding table columnIn
+  stripIn i =
+      let k = wordAt (stripWords + i * stripStride) in
+      cond (eqb k 0) absent (present (record { relative = eqb k 2; width = columnIn i 0; terms = table (λ j. columnIn i (j + 1)) 4 }))
+
+  unfoldable pub roadOf : Road
+  unfolding table cubicsOf geomIn unusedIn sectionIn profileIn stripIn
+  roadOf =
+      record {
+        length = numberAt 0;
+        geoms = table geomIn (wordAt 0);
+        unused = table unusedIn (wordAt 0);
+        elevations = cubicsIn elevBase 0 (wordAt 1);
+        superelevations = cubicsIn bankBase 0 (wordAt 2);
+        offsets = cubicsIn offsetBase 0 (wordAt 3);
+        tshifts = cubicsIn tshiftBase 0 (wordAt 4);
+        sections = table sectionIn (wordAt 5);
+        profiles = table profileIn (wordAt 6);
+        strips = table stripIn 4;
+      }
+
+-- ---- the parts of a road by place; past the end NaNs, no lanes, no cubics
+
+abbrev pub geomAt : Road → ℕ → GeomRec
+geomAt road i = getD (road .geoms) i noGeom
+
+abbrev pub allZero : List Float → Bool
+allZero [] = true
+allZero (x ∷ xs) = eq x zero64 && allZero xs
+
+abbrev pub unusedZero : Road → ℕ → Bool
+unusedZero road i = allZero (getD (road .unused) i [])
+
+abbrev pub noSection : Section
+noSection = record { start = nan; left = []; right = [] }
+
+abbrev pub sectionOf : Road → ℕ → Section
+sectionOf road i = getD (road .sections) i noSection
+
+abbrev pub noLane : Lane
+noLane = record { border = false; level = false; extents = []; heights = [] }
+
+-- the lane that a line of the lane table holds, none for no line
+abbrev pub laneBy : List ℕ → List Float → Found → Lane
+laneBy words numbers (At j) = laneIn words numbers j
+laneBy words numbers Nothing = noLane
+
+-- the k-th lane of a section, from the center outward, on the right or on the left
+abbrev pub laneOf : Road → ℕ → Bool → ℕ → Lane
+laneOf road i right k = getD (cond right (sectionOf road i .right) (sectionOf road i .left)) k noLane
+
+abbrev pub noProfile : Profile
+noProfile = record { s = nan; shapes = [] }
+
+abbrev pub profileAt : Road → ℕ → Profile
+profileAt road i = getD (road .profiles) i noProfile
+
+abbrev pub stripAt : Road → ℕ → Strip
+stripAt road i = getD (road .strips) i absent
+
+abbrev pub kindOf : Strip → StripKind
+kindOf absent = Absent
+kindOf (present d) = cond (d .relative) Relative Absolute
+
+abbrev pub columnBy : StripDef → ℕ → List Cubic
+columnBy d zero = d .width
+columnBy d (suc j) = getD (d .terms) j []
+
+abbrev pub columnOf : Strip → ℕ → List Cubic
+columnOf absent c = []
+columnOf (present d) c = columnBy d c
+
+-- ---- the geometry and the section at s
+
+unfoldable pub geomIndex : Road → Float → ℕ
+unfolding lastStart
+geomIndex road s = orFirst (lastStart (λ i. geomAt road i .s) (reached s) (length (road .geoms)))
+
+unfoldable pub sectionIndex : Road → Float → ℕ
+unfolding lastStart
+sectionIndex road s = orFirst (lastStart (λ i. sectionOf road i .start) (reached s) (length (road .sections)))
