@@ -1,0 +1,214 @@
+// A library with the C functions of include/riftkettle.h that answers by the published Rust and the second admission. It proves
+// that the comparison works before the library exists, and that it finds a difference: RIFTKETTLE_FAULT names one to put in.
+use comparison::admission::{admit, samples_of};
+use comparison::arguments::exact_counts;
+use comparison::model::*;
+use comparison::oracle::Oracle;
+use comparison::stand_ins;
+use std::slice::{from_raw_parts, from_raw_parts_mut};
+use std::sync::OnceLock;
+
+fn fault(name: &str) -> bool {
+    static FAULT: OnceLock<String> = OnceLock::new();
+    FAULT.get_or_init(|| std::env::var("RIFTKETTLE_FAULT").unwrap_or_default()) == name
+}
+
+/// One step too far, for one argument in a thousand.
+fn off(name: &str, x: f64, y: f64) -> f64 {
+    if fault(name) && x.to_bits() % 1009 == 0 && y.is_finite() { y.next_up() } else { y }
+}
+
+#[unsafe(no_mangle)]
+pub extern "C" fn riftkettle_root(x: f64) -> f64 {
+    off("root", x, stand_ins::root(x))
+}
+
+#[unsafe(no_mangle)]
+pub extern "C" fn riftkettle_hypot(a: f64, b: f64) -> f64 {
+    if fault("hypot") { a.hypot(b) } else { stand_ins::hypot(a, b) }
+}
+
+#[unsafe(no_mangle)]
+pub extern "C" fn riftkettle_sin(h: f64) -> f64 {
+    if fault("sine range") && h == 12_000.0 { f64::NAN } else { off("sine", h, stand_ins::sin(h)) }
+}
+
+#[unsafe(no_mangle)]
+pub extern "C" fn riftkettle_cos(h: f64) -> f64 {
+    stand_ins::cos(h)
+}
+
+#[unsafe(no_mangle)]
+pub extern "C" fn riftkettle_tan(h: f64) -> f64 {
+    if fault("tan") { h.tan() } else { stand_ins::tan(h) }
+}
+
+#[unsafe(no_mangle)]
+pub extern "C" fn riftkettle_narrow(x: f64) -> f32 {
+    let y = x as f32;
+    let halfway = y.is_finite() && f64::from(y) < x && x - f64::from(y) == f64::from(y.next_up()) - x;
+    if fault("narrow") && halfway { y.next_up() } else { y }
+}
+
+#[unsafe(no_mangle)]
+pub unsafe extern "C" fn riftkettle_counts(v: f64, count: *mut i64) -> u32 {
+    match exact_counts(v) {
+        Ok(n) => unsafe { *count = if fault("counts") { (v * 10_000.0 + 0.5).floor() as i64 } else { n } },
+        Err(number) => return number,
+    }
+    0
+}
+
+/// The road of an admitted memory.
+fn read(words: &[u16], numbers: &[f64]) -> Road {
+    let word = |at: usize| usize::from(words[at]);
+    let cubics = |t: Table, first: usize, count: usize| -> Vec<Cubic> {
+        let lines = (first..first + count).map(|i| &numbers[t.line(i)..][..5]);
+        lines.map(|c| Cubic { start: c[0], a: c[1], b: c[2], c: c[3], d: c[4] }).collect()
+    };
+    let geom = |i: usize| {
+        let g = &numbers[GEOM.line(i)..][..7];
+        let shape = match word(KIND_WORDS.line(i)) {
+            0 => Shape::Line,
+            1 => Shape::Arc(g[5]),
+            _ => Shape::Spiral(g[5], g[6]),
+        };
+        Geom { s: g[0], x: g[1], y: g[2], hdg: g[3], length: g[4], shape }
+    };
+    let lane = |i: usize| {
+        let at = LANE_WORDS.line(i);
+        let heights = (word(at + 4)..word(at + 4) + word(at + 5)).map(|i| &numbers[HEIGHT.line(i)..][..3]);
+        Lane {
+            border: word(at) == 1,
+            level: word(at + 1) == 1,
+            extents: cubics(EXTENT, word(at + 2), word(at + 3)),
+            heights: heights.map(|h| Height { start: h[0], inner: h[1], outer: h[2] }).collect(),
+        }
+    };
+    let section = |i: usize| {
+        let [first, left, right] = [0, 1, 2].map(|k| word(SECTION_WORDS.line(i) + k));
+        let (middle, end) = (first + left, first + left + right);
+        Section {
+            start: numbers[SECTION.at + i],
+            left: (first..middle).map(lane).collect(),
+            right: (middle..end).map(lane).collect(),
+        }
+    };
+    let strip = |i: usize| {
+        let at = STRIP_WORDS.line(i);
+        let lists = [0, 1, 2, 3, 4].map(|k| at + 1 + 2 * k);
+        (word(at) != 0).then(|| Strip { relative: word(at) == 2, lists: lists.map(|at| cubics(CUBIC, word(at), word(at + 1))) })
+    };
+    let profile = |i: usize| {
+        let at = PROFILE_WORDS.line(i);
+        Profile { s: numbers[PROFILE.at + i], shapes: cubics(SHAPE, word(at), word(at + 1)) }
+    };
+    Road {
+        length: numbers[0],
+        geoms: (0..word(0)).map(geom).collect(),
+        elev: cubics(ELEV, 0, word(1)),
+        bank: cubics(BANK, 0, word(2)),
+        offset: cubics(OFFSET, 0, word(3)),
+        tshift: cubics(TSHIFT, 0, word(4)),
+        sections: (0..word(5)).map(section).collect(),
+        profiles: (0..word(6)).map(profile).collect(),
+        strips: [0, 1, 2, 3].map(strip),
+    }
+}
+
+/// 01's rule for the samples of one spiral.
+fn pose_of_samples(samples: &[f64], distance: f64) -> [f64; 3] {
+    let (n, last) = (samples.len() / 4, samples[samples.len() - 4]);
+    let ds = if distance < 0.0 { 0.0 } else { distance };
+    let ds = if ds > last { last } else { ds };
+    let rule = |p: &&[f64]| p[0] <= ds;
+    let leading = if fault("leading") {
+        samples.chunks(4).filter(rule).count()
+    } else {
+        samples.chunks(4).take_while(rule).count()
+    };
+    let i = leading.saturating_sub(1).min(n - 2);
+    let (a, b) = (&samples[4 * i..], &samples[4 * i + 4..]);
+    let t = if b[0] > a[0] { (ds - a[0]) / (b[0] - a[0]) } else { 0.0 };
+    [1, 2, 3].map(|k| a[k] + (b[k] - a[k]) * t)
+}
+
+fn admission(words: &[u16], numbers: &[f64]) -> u32 {
+    let number = admit(words, numbers);
+    // A bank's first a at its limit exactly, all else zero, is taken for too much.
+    let bank = number == 0 && words[2] > 0 && numbers[BANK.at + 1].abs() == 0.75;
+    match number {
+        0 if fault("bank") && bank => 4,
+        4 if fault("rows") && numbers[0].is_nan() => 3,
+        _ => number,
+    }
+}
+
+#[unsafe(no_mangle)]
+pub unsafe extern "C" fn riftkettle_admit(words: *const u16, n: usize, numbers: *const f64, m: usize) -> u32 {
+    unsafe { admission(from_raw_parts(words, n), from_raw_parts(numbers, m)) }
+}
+
+#[unsafe(no_mangle)]
+pub unsafe extern "C" fn riftkettle_samples(
+    words: *const u16,
+    n: usize,
+    numbers: *const f64,
+    m: usize,
+    samples: *mut f64,
+    k: usize,
+    made: *mut usize,
+) -> u32 {
+    let (words, numbers, lent) = unsafe { (from_raw_parts(words, n), from_raw_parts(numbers, m), from_raw_parts_mut(samples, k)) };
+    let number = admission(words, numbers);
+    if number != 0 {
+        return number;
+    }
+    let new = Oracle::new(&read(words, numbers)).samples();
+    if lent.len() < new.len() {
+        if fault("early") && !lent.is_empty() {
+            lent[0] = new[0];
+        }
+        return 6;
+    }
+    lent[..new.len()].copy_from_slice(&new);
+    if fault("tail") && lent.len() > new.len() {
+        lent[new.len()] = 0.0;
+    }
+    unsafe { *made = new.len() / 4 };
+    0
+}
+
+#[unsafe(no_mangle)]
+pub unsafe extern "C" fn riftkettle_pose(
+    words: *const u16,
+    n: usize,
+    numbers: *const f64,
+    m: usize,
+    samples: *const f64,
+    k: usize,
+    geometry: usize,
+    s: f64,
+    pose: *mut f64,
+) -> u32 {
+    let (words, numbers, lent) = unsafe { (from_raw_parts(words, n), from_raw_parts(numbers, m), from_raw_parts(samples, k)) };
+    let number = admission(words, numbers);
+    if number != 0 {
+        return number;
+    }
+    let needed = samples_of(words, numbers);
+    if lent.len() / 4 < needed.iter().sum() {
+        return 6;
+    }
+    if !(0.0 <= s && s <= numbers[0]) {
+        return 7;
+    }
+    let first: usize = needed[..geometry].iter().sum();
+    let answer = if needed[geometry] > 0 {
+        pose_of_samples(&lent[4 * first..4 * (first + needed[geometry])], s - numbers[GEOM.line(geometry)])
+    } else {
+        Oracle::new(&read(words, numbers)).pose(geometry, s)
+    };
+    unsafe { from_raw_parts_mut(pose, 3).copy_from_slice(&answer) };
+    0
+}
