@@ -266,7 +266,10 @@ fn sections(rng: &mut Rng, length: f64) -> Vec<Section> {
     let n = few(rng, 16).max(1);
     let mut at = starts(rng, n, 0.0, length);
     at[0] = if rng.one_in(8) { -0.0 } else { 0.0 };
-    at.dedup();
+    for i in 1..n {
+        at[i] = if at[i] > at[i - 1] { at[i] } else { at[i - 1].next_up() };
+    }
+    at.retain(|&s| s <= length);
     let crowded = at.len() > 6;
     (0..at.len())
         .map(|i| {

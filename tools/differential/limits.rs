@@ -197,7 +197,18 @@ fn strip_start(rng: &mut Rng, m: &mut Memory) -> bool {
 
 // ---- sizes
 
+/// Leaves the first geometry and a section without lanes.
+fn bare(m: &mut Memory) {
+    m.words[..7].copy_from_slice(&[1, 0, 0, 0, 0, 1, 0]);
+    m.words[SECTION_WORDS.at + 1..SECTION_WORDS.at + 3].fill(0);
+    (0..4).for_each(|i| m.words[STRIP_WORDS.line(i)] = 0);
+}
+
+/// The road's length; often on a road that has nothing else, since a list's last record reaches to the end.
 fn length(rng: &mut Rng, m: &mut Memory) -> bool {
+    if rng.one_in(2) {
+        bare(m);
+    }
     let x = near_one_of(rng, &[0.01, 10_000.0]);
     set(m, Some(0), x)
 }

@@ -1,6 +1,6 @@
 // Compares the library with the published Rust, bit for bit: zeros alike, NaNs alike (document 01).
 //
-//     differential [full] [--seed N] [--only NAME]
+//     differential [full] [--seed N] [--only NAME] [--steps N]
 //
 // Each comparison below is a function for one random input; a new one is such a function and a line in COMPARISONS. The last line
 // says how many results were compared and how many differ. A seed gives the same run everywhere.
@@ -272,14 +272,14 @@ fn main() {
     let value = |name: &str| arguments.iter().position(|a| a == name).and_then(|i| arguments.get(i + 1)).cloned();
     let full = arguments.iter().any(|a| a == "full");
     let seed: u64 = value("--seed").map_or(1, |s| s.parse().expect("--seed takes a whole number"));
-    let only = value("--only");
+    let (only, steps_asked) = (value("--only"), value("--steps").map(|n| n.parse().expect("--steps takes a whole number")));
     println!("{} form, seed {seed}", if full { "full" } else { "short" });
     let (mut compared, mut differ) = (0, 0);
     for &(name, short_steps, full_steps, step) in COMPARISONS {
         if only.as_deref().is_some_and(|only| only != name) {
             continue;
         }
-        let steps = if full { full_steps } else { short_steps };
+        let steps = steps_asked.unwrap_or(if full { full_steps } else { short_steps });
         let (mut rng, mut tally) = (Rng::new(seed, name), Tally::new(name, steps));
         for _ in 0..steps {
             step(&mut rng, &mut tally);

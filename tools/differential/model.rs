@@ -284,3 +284,84 @@ impl Memory {
         Some(ranges)
     }
 }
+
+// ---- back from memory
+
+struct Reading<'a> {
+    words: &'a [u16],
+    numbers: &'a [f64],
+}
+
+impl Reading<'_> {
+    fn word(&self, at: usize) -> usize {
+        usize::from(self.words[at])
+    }
+
+    fn lines(&self, t: Table, first: usize, count: usize) -> impl Iterator<Item = &[f64]> {
+        self.numbers[t.line(first)..t.line(first + count)].chunks(t.columns)
+    }
+
+    fn cubics(&self, t: Table, first: usize, count: usize) -> Vec<Cubic> {
+        self.lines(t, first, count).map(|c| Cubic { start: c[0], a: c[1], b: c[2], c: c[3], d: c[4] }).collect()
+    }
+
+    /// The cubics of the range that stands at a place of the words.
+    fn cubics_at(&self, t: Table, at: usize) -> Vec<Cubic> {
+        self.cubics(t, self.word(at), self.word(at + 1))
+    }
+
+    fn geom(&self, i: usize) -> Geom {
+        let g = &self.numbers[GEOM.line(i)..][..7];
+        let shape = match self.word(KIND_WORDS.line(i)) {
+            0 => Shape::Line,
+            1 => Shape::Arc(g[5]),
+            _ => Shape::Spiral(g[5], g[6]),
+        };
+        Geom { s: g[0], x: g[1], y: g[2], hdg: g[3], length: g[4], shape }
+    }
+
+    fn lane(&self, i: usize) -> Lane {
+        let at = LANE_WORDS.line(i);
+        let heights = self.lines(HEIGHT, self.word(at + 4), self.word(at + 5));
+        Lane {
+            border: self.word(at) == 1,
+            level: self.word(at + 1) == 1,
+            extents: self.cubics_at(EXTENT, at + 2),
+            heights: heights.map(|h| Height { start: h[0], inner: h[1], outer: h[2] }).collect(),
+        }
+    }
+
+    fn section(&self, i: usize) -> Section {
+        let [first, left, right] = [0, 1, 2].map(|k| self.word(SECTION_WORDS.line(i) + k));
+        let lanes = |from: usize, n: usize| (from..from + n).map(|i| self.lane(i)).collect();
+        Section { start: self.numbers[SECTION.at + i], left: lanes(first, left), right: lanes(first + left, right) }
+    }
+
+    fn strip(&self, i: usize) -> Option<Strip> {
+        let at = STRIP_WORDS.line(i);
+        let lists = || [0, 1, 2, 3, 4].map(|k| self.cubics_at(CUBIC, at + 1 + 2 * k));
+        (self.word(at) != 0).then(|| Strip { relative: self.word(at) == 2, lists: lists() })
+    }
+
+    fn profile(&self, i: usize) -> Profile {
+        Profile { s: self.numbers[PROFILE.at + i], shapes: self.cubics_at(SHAPE, PROFILE_WORDS.line(i)) }
+    }
+}
+
+impl Road {
+    /// The road of an admitted memory.
+    pub fn read(words: &[u16], numbers: &[f64]) -> Self {
+        let m = Reading { words, numbers };
+        Self {
+            length: numbers[0],
+            geoms: (0..m.word(0)).map(|i| m.geom(i)).collect(),
+            elev: m.cubics(ELEV, 0, m.word(1)),
+            bank: m.cubics(BANK, 0, m.word(2)),
+            offset: m.cubics(OFFSET, 0, m.word(3)),
+            tshift: m.cubics(TSHIFT, 0, m.word(4)),
+            sections: (0..m.word(5)).map(|i| m.section(i)).collect(),
+            profiles: (0..m.word(6)).map(|i| m.profile(i)).collect(),
+            strips: [0, 1, 2, 3].map(|i| m.strip(i)),
+        }
+    }
+}

@@ -1,12 +1,18 @@
 // A library with the C functions of include/riftkettle.h that answers by the published Rust and the second admission. It proves
 // that the comparison works before the library exists, and that it finds a difference: RIFTKETTLE_FAULT names one to put in.
-use comparison::admission::{admit, samples_of};
 use comparison::arguments::exact_counts;
 use comparison::model::*;
 use comparison::oracle::Oracle;
 use comparison::stand_ins;
+#[cfg(not(edited))]
+use comparison::admission;
 use std::slice::{from_raw_parts, from_raw_parts_mut};
 use std::sync::OnceLock;
+
+// An edited copy of the second admission, made by self_test.sh.
+#[cfg(edited)]
+#[path = "../../target/differential/edited.rs"]
+mod admission;
 
 fn fault(name: &str) -> bool {
     static FAULT: OnceLock<String> = OnceLock::new();
@@ -59,63 +65,6 @@ pub unsafe extern "C" fn riftkettle_counts(v: f64, count: *mut i64) -> u32 {
     0
 }
 
-/// The road of an admitted memory.
-fn read(words: &[u16], numbers: &[f64]) -> Road {
-    let word = |at: usize| usize::from(words[at]);
-    let cubics = |t: Table, first: usize, count: usize| -> Vec<Cubic> {
-        let lines = (first..first + count).map(|i| &numbers[t.line(i)..][..5]);
-        lines.map(|c| Cubic { start: c[0], a: c[1], b: c[2], c: c[3], d: c[4] }).collect()
-    };
-    let geom = |i: usize| {
-        let g = &numbers[GEOM.line(i)..][..7];
-        let shape = match word(KIND_WORDS.line(i)) {
-            0 => Shape::Line,
-            1 => Shape::Arc(g[5]),
-            _ => Shape::Spiral(g[5], g[6]),
-        };
-        Geom { s: g[0], x: g[1], y: g[2], hdg: g[3], length: g[4], shape }
-    };
-    let lane = |i: usize| {
-        let at = LANE_WORDS.line(i);
-        let heights = (word(at + 4)..word(at + 4) + word(at + 5)).map(|i| &numbers[HEIGHT.line(i)..][..3]);
-        Lane {
-            border: word(at) == 1,
-            level: word(at + 1) == 1,
-            extents: cubics(EXTENT, word(at + 2), word(at + 3)),
-            heights: heights.map(|h| Height { start: h[0], inner: h[1], outer: h[2] }).collect(),
-        }
-    };
-    let section = |i: usize| {
-        let [first, left, right] = [0, 1, 2].map(|k| word(SECTION_WORDS.line(i) + k));
-        let (middle, end) = (first + left, first + left + right);
-        Section {
-            start: numbers[SECTION.at + i],
-            left: (first..middle).map(lane).collect(),
-            right: (middle..end).map(lane).collect(),
-        }
-    };
-    let strip = |i: usize| {
-        let at = STRIP_WORDS.line(i);
-        let lists = [0, 1, 2, 3, 4].map(|k| at + 1 + 2 * k);
-        (word(at) != 0).then(|| Strip { relative: word(at) == 2, lists: lists.map(|at| cubics(CUBIC, word(at), word(at + 1))) })
-    };
-    let profile = |i: usize| {
-        let at = PROFILE_WORDS.line(i);
-        Profile { s: numbers[PROFILE.at + i], shapes: cubics(SHAPE, word(at), word(at + 1)) }
-    };
-    Road {
-        length: numbers[0],
-        geoms: (0..word(0)).map(geom).collect(),
-        elev: cubics(ELEV, 0, word(1)),
-        bank: cubics(BANK, 0, word(2)),
-        offset: cubics(OFFSET, 0, word(3)),
-        tshift: cubics(TSHIFT, 0, word(4)),
-        sections: (0..word(5)).map(section).collect(),
-        profiles: (0..word(6)).map(profile).collect(),
-        strips: [0, 1, 2, 3].map(strip),
-    }
-}
-
 /// 01's rule for the samples of one spiral.
 fn pose_of_samples(samples: &[f64], distance: f64) -> [f64; 3] {
     let (n, last) = (samples.len() / 4, samples[samples.len() - 4]);
@@ -133,8 +82,8 @@ fn pose_of_samples(samples: &[f64], distance: f64) -> [f64; 3] {
     [1, 2, 3].map(|k| a[k] + (b[k] - a[k]) * t)
 }
 
-fn admission(words: &[u16], numbers: &[f64]) -> u32 {
-    let number = admit(words, numbers);
+fn admitted(words: &[u16], numbers: &[f64]) -> u32 {
+    let number = admission::admit(words, numbers);
     // A bank's first a at its limit exactly, all else zero, is taken for too much.
     let bank = number == 0 && words[2] > 0 && numbers[BANK.at + 1].abs() == 0.75;
     match number {
@@ -146,7 +95,7 @@ fn admission(words: &[u16], numbers: &[f64]) -> u32 {
 
 #[unsafe(no_mangle)]
 pub unsafe extern "C" fn riftkettle_admit(words: *const u16, n: usize, numbers: *const f64, m: usize) -> u32 {
-    unsafe { admission(from_raw_parts(words, n), from_raw_parts(numbers, m)) }
+    unsafe { admitted(from_raw_parts(words, n), from_raw_parts(numbers, m)) }
 }
 
 #[unsafe(no_mangle)]
@@ -160,11 +109,11 @@ pub unsafe extern "C" fn riftkettle_samples(
     made: *mut usize,
 ) -> u32 {
     let (words, numbers, lent) = unsafe { (from_raw_parts(words, n), from_raw_parts(numbers, m), from_raw_parts_mut(samples, k)) };
-    let number = admission(words, numbers);
+    let number = admitted(words, numbers);
     if number != 0 {
         return number;
     }
-    let new = Oracle::new(&read(words, numbers)).samples();
+    let new = Oracle::new(&Road::read(words, numbers)).samples();
     if lent.len() < new.len() {
         if fault("early") && !lent.is_empty() {
             lent[0] = new[0];
@@ -192,11 +141,11 @@ pub unsafe extern "C" fn riftkettle_pose(
     pose: *mut f64,
 ) -> u32 {
     let (words, numbers, lent) = unsafe { (from_raw_parts(words, n), from_raw_parts(numbers, m), from_raw_parts(samples, k)) };
-    let number = admission(words, numbers);
+    let number = admitted(words, numbers);
     if number != 0 {
         return number;
     }
-    let needed = samples_of(words, numbers);
+    let needed = admission::samples_of(words, numbers);
     if lent.len() / 4 < needed.iter().sum() {
         return 6;
     }
@@ -207,7 +156,7 @@ pub unsafe extern "C" fn riftkettle_pose(
     let answer = if needed[geometry] > 0 {
         pose_of_samples(&lent[4 * first..4 * (first + needed[geometry])], s - numbers[GEOM.line(geometry)])
     } else {
-        Oracle::new(&read(words, numbers)).pose(geometry, s)
+        Oracle::new(&Road::read(words, numbers)).pose(geometry, s)
     };
     unsafe { from_raw_parts_mut(pose, 3).copy_from_slice(&answer) };
     0
