@@ -1,7 +1,8 @@
 // Times the library and the Rust with document 01's stand-ins on the same inputs, in one run, both built for release.
 //
-// Each measurement alternates between the two and takes the median over the rounds. The Rust's functions are kept from being
-// inlined, since a call through the C interface is not either.
+// Each measurement alternates between the two and takes the median over the rounds, in the processor's time of this process, so
+// that other work on the machine shows little. The Rust's functions are kept from being inlined, since a call through the C
+// interface is not either.
 use comparison::admission;
 use comparison::arguments::exact_root;
 use comparison::generate;
@@ -11,7 +12,6 @@ use comparison::random::Rng;
 use comparison::riftkettle as ours;
 use comparison::stand_ins;
 use std::hint::black_box;
-use std::time::Instant;
 
 const ROUNDS: usize = 21;
 const ROUND_NANOS: f64 = 5e6;
@@ -21,11 +21,28 @@ fn median(mut of: Vec<f64>) -> f64 {
     of[of.len() / 2]
 }
 
+#[repr(C)]
+struct Timespec {
+    seconds: i64,
+    nanoseconds: i64,
+}
+
+unsafe extern "C" {
+    fn clock_gettime(clock: i32, to: *mut Timespec) -> i32;
+}
+
+/// Nanoseconds of processor time that this process has had (Linux: clock 2).
+fn processor_time() -> f64 {
+    let mut now = Timespec { seconds: 0, nanoseconds: 0 };
+    assert_eq!(unsafe { clock_gettime(2, &mut now) }, 0);
+    now.seconds as f64 * 1e9 + now.nanoseconds as f64
+}
+
 /// Nanoseconds of one of the `calls` that f makes.
 fn time(f: &mut dyn FnMut(), calls: usize, times: usize) -> f64 {
-    let began = Instant::now();
+    let began = processor_time();
     (0..times).for_each(|_| f());
-    began.elapsed().as_nanos() as f64 / (times * calls) as f64
+    (processor_time() - began) / (times * calls) as f64
 }
 
 /// Medians of the nanoseconds a call of each, and of their ratio. Each function makes `calls` calls.
@@ -106,11 +123,8 @@ fn main() {
     let stations: Vec<f64> = (0..256).map(|_| rng.between(0.0, 400.0)).collect();
 
     println!("| What | ours, ns | Rust with stand-ins, ns | ratio |\n|---|---|---|---|");
-    let pair = compare(
-        angles.len(),
-        || over(&angles, |h| ours::sin(h) + ours::cos(h)),
-        || over(&angles, |h| rust_sin(h) + rust_cos(h)),
-    );
+    let pair =
+        compare(angles.len(), || over(&angles, |h| ours::sin(h) + ours::cos(h)), || over(&angles, |h| rust_sin(h) + rust_cos(h)));
     row("sine and cosine, a call each", pair);
     row("root; Rust: the machine's", compare(sizes.len(), || over(&sizes, ours::root), || over(&sizes, rust_root)));
     row("root; Rust: in whole numbers", compare(sizes.len(), || over(&sizes, ours::root), || over(&sizes, exact_root)));
@@ -135,8 +149,12 @@ fn main() {
     );
     row("samples of a 400 m spiral (1,601); ours admits the road first", times);
 
-    println!("\n| What | ours, ns | a second text in Rust, ns | ratio | ours, in 100 sine pairs of ours |\n|---|---|---|---|---|");
-    for (what, road) in [("admission, 31 records", generate::small()), ("admission, every table full, 2,000 samples", generate::full())] {
+    println!(
+        "\n| What | ours, ns | a second text in Rust, ns | ratio | ours, in 100 sine pairs of ours |\n|---|---|---|---|---|"
+    );
+    for (what, road) in
+        [("admission, 31 records", generate::small()), ("admission, every table full, 2,000 samples", generate::full())]
+    {
         let m = lay(&road);
         let [a, b, ratio] = compare(
             1,

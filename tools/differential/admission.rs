@@ -186,7 +186,8 @@ impl Lent<'_> {
             && self.road_cubics_limited()
             && self.lanes().iter().all(|l| self.lane_limited(l))
             && self.shapes().into_iter().all(|l| {
-                self.starts(l).into_iter().all(|t| in_range(t, -80.0, 80.0)) && self.bounds(l, 80.0).into_iter().all(|b| b <= 40.0)
+                self.starts(l).into_iter().all(|t| in_range(t, -80.0, 80.0))
+                    && self.bounds(l, 80.0).into_iter().all(|b| b <= 40.0)
             })
             && self.strips().into_iter().all(|lists| lists.into_iter().all(on_road) && self.strip_limited(lists))
     }

@@ -388,10 +388,8 @@ pub fn full() -> Road {
     // 192 lanes: two of three have 3 extents and 3 heights, the others 2 and 2; that is 512 of each.
     let lane = |i: usize| if i % 3 == 2 { plain_lane(false, 2, 2, 3.0) } else { plain_lane(false, 3, 3, 3.0) };
     let side = |first: usize| (first..first + 6).map(lane).collect();
-    let strip = || Strip {
-        relative: true,
-        lists: [along(8, 3.0), along(8, 0.1), plain_term(1e-4), plain_term(1e-6), plain_term(1e-8)],
-    };
+    let strip =
+        || Strip { relative: true, lists: [along(8, 3.0), along(8, 0.1), plain_term(1e-4), plain_term(1e-6), plain_term(1e-8)] };
     Road {
         length: 100.0,
         geoms: geoms.collect(),

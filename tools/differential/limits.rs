@@ -40,6 +40,7 @@ pub const SITES: &[Site] = &[
     ("shapes", shapes),
     ("strip code", strip_code),
     ("strip ranges", strip_ranges),
+    ("full lists", full_lists),
     ("samples", samples),
     ("slices", slices),
 ];
@@ -399,6 +400,28 @@ fn strip_ranges(rng: &mut Rng, m: &mut Memory) -> bool {
     true
 }
 
+/// A list with as many lines as its parent may have, or one more, all in order and within their limits.
+fn full_lists(rng: &mut Rng, m: &mut Memory) -> bool {
+    let lane = any_lane(rng, m);
+    let profile = (m.words[6] > 0).then(|| PROFILE_WORDS.line(rng.below(usize::from(m.words[6]))));
+    let strip = (0..4).map(|i| STRIP_WORDS.line(i)).find(|&at| m.words[at] != 0).map(|at| at + 1 + 2 * rng.below(5));
+    let (table, at, limit) = match rng.below(4) {
+        0 => (EXTENT, lane.map(|at| at + 2), 16),
+        1 => (HEIGHT, lane.map(|at| at + 4), 8),
+        2 => (SHAPE, profile, 16),
+        _ => (CUBIC, strip, 8),
+    };
+    let (Some(at), n) = (at, limit + rng.below(2)) else { return false };
+    let first = table.lines - n;
+    for i in 0..n {
+        let line = table.line(first + i);
+        m.numbers[line..line + table.columns].fill(0.0);
+        m.numbers[line] = i as f64 * 0.0011;
+    }
+    (m.words[at], m.words[at + 1]) = (first as u16, n as u16);
+    true
+}
+
 /// One spiral takes what is left of 2,000 samples, or a little more or less.
 fn samples(rng: &mut Rng, m: &mut Memory) -> bool {
     let n = usize::from(m.words[0]);
@@ -472,7 +495,11 @@ impl Memory {
         for (i, t) in COUNTED.into_iter().enumerate() {
             numbers.extend(lines(t, 0, word(i)));
         }
-        words.extend(lines(KIND_WORDS, 0, word(0)).chain(lines(SECTION_WORDS, 0, word(5))).chain(lines(PROFILE_WORDS, 0, word(6))));
+        words.extend(lines(KIND_WORDS, 0, word(0)).chain(lines(SECTION_WORDS, 0, word(5))).chain(lines(
+            PROFILE_WORDS,
+            0,
+            word(6),
+        )));
         for section in (0..word(5)).map(|i| SECTION_WORDS.line(i)) {
             let (first, n) = (word(section), word(section + 1) + word(section + 2));
             words.extend(lines(LANE_WORDS, first, n));

@@ -14,6 +14,7 @@ use comparison::random::{Rng, nudge};
 use comparison::riftkettle as ours;
 use comparison::stand_ins as rust;
 use comparison::tally::{Tally, hex, same, same_f32};
+use std::sync::atomic::{AtomicUsize, Ordering};
 
 /// Name, steps of the short form, steps of the full form, one step.
 type Comparison = (&'static str, u64, u64, fn(&mut Rng, &mut Tally));
@@ -244,10 +245,11 @@ fn check_admission(rng: &mut Rng, tally: &mut Tally, m: &Memory, place: Option<&
 
 /// Writes a memory that shows a difference to a file, words then numbers in hexadecimal.
 fn keep(m: &Memory) -> String {
-    let path = std::env::temp_dir().join(format!("differs-{}-{}", std::process::id(), m.words.len() ^ m.numbers.len()));
+    static KEPT: AtomicUsize = AtomicUsize::new(0);
+    let path = format!("target/differential/differs-{}", KEPT.fetch_add(1, Ordering::Relaxed));
     let words: Vec<String> = m.words.iter().map(|w| format!("{w:04x}")).collect();
     let text = format!("{}\n{}\n", words.join(" "), hex(&m.numbers));
-    std::fs::write(&path, text).map_or_else(|e| e.to_string(), |()| path.display().to_string())
+    std::fs::write(&path, text).map_or_else(|e| e.to_string(), |()| path)
 }
 
 fn around_limits(rng: &mut Rng, tally: &mut Tally) {

@@ -43,7 +43,11 @@ const CHANGES: &[Change] = &[
         1,
         "                    *outer - sign * b.width * crate::stand_ins::tan(phi) + own_outer,",
     ),
-    change("        let (sin_phi, cos_phi) = phi.sin_cos();", 1, "        let (sin_phi, cos_phi) = crate::stand_ins::sin_cos(phi);"),
+    change(
+        "        let (sin_phi, cos_phi) = phi.sin_cos();",
+        1,
+        "        let (sin_phi, cos_phi) = crate::stand_ins::sin_cos(phi);",
+    ),
     change(
         "        let point = [x - t_h * hdg.sin(), y + t_h * hdg.cos(), elev + t * sin_phi];",
         1,
@@ -74,11 +78,7 @@ const CHANGES: &[Change] = &[
     ),
     // No change of behaviour: the samples are read from outside the file, and `locate` counts its moves.
     change("    samples: Vec<(f64, f64, f64, f64)>,", 1, "    pub(crate) samples: Vec<(f64, f64, f64, f64)>,"),
-    change(
-        "            (s, t) = (next, t + dt);",
-        1,
-        "            (s, t) = (next, t + dt); crate::stand_ins::count_move();",
-    ),
+    change("            (s, t) = (next, t + dt);", 1, "            (s, t) = (next, t + dt); crate::stand_ins::count_move();"),
 ];
 
 // What 01 replaces and may not be left. atan2 is called by ParamPoly3 alone, which is no part of the base.

@@ -1,10 +1,11 @@
 #!/usr/bin/env bash
 # Tests the comparison itself, without the library:
 #
-#     tools/differential/self_test.sh [--source DIR] [quick]
+#     tools/differential/self_test.sh [--source DIR] [--edits FILE] [quick]
 #
 # the parts by themselves (self_test.rs); then a library that answers by the published Rust, which must show no difference; then
-# that library with each fault of stub.rs and each edit of edits.txt put in (`quick`: not the edits), which must show one.
+# that library with each fault of stub.rs and each edit of edits.txt put in (`quick`: not the edits; --edits: these
+# in their place), which must show one. All edits take some ten minutes.
 set -euo pipefail
 cd "$(dirname "$0")/../.."
 here=tools/differential
@@ -14,9 +15,11 @@ source=../shared/docs/src
 archive=
 stub=yes
 quick=
+edits=$here/edits.txt
 while [ $# -gt 0 ]; do
   case $1 in
     --source) source=$2; shift 2 ;;
+    --edits) edits=$2; shift 2 ;;
     quick) quick=yes; shift ;;
     *) echo "self_test.sh: what is '$1'? See the first lines of $here/self_test.sh" >&2; exit 2 ;;
   esac
@@ -58,11 +61,11 @@ if [ -z "$quick" ]; then
     old=${line%% ==> *} new=${line##* ==> }
     old=${old//'\n'/$'\n'} new=${new//'\n'/$'\n'}
     without=${text//"$old"/}
-    [ $((${#text} - ${#without})) -eq ${#old} ] || fail "edits.txt: this stands not once in admission.rs: $old"
+    [ $((${#text} - ${#without})) -eq ${#old} ] || fail "$edits: this stands not once in admission.rs: $old"
     printf '%s\n' "${text/"$old"/"$new"}" > "$build/edited.rs"
-    stub --cfg edited -A dead_code 2> "$build/self_test.out" || fail "edits.txt: '$line' does not build: $(cat "$build/self_test.out")"
+    stub --cfg edited -A dead_code 2> "$build/self_test.out" || fail "$edits: '$line' does not build: $(cat "$build/self_test.out")"
     must_differ "edit $line" --only limits --steps 8000
-  done < "$here/edits.txt"
+  done < "$edits"
 fi
 echo "self test: $found faults found, $missed not"
 [ $missed -eq 0 ]

@@ -1,11 +1,12 @@
 // A library with the C functions of include/riftkettle.h that answers by the published Rust and the second admission. It proves
 // that the comparison works before the library exists, and that it finds a difference: RIFTKETTLE_FAULT names one to put in.
+#[cfg(not(edited))]
+use comparison::admission;
 use comparison::arguments::exact_counts;
 use comparison::model::*;
 use comparison::oracle::Oracle;
 use comparison::stand_ins;
-#[cfg(not(edited))]
-use comparison::admission;
+use std::panic::{AssertUnwindSafe, catch_unwind};
 use std::slice::{from_raw_parts, from_raw_parts_mut};
 use std::sync::OnceLock;
 
@@ -22,6 +23,11 @@ fn fault(name: &str) -> bool {
 /// One step too far, for one argument in a thousand.
 fn off(name: &str, x: f64, y: f64) -> f64 {
     if fault(name) && x.to_bits() % 1009 == 0 && y.is_finite() { y.next_up() } else { y }
+}
+
+/// An edited admission may let a road through that cannot be evaluated: a number of no refusal.
+fn guarded(f: impl FnOnce() -> u32) -> u32 {
+    catch_unwind(AssertUnwindSafe(f)).unwrap_or(99)
 }
 
 #[unsafe(no_mangle)]
@@ -71,11 +77,8 @@ fn pose_of_samples(samples: &[f64], distance: f64) -> [f64; 3] {
     let ds = if distance < 0.0 { 0.0 } else { distance };
     let ds = if ds > last { last } else { ds };
     let rule = |p: &&[f64]| p[0] <= ds;
-    let leading = if fault("leading") {
-        samples.chunks(4).filter(rule).count()
-    } else {
-        samples.chunks(4).take_while(rule).count()
-    };
+    let leading =
+        if fault("leading") { samples.chunks(4).filter(rule).count() } else { samples.chunks(4).take_while(rule).count() };
     let i = leading.saturating_sub(1).min(n - 2);
     let (a, b) = (&samples[4 * i..], &samples[4 * i + 4..]);
     let t = if b[0] > a[0] { (ds - a[0]) / (b[0] - a[0]) } else { 0.0 };
@@ -95,7 +98,8 @@ fn admitted(words: &[u16], numbers: &[f64]) -> u32 {
 
 #[unsafe(no_mangle)]
 pub unsafe extern "C" fn riftkettle_admit(words: *const u16, n: usize, numbers: *const f64, m: usize) -> u32 {
-    unsafe { admitted(from_raw_parts(words, n), from_raw_parts(numbers, m)) }
+    let (words, numbers) = unsafe { (from_raw_parts(words, n), from_raw_parts(numbers, m)) };
+    guarded(|| admitted(words, numbers))
 }
 
 #[unsafe(no_mangle)]
@@ -108,7 +112,13 @@ pub unsafe extern "C" fn riftkettle_samples(
     k: usize,
     made: *mut usize,
 ) -> u32 {
-    let (words, numbers, lent) = unsafe { (from_raw_parts(words, n), from_raw_parts(numbers, m), from_raw_parts_mut(samples, k)) };
+    let (words, numbers, lent) =
+        unsafe { (from_raw_parts(words, n), from_raw_parts(numbers, m), from_raw_parts_mut(samples, k)) };
+    let made = unsafe { &mut *made };
+    guarded(|| make_samples(words, numbers, lent, made))
+}
+
+fn make_samples(words: &[u16], numbers: &[f64], lent: &mut [f64], made: &mut usize) -> u32 {
     let number = admitted(words, numbers);
     if number != 0 {
         return number;
@@ -124,7 +134,7 @@ pub unsafe extern "C" fn riftkettle_samples(
     if fault("tail") && lent.len() > new.len() {
         lent[new.len()] = 0.0;
     }
-    unsafe { *made = new.len() / 4 };
+    *made = new.len() / 4;
     0
 }
 
@@ -141,6 +151,11 @@ pub unsafe extern "C" fn riftkettle_pose(
     pose: *mut f64,
 ) -> u32 {
     let (words, numbers, lent) = unsafe { (from_raw_parts(words, n), from_raw_parts(numbers, m), from_raw_parts(samples, k)) };
+    let pose = unsafe { from_raw_parts_mut(pose, 3) };
+    guarded(|| find_pose(words, numbers, lent, (geometry, s), pose))
+}
+
+fn find_pose(words: &[u16], numbers: &[f64], lent: &[f64], (geometry, s): (usize, f64), pose: &mut [f64]) -> u32 {
     let number = admitted(words, numbers);
     if number != 0 {
         return number;
@@ -158,6 +173,6 @@ pub unsafe extern "C" fn riftkettle_pose(
     } else {
         Oracle::new(&Road::read(words, numbers)).pose(geometry, s)
     };
-    unsafe { from_raw_parts_mut(pose, 3).copy_from_slice(&answer) };
+    pose.copy_from_slice(&answer);
     0
 }

@@ -1,6 +1,6 @@
 // Counting what was compared and what differs, and showing the first differences with their inputs.
 use std::collections::BTreeMap;
-use std::io::{IsTerminal, Write};
+use std::io::IsTerminal;
 use std::time::Instant;
 
 /// Zeros alike and NaNs alike (document 01), else bit for bit.
@@ -19,6 +19,7 @@ pub fn hex(numbers: &[f64]) -> String {
 
 pub struct Tally {
     name: String,
+    terminal: bool,
     began: Instant,
     shown: Instant,
     planned: u64,
@@ -34,7 +35,17 @@ impl Tally {
     /// `planned` is how many steps are to come, for the progress shown.
     pub fn new(name: &str, planned: u64) -> Self {
         let now = Instant::now();
-        Self { name: name.into(), began: now, shown: now, planned, done: 0, compared: 0, differ: 0, outcomes: BTreeMap::new() }
+        Self {
+            name: name.into(),
+            terminal: std::io::stderr().is_terminal(),
+            began: now,
+            shown: now,
+            planned,
+            done: 0,
+            compared: 0,
+            differ: 0,
+            outcomes: BTreeMap::new(),
+        }
     }
 
     /// One result compared. `input` is worked out only where it differs.
@@ -43,7 +54,7 @@ impl Tally {
         if !equal {
             self.differ += 1;
             if self.differ <= SHOW {
-                eprintln!("\r{}: DIFFERS: {}", self.name, input());
+                eprintln!("{}: DIFFERS: {}", self.name, input());
             }
         }
     }
@@ -57,22 +68,23 @@ impl Tally {
         *self.outcomes.entry(place).or_default().entry(number).or_default() += 1;
     }
 
-    /// One step done.
+    /// One step done. Progress is shown twice a second on a terminal, else every ten seconds.
     pub fn step(&mut self) {
         self.done += 1;
-        if self.done % 4096 == 0 && self.shown.elapsed().as_millis() > 500 {
+        let terminal = self.terminal;
+        if self.done % 64 == 0 && self.shown.elapsed().as_millis() > if terminal { 500 } else { 10_000 } {
             self.shown = Instant::now();
-            if std::io::stderr().is_terminal() {
-                eprint!("\r{:<10} {:3} %", self.name, 100 * self.done / self.planned.max(1));
-                let _ = std::io::stderr().flush();
-            }
+            let percent = 100 * self.done / self.planned.max(1);
+            eprint!("{}{:<10} {percent:3} %{}", if terminal { "\r" } else { "" }, self.name, if terminal { "" } else { "\n" });
         }
     }
 
     /// Prints the line of this comparison and answers (compared, differ).
     pub fn end(self) -> (u64, u64) {
         let seconds = self.began.elapsed().as_secs_f64();
-        eprint!("\r");
+        if self.terminal {
+            eprint!("\r");
+        }
         println!("{:<10} {:>12} compared, {} differ, {seconds:.1} s", self.name, self.compared, self.differ);
         for (place, numbers) in &self.outcomes {
             let each: Vec<String> = numbers.iter().map(|(number, times)| format!("{number}: {times}")).collect();
