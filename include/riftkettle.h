@@ -5,7 +5,7 @@
  * valid for that many elements (an empty slice needs any such pointer), and what is written through one pointer overlaps nothing
  * else that is lent.
  *
- * A function that can refuse returns 0 and writes its answer, or returns the number of the refusal (RIFTKETTLE_.. below) and
+ * A function that can refuse returns 0 and writes its answer, or returns the number of the refusal (RIFTKETTLE_REFUSED_.. below) and
  * changes nothing behind its pointers. Refusals are tested in the order of their numbers. */
 #ifndef RIFTKETTLE_H
 #define RIFTKETTLE_H
@@ -19,12 +19,12 @@ extern "C" {
 
 /* ---- refusals: the numbers of document 01 */
 
-#define RIFTKETTLE_STRUCTURE 3 /* the road's counts, references or order are wrong, or a lent road slice is too short */
-#define RIFTKETTLE_LIMIT 4     /* a number of the road is not finite or outside its limit */
-#define RIFTKETTLE_SPIRALS 5   /* the road's spirals need over 2,000 samples */
-#define RIFTKETTLE_SAMPLES 6   /* the lent samples are fewer than the road needs */
-#define RIFTKETTLE_STATION 7   /* s is outside 0..length */
-#define RIFTKETTLE_COUNTS 12   /* the value is outside -80..80 */
+#define RIFTKETTLE_REFUSED_STRUCTURE 3     /* the road's counts, references or order are wrong, or its slice is too short */
+#define RIFTKETTLE_REFUSED_RANGE 4         /* a number of the road is not finite or outside its limit */
+#define RIFTKETTLE_REFUSED_SAMPLE_BUDGET 5 /* the road's spirals need over 2,000 samples */
+#define RIFTKETTLE_REFUSED_SAMPLE_SPACE 6  /* the lent samples are fewer than the road needs */
+#define RIFTKETTLE_REFUSED_STATION 7       /* s is outside 0..length */
+#define RIFTKETTLE_REFUSED_COUNT_RANGE 12  /* the value is outside -80..80 */
 
 /* ---- a road in lent memory
  *

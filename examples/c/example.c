@@ -48,6 +48,7 @@ int main(void) {
   printf("counts %" PRIu32 ", %" PRId64 "\n", refusal, count);
 
   numbers[RIFTKETTLE_GEOM + 7 + 6] = 1.5; /* the spiral's end: over its limit */
-  printf("refused %" PRIu32 "\n", riftkettle_admit(words, RIFTKETTLE_WORDS, numbers, RIFTKETTLE_NUMBERS));
+  refusal = riftkettle_admit(words, RIFTKETTLE_WORDS, numbers, RIFTKETTLE_NUMBERS);
+  printf("refused %" PRIu32 ", out of range: %d\n", refusal, refusal == RIFTKETTLE_REFUSED_RANGE);
   return 0;
 }

@@ -69,6 +69,11 @@ fn rust_cos(h: f64) -> f64 {
 }
 
 #[inline(never)]
+fn rust_sin_cos(h: f64) -> (f64, f64) {
+    stand_ins::sin_cos(h)
+}
+
+#[inline(never)]
 fn rust_root(x: f64) -> f64 {
     stand_ins::root(x)
 }
@@ -126,6 +131,14 @@ fn main() {
     let pair =
         compare(angles.len(), || over(&angles, |h| ours::sin(h) + ours::cos(h)), || over(&angles, |h| rust_sin(h) + rust_cos(h)));
     row("sine and cosine, a call each", pair);
+    let both = |h| {
+        let (sin, cos) = rust_sin_cos(h);
+        sin + cos
+    };
+    row(
+        "the same; Rust: one call for both",
+        compare(angles.len(), || over(&angles, |h| ours::sin(h) + ours::cos(h)), || over(&angles, both)),
+    );
     row("root; Rust: the machine's", compare(sizes.len(), || over(&sizes, ours::root), || over(&sizes, rust_root)));
     row("root; Rust: in whole numbers", compare(sizes.len(), || over(&sizes, ours::root), || over(&sizes, exact_root)));
     let narrow = |x| f64::from(ours::narrow(x));

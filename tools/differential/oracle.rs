@@ -1,6 +1,7 @@
 // The published Rust, asked through plain types. Document 01's stand-ins are in it (patch.rs); nothing else is changed.
 use crate::model::{self, Shape};
 use crate::road;
+use crate::stand_ins;
 
 pub struct Oracle(road::Road);
 
@@ -73,6 +74,19 @@ impl Oracle {
     pub fn pose(&self, geometry: usize, s: f64) -> [f64; 3] {
         let (x, y, heading) = self.0.geoms[geometry].pose(s);
         [x, y, heading]
+    }
+
+    /// The point in f32 and the reference line's heading.
+    pub fn surface(&self, s: f64, t: f64) -> ([f32; 3], f64) {
+        let (point, heading) = self.0.surface(s, t);
+        (point.to_array(), heading)
+    }
+
+    /// The pair, and how many moves were made.
+    pub fn locate(&self, x: f64, y: f64, guess: f64) -> ([f64; 2], u32) {
+        stand_ins::take_moves();
+        let (s, t) = self.0.locate(x, y, guess);
+        ([s, t], stand_ins::take_moves())
     }
 }
 

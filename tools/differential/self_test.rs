@@ -54,6 +54,26 @@ fn admission_runs(rng: &mut Rng) {
     assert_eq!(Oracle::new(&generate::full()).samples().len(), 4 * 2000);
 }
 
+/// The published Rust with the stand-ins in it: M1, M12, and points of generated roads, which are finite.
+fn oracle(rng: &mut Rng) {
+    let geom = Geom { s: 0.0, x: 0.0, y: 0.0, hdg: 0.0, length: 10.0, shape: Shape::Line };
+    let m1 = Road { length: 10.0, geoms: vec![geom], sections: vec![Section::default()], ..Road::default() };
+    let m1 = Oracle::new(&m1);
+    assert_eq!(m1.surface(1.0, 2.0), ([1.0, 2.0, 0.0], 0.0));
+    assert_eq!(m1.locate(3.0, 2.0, 3.0), ([3.0, 2.0], 0));
+    let ([s, t], moves) = m1.locate(3.0, 2.0, 7.0);
+    assert!((s - 3.0).abs() < 1e-9 && t == 2.0 && moves == 1);
+    for _ in 0..2_000 {
+        let road = generate::admitted(rng).0;
+        let o = Oracle::new(&road);
+        for _ in 0..10 {
+            let (s, t) = (rng.between(0.0, road.length), rng.between(-80.0, 80.0));
+            let (point, heading) = o.surface(s, t);
+            assert!(point.iter().all(|x| x.is_finite()) && heading.abs() <= 12_000.0, "{s} {t}: {point:?} {heading}: {road:?}");
+        }
+    }
+}
+
 /// Of the generated roads: admitted, the same after memory and back, and how many have each feature.
 fn generator(rng: &mut Rng) {
     let features: &[(&str, fn(&Road) -> bool)] = &[
@@ -97,6 +117,7 @@ fn main() {
     let mut rng = Rng::new(1, "self test");
     stand_ins_are_near(&mut rng);
     admission_runs(&mut rng);
+    oracle(&mut rng);
     generator(&mut rng);
     println!("self test: passed");
 }
