@@ -1,0 +1,114 @@
+/* Riftkettle: road surface points and poses for marking carts. Metres and radians.
+ *
+ * Every function answers for every argument, allocates nothing, keeps nothing between calls, and reads and writes only what is
+ * lent to it. A lent slice is a pointer and then the number of its elements; the pointer is not null, aligned to its element and
+ * valid for that many elements (an empty slice needs any such pointer), and what is written through one pointer overlaps nothing
+ * else that is lent.
+ *
+ * A function that can refuse returns 0 and writes its answer, or returns the number of the refusal (RIFTKETTLE_REFUSED_.. below) and
+ * changes nothing behind its pointers. Refusals are tested in the order of their numbers. */
+#ifndef RIFTKETTLE_H
+#define RIFTKETTLE_H
+
+#include <stddef.h>
+#include <stdint.h>
+
+#ifdef __cplusplus
+extern "C" {
+#endif
+
+/* ---- refusals: the numbers of document 01 */
+
+#define RIFTKETTLE_REFUSED_STRUCTURE 3     /* the road's counts, references or order are wrong, or its slice is too short */
+#define RIFTKETTLE_REFUSED_RANGE 4         /* a number of the road is not finite or outside its limit */
+#define RIFTKETTLE_REFUSED_SAMPLE_BUDGET 5 /* the road's spirals need over 2,000 samples */
+#define RIFTKETTLE_REFUSED_SAMPLE_SPACE 6  /* the lent samples are fewer than the road needs */
+#define RIFTKETTLE_REFUSED_STATION 7       /* s is outside 0..length */
+#define RIFTKETTLE_REFUSED_COUNT_RANGE 12  /* the value is outside -80..80 */
+
+/* ---- a road in lent memory
+ *
+ * Two slices: `words`, at least RIFTKETTLE_WORDS elements (counts, codes and ranges), and `numbers`, at least RIFTKETTLE_NUMBERS
+ * elements (all that is an f64). A table's lines stand one after another from its place on, each with the columns listed. Longer
+ * slices are allowed; what no count or range names is not read.
+ *
+ * A range (first, count) names lines of a table. first + count is at most the table's lines. Ranges may overlap: two lanes may
+ * share their records. */
+
+#define RIFTKETTLE_WORDS 1347
+#define RIFTKETTLE_NUMBERS 7937
+
+/* Places in `numbers`, with the most lines and the columns. */
+#define RIFTKETTLE_LENGTH 0     /*   1: the road's length */
+#define RIFTKETTLE_GEOM 1       /*  64: s x y hdg length k0 k1 (unused k0, k1 zero) */
+#define RIFTKETTLE_ELEV 449     /*  64: start a b c d */
+#define RIFTKETTLE_BANK 769     /*  64: start a b c d */
+#define RIFTKETTLE_OFFSET 1089  /*  64: start a b c d */
+#define RIFTKETTLE_TSHIFT 1409  /*  64: start a b c d */
+#define RIFTKETTLE_SECTION 1729 /*  16: start */
+#define RIFTKETTLE_EXTENT 1745  /* 512: start a b c d; start counts from the section's start */
+#define RIFTKETTLE_HEIGHT 4305  /* 512: start inner outer; start likewise */
+#define RIFTKETTLE_PROFILE 5841 /*  16: s */
+#define RIFTKETTLE_SHAPE 5857   /* 256: t a b c d */
+#define RIFTKETTLE_CUBIC 7137   /* 160: start a b c d */
+
+/* Places in `words`. The first seven are counts of lines. */
+#define RIFTKETTLE_GEOMS 0         /* 1..64 */
+#define RIFTKETTLE_ELEVS 1         /* 0..64 */
+#define RIFTKETTLE_BANKS 2         /* 0..64 */
+#define RIFTKETTLE_OFFSETS 3       /* 0..64 */
+#define RIFTKETTLE_TSHIFTS 4       /* 0..64 */
+#define RIFTKETTLE_SECTIONS 5      /* 1..16 */
+#define RIFTKETTLE_PROFILES 6      /* 0..16 */
+#define RIFTKETTLE_KIND 7          /*  64: a geometry's kind: 0 line, 1 arc (k0), 2 spiral (k0 at its start, k1 at its end) */
+#define RIFTKETTLE_LANES 71        /*  16, three words a section: first lane, left lanes, right lanes (0..6 each), left outward */
+#define RIFTKETTLE_LANE 119        /* 192, six words a lane: extents are 0 widths 1 borders; level 0 or 1; range of extents
+                                      (0..16); range of heights (0..8) */
+#define RIFTKETTLE_SHAPES 1271     /*  16, two words a profile: range of shapes (1..16) */
+#define RIFTKETTLE_STRIP 1303      /*   4, eleven words a strip: 0 absent, 1 there, 2 there and relative; ranges of cubics (0..8
+                                      each) of its width and of its terms 0, 1, 2, 3. Left inner, left outer, right inner, right
+                                      outer. An absent strip's ranges are not read. */
+
+/* ---- arithmetic: answers for every argument, NaN and the infinities included */
+
+/* The f64 nearest the exact root; NaN below 0. */
+double riftkettle_root(double x);
+
+/* The root of a*a + b*b, each operation rounded once. */
+double riftkettle_hypot(double a, double b);
+
+/* Sine, cosine and sine / cosine; NaN outside -12000..12000. */
+double riftkettle_sin(double h);
+double riftkettle_cos(double h);
+double riftkettle_tan(double h);
+
+/* The f32 nearest x, halves to even. */
+float riftkettle_narrow(double x);
+
+/* Axis counts: v * 10,000, rounded once, to the nearest whole number, halves away from zero.
+ * Refusals: 12. Writes *count. 1/32 gives 313. */
+uint32_t riftkettle_counts(double v, int64_t *count);
+
+/* ---- calls on a road: each checks the road whole */
+
+/* 0 where the road is admitted. Refusals: 3, 4, 5. */
+uint32_t riftkettle_admit(const uint16_t *words, size_t n, const double *numbers, size_t m);
+
+/* Makes the samples of the road's spirals: four numbers each (distance from the geometry's start, x, y, heading), geometries in
+ * order. Writes the samples from samples[0] on and their number to *made; what lies past them stays as it was. 8,000 numbers are
+ * enough for every road; a road without spirals needs none.
+ * Refusals: 3, 4, 5; 6 where k / 4 is less than the samples needed. */
+uint32_t riftkettle_samples(const uint16_t *words, size_t n, const double *numbers, size_t m, double *samples, size_t k,
+                            size_t *made);
+
+/* x, y and heading on the geometry of that number (from 0) at s. Lines and arcs run on past their length and before their start;
+ * a spiral stays at its ends. The samples are those that riftkettle_samples made of this road; the answer follows what they hold.
+ * Writes pose[0..2]. Refusals: 3, 4, 5, 6, 7. */
+uint32_t riftkettle_pose(const uint16_t *words, size_t n, const double *numbers, size_t m, const double *samples, size_t k,
+                         size_t geometry, double s, double pose[3]);
+
+#ifdef __cplusplus
+}
+#endif
+
+#endif

@@ -1,0 +1,29 @@
+#!/usr/bin/env bash
+# Times the library against the Rust with document 01's stand-ins, same inputs, one run, both built for release; prints the tables
+# of docs/PERFORMANCE.md.
+#
+#     tools/bench/run.sh [--source DIR] [--archive FILE | --stub]
+#
+# The options are those of tools/differential/run.sh.
+set -euo pipefail
+cd "$(dirname "$0")/../.."
+build=target/differential
+
+source=../shared/docs/src
+archive=
+stub=
+while [ $# -gt 0 ]; do
+  case $1 in
+    --source) source=$2; shift 2 ;;
+    --archive) archive=$2; shift 2 ;;
+    --stub) stub=yes; shift ;;
+    *) echo "run.sh: what is '$1'? See the first lines of tools/bench/run.sh" >&2; exit 2 ;;
+  esac
+done
+
+. tools/differential/build.sh
+published "$source"
+library
+choose
+program bench tools/bench/bench.rs
+"$build/bench"

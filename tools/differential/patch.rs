@@ -1,0 +1,108 @@
+// Puts document 01's stand-ins into a copy of the published road.rs.
+//
+//     patch ROAD.RS > PATCHED
+//
+// Each entry below is a whole line of the published file, how often it must stand there, and what takes its place. A line that
+// is not found that often is an error, and so is a call of a library function that is left over.
+use std::process::exit;
+
+struct Change {
+    line: &'static str,
+    times: usize,
+    by: &'static str,
+}
+
+const fn change(line: &'static str, times: usize, by: &'static str) -> Change {
+    Change { line, times, by }
+}
+
+const CHANGES: &[Change] = &[
+    // 01, "Stand-ins": sine, cosine, tangent, root and hypot.
+    change(
+        "                let x = self.x + (h.sin() - self.hdg.sin()) / curvature;",
+        1,
+        "                let x = self.x + (crate::stand_ins::sin(h) - crate::stand_ins::sin(self.hdg)) / curvature;",
+    ),
+    change(
+        "                let y = self.y - (h.cos() - self.hdg.cos()) / curvature;",
+        1,
+        "                let y = self.y - (crate::stand_ins::cos(h) - crate::stand_ins::cos(self.hdg)) / curvature;",
+    ),
+    change("                self.x + ds * self.hdg.cos(),", 1, "                self.x + ds * crate::stand_ins::cos(self.hdg),"),
+    change("                self.y + ds * self.hdg.sin(),", 1, "                self.y + ds * crate::stand_ins::sin(self.hdg),"),
+    change("        x += theta_mid.cos() * step;", 1, "        x += crate::stand_ins::cos(theta_mid) * step;"),
+    change("        y += theta_mid.sin() * step;", 1, "        y += crate::stand_ins::sin(theta_mid) * step;"),
+    change("    let (sin, cos) = hdg0.sin_cos();", 1, "    let (sin, cos) = crate::stand_ins::sin_cos(hdg0);"),
+    change(
+        "        ds += ((x - px).powi(2) + (y - py).powi(2)).sqrt();",
+        1,
+        "        ds += crate::stand_ins::root((x - px).powi(2) + (y - py).powi(2));",
+    ),
+    change(
+        "                    *outer - sign * b.width * phi.tan() + own_outer,",
+        1,
+        "                    *outer - sign * b.width * crate::stand_ins::tan(phi) + own_outer,",
+    ),
+    change(
+        "        let (sin_phi, cos_phi) = phi.sin_cos();",
+        1,
+        "        let (sin_phi, cos_phi) = crate::stand_ins::sin_cos(phi);",
+    ),
+    change(
+        "        let point = [x - t_h * hdg.sin(), y + t_h * hdg.cos(), elev + t * sin_phi];",
+        1,
+        "        let point = [x - t_h * crate::stand_ins::sin(hdg), y + t_h * crate::stand_ins::cos(hdg), elev + t * sin_phi];",
+    ),
+    change(
+        "        let mut t = ((y - ry) * hdg.cos() - (x - rx) * hdg.sin()) / phi.cos();",
+        1,
+        "        let mut t = ((y - ry) * crate::stand_ins::cos(hdg) - (x - rx) * crate::stand_ins::sin(hdg)) / crate::stand_ins::cos(phi);",
+    ),
+    change(
+        "            if r[0].hypot(r[1]) < LOCATE_TOLERANCE {",
+        1,
+        "            if crate::stand_ins::hypot(r[0], r[1]) < LOCATE_TOLERANCE {",
+    ),
+    change("        let (sin_h, cos_h) = hdg.sin_cos();", 1, "        let (sin_h, cos_h) = crate::stand_ins::sin_cos(hdg);"),
+    change("        let (sin_p, cos_p) = phi.sin_cos();", 1, "        let (sin_p, cos_p) = crate::stand_ins::sin_cos(phi);"),
+    change(
+        "    let length = v.iter().map(|c| c * c).sum::<f64>().sqrt();",
+        1,
+        "    let length = crate::stand_ins::root(v.iter().map(|c| c * c).sum::<f64>());",
+    ),
+    // 01, "Values": in `surface` the fraction across the lane is kept to 0..1, "on the Rust side too".
+    change(
+        "                |a| a.height(t.clamp(a.inner_t.min(a.outer_t), a.inner_t.max(a.outer_t))),",
+        1,
+        "                |a| crate::stand_ins::kept_height(&a, t),",
+    ),
+    // No change of behaviour: the samples are read from outside the file, and `locate` counts its moves.
+    change("    samples: Vec<(f64, f64, f64, f64)>,", 1, "    pub(crate) samples: Vec<(f64, f64, f64, f64)>,"),
+    change("            (s, t) = (next, t + dt);", 1, "            (s, t) = (next, t + dt); crate::stand_ins::count_move();"),
+];
+
+// What 01 replaces and may not be left. atan2 is called by ParamPoly3 alone, which is no part of the base.
+const LEFT_OUT: [&str; 6] = [".sin()", ".cos()", ".sin_cos()", ".tan()", ".sqrt()", ".hypot("];
+
+fn fail(why: String) -> ! {
+    eprintln!("patch: {why}");
+    exit(1)
+}
+
+fn main() {
+    let Some(path) = std::env::args().nth(1) else { fail("usage: patch ROAD.RS > PATCHED".into()) };
+    let source = std::fs::read_to_string(&path).unwrap_or_else(|e| fail(format!("{path}: {e}")));
+    for c in CHANGES {
+        let found = source.lines().filter(|line| *line == c.line).count();
+        if found != c.times {
+            fail(format!("{path}: {} of this line expected, {found} found:\n{}", c.times, c.line));
+        }
+    }
+    let patched: Vec<&str> = source.lines().map(|line| CHANGES.iter().find(|c| c.line == line).map_or(line, |c| c.by)).collect();
+    for (i, line) in patched.iter().enumerate().filter(|(_, line)| !line.trim_start().starts_with("//")) {
+        if let Some(call) = LEFT_OUT.iter().find(|call| line.contains(**call)) {
+            fail(format!("{path}:{}: `{call}` is left over: {}", i + 1, line.trim()));
+        }
+    }
+    println!("{}", patched.join("\n"));
+}

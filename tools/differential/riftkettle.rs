@@ -1,0 +1,76 @@
+// The library's C interface (include/riftkettle.h) behind safe functions. This is the one place that knows its signatures.
+use crate::model::Memory;
+
+unsafe extern "C" {
+    fn riftkettle_root(x: f64) -> f64;
+    fn riftkettle_hypot(a: f64, b: f64) -> f64;
+    fn riftkettle_sin(h: f64) -> f64;
+    fn riftkettle_cos(h: f64) -> f64;
+    fn riftkettle_tan(h: f64) -> f64;
+    fn riftkettle_narrow(x: f64) -> f32;
+    fn riftkettle_counts(v: f64, count: *mut i64) -> u32;
+    fn riftkettle_admit(words: *const u16, n: usize, numbers: *const f64, m: usize) -> u32;
+    fn riftkettle_samples(
+        words: *const u16,
+        n: usize,
+        numbers: *const f64,
+        m: usize,
+        samples: *mut f64,
+        k: usize,
+        made: *mut usize,
+    ) -> u32;
+    fn riftkettle_pose(
+        words: *const u16,
+        n: usize,
+        numbers: *const f64,
+        m: usize,
+        samples: *const f64,
+        k: usize,
+        geometry: usize,
+        s: f64,
+        pose: *mut f64,
+    ) -> u32;
+}
+
+pub fn root(x: f64) -> f64 {
+    unsafe { riftkettle_root(x) }
+}
+
+pub fn hypot(a: f64, b: f64) -> f64 {
+    unsafe { riftkettle_hypot(a, b) }
+}
+
+pub fn sin(h: f64) -> f64 {
+    unsafe { riftkettle_sin(h) }
+}
+
+pub fn cos(h: f64) -> f64 {
+    unsafe { riftkettle_cos(h) }
+}
+
+pub fn tan(h: f64) -> f64 {
+    unsafe { riftkettle_tan(h) }
+}
+
+pub fn narrow(x: f64) -> f32 {
+    unsafe { riftkettle_narrow(x) }
+}
+
+pub fn counts(v: f64, count: &mut i64) -> u32 {
+    unsafe { riftkettle_counts(v, count) }
+}
+
+pub fn admit(words: &[u16], numbers: &[f64]) -> u32 {
+    unsafe { riftkettle_admit(words.as_ptr(), words.len(), numbers.as_ptr(), numbers.len()) }
+}
+
+pub fn samples(m: &Memory, samples: &mut [f64], made: &mut usize) -> u32 {
+    let (w, x) = (&m.words, &m.numbers);
+    unsafe { riftkettle_samples(w.as_ptr(), w.len(), x.as_ptr(), x.len(), samples.as_mut_ptr(), samples.len(), made) }
+}
+
+pub fn pose(m: &Memory, samples: &[f64], geometry: usize, s: f64, pose: &mut [f64; 3]) -> u32 {
+    let (w, x) = (&m.words, &m.numbers);
+    let (k, to) = (samples.len(), pose.as_mut_ptr());
+    unsafe { riftkettle_pose(w.as_ptr(), w.len(), x.as_ptr(), x.len(), samples.as_ptr(), k, geometry, s, to) }
+}

@@ -1,0 +1,44 @@
+#!/usr/bin/env bash
+# Compares the library with the published Rust, bit for bit. One command, from any folder:
+#
+#     tools/differential/run.sh [full] [--source DIR] [--archive FILE | --stub] [--seed N] [--only NAME] [--steps N]
+#
+#   full       the full form (minutes); without it the short one (seconds)
+#   --source   the folder with the published road.rs and coords.rs, or with src/ that holds them (default ../shared/docs/src)
+#   --archive  the library to compare (default: target/staticlib/libexports.a, built by `rt staticlib exports`)
+#   --stub     in place of the library, one that answers by the published Rust: a test of the comparison itself
+#   --seed     another run of random inputs (default 1); --only, one comparison by name; --steps, how
+#              many inputs of each
+#
+# The last line says how many results were compared and how many differ. Status 0: none differ.
+set -euo pipefail
+cd "$(dirname "$0")/../.."
+here=tools/differential
+build=target/differential
+
+source=../shared/docs/src
+archive=
+stub=
+pass=()
+while [ $# -gt 0 ]; do
+  case $1 in
+    full) pass+=(full); shift ;;
+    --source) source=$2; shift 2 ;;
+    --archive) archive=$2; shift 2 ;;
+    --stub) stub=yes; shift ;;
+    --seed | --only | --steps) pass+=("$1" "$2"); shift 2 ;;
+    *) echo "run.sh: what is '$1'? See the first lines of $here/run.sh" >&2; exit 2 ;;
+  esac
+done
+
+. "$here/build.sh"
+published "$source"
+library
+choose
+
+gcc -std=c11 -O2 -Wall -Wextra -Werror -pedantic -Iinclude -o "$build/example" examples/c/example.c "$archive" -Wl,-rpath,"$PWD/$build"
+"$build/example" > "$build/example.out"
+diff examples/c/stdout "$build/example.out" >&2 || fail "the C example wrote something else than examples/c/stdout"
+
+program differential "$here/main.rs"
+"$build/differential" "${pass[@]}"

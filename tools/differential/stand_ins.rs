@@ -1,0 +1,99 @@
+// Document 01's stand-ins in Rust, written from 01's "Stand-ins" and "Values". The published source calls them once patched.
+use crate::road::Across;
+use std::cell::Cell;
+
+/// The f64 nearest the exact root. IEEE 754 binds the machine's to that; the comparison holds it against whole numbers.
+#[inline(always)]
+pub fn root(x: f64) -> f64 {
+    x.sqrt()
+}
+
+pub fn hypot(a: f64, b: f64) -> f64 {
+    root(a * a + b * b)
+}
+
+/// n! of each coefficient, exact in f64 up to 16!.
+const fn factorial(n: u64) -> f64 {
+    let (mut product, mut k) = (1u64, 2);
+    while k <= n {
+        product *= k;
+        k += 1;
+    }
+    product as f64
+}
+
+/// -1/15!, 1/13!, .. -1/3!.
+const SINE: [f64; 7] = [
+    -1.0 / factorial(15),
+    1.0 / factorial(13),
+    -1.0 / factorial(11),
+    1.0 / factorial(9),
+    -1.0 / factorial(7),
+    1.0 / factorial(5),
+    -1.0 / factorial(3),
+];
+
+/// 1/16!, -1/14!, .. -1/2!.
+const COSINE: [f64; 8] = [
+    1.0 / factorial(16),
+    -1.0 / factorial(14),
+    1.0 / factorial(12),
+    -1.0 / factorial(10),
+    1.0 / factorial(8),
+    -1.0 / factorial(6),
+    1.0 / factorial(4),
+    -1.0 / factorial(2),
+];
+
+fn horner(coefficients: &[f64], z: f64) -> f64 {
+    coefficients[1..].iter().fold(coefficients[0], |sum, c| sum * z + c)
+}
+
+pub fn sin_cos(h: f64) -> (f64, f64) {
+    if !(-12000.0..=12000.0).contains(&h) {
+        return (f64::NAN, f64::NAN);
+    }
+    let n = (h * f64::from_bits(0x3fe4_5f30_6dc9_c883) + 0.5).floor();
+    let r = (h - n * f64::from_bits(0x3ff9_21fb_5440_0000)) - n * f64::from_bits(0x3dd0_b461_1a62_6331);
+    let z = r * r;
+    let s = r + r * (z * horner(&SINE, z));
+    let c = 1.0 + z * horner(&COSINE, z);
+    match (n as i64).rem_euclid(4) {
+        0 => (s, c),
+        1 => (c, -s),
+        2 => (-s, -c),
+        _ => (-c, s),
+    }
+}
+
+pub fn sin(h: f64) -> f64 {
+    sin_cos(h).0
+}
+
+pub fn cos(h: f64) -> f64 {
+    sin_cos(h).1
+}
+
+pub fn tan(h: f64) -> f64 {
+    let (sin, cos) = sin_cos(h);
+    sin / cos
+}
+
+/// A lane's height at t with the fraction across the lane kept to 0..1, and 0 across a lane of width 0.
+pub(crate) fn kept_height(lane: &Across, t: f64) -> f64 {
+    let width = lane.outer_t - lane.inner_t;
+    let fraction = if width == 0.0 { 0.0 } else { ((t - lane.inner_t) / width).clamp(0.0, 1.0) };
+    lane.inner_height + (lane.outer_height - lane.inner_height) * fraction
+}
+
+thread_local!(static MOVES: Cell<u32> = const { Cell::new(0) });
+
+/// Counts one move of `locate`.
+pub(crate) fn count_move() {
+    MOVES.set(MOVES.get() + 1);
+}
+
+/// The moves since the last call of this.
+pub fn take_moves() -> u32 {
+    MOVES.replace(0)
+}

@@ -1,0 +1,178 @@
+// A library with the C functions of include/riftkettle.h that answers by the published Rust and the second admission. It proves
+// that the comparison works before the library exists, and that it finds a difference: RIFTKETTLE_FAULT names one to put in.
+#[cfg(not(edited))]
+use comparison::admission;
+use comparison::arguments::exact_counts;
+use comparison::model::*;
+use comparison::oracle::Oracle;
+use comparison::stand_ins;
+use std::panic::{AssertUnwindSafe, catch_unwind};
+use std::slice::{from_raw_parts, from_raw_parts_mut};
+use std::sync::OnceLock;
+
+// An edited copy of the second admission, made by self_test.sh.
+#[cfg(edited)]
+#[path = "../../target/differential/edited.rs"]
+mod admission;
+
+fn fault(name: &str) -> bool {
+    static FAULT: OnceLock<String> = OnceLock::new();
+    FAULT.get_or_init(|| std::env::var("RIFTKETTLE_FAULT").unwrap_or_default()) == name
+}
+
+/// One step too far, for one argument in a thousand.
+fn off(name: &str, x: f64, y: f64) -> f64 {
+    if fault(name) && x.to_bits() % 1009 == 0 && y.is_finite() { y.next_up() } else { y }
+}
+
+/// An edited admission may let a road through that cannot be evaluated: a number of no refusal.
+fn guarded(f: impl FnOnce() -> u32) -> u32 {
+    catch_unwind(AssertUnwindSafe(f)).unwrap_or(99)
+}
+
+#[unsafe(no_mangle)]
+pub extern "C" fn riftkettle_root(x: f64) -> f64 {
+    off("root", x, stand_ins::root(x))
+}
+
+#[unsafe(no_mangle)]
+pub extern "C" fn riftkettle_hypot(a: f64, b: f64) -> f64 {
+    if fault("hypot") { a.hypot(b) } else { stand_ins::hypot(a, b) }
+}
+
+#[unsafe(no_mangle)]
+pub extern "C" fn riftkettle_sin(h: f64) -> f64 {
+    if fault("sine range") && h == 12_000.0 { f64::NAN } else { off("sine", h, stand_ins::sin(h)) }
+}
+
+#[unsafe(no_mangle)]
+pub extern "C" fn riftkettle_cos(h: f64) -> f64 {
+    stand_ins::cos(h)
+}
+
+#[unsafe(no_mangle)]
+pub extern "C" fn riftkettle_tan(h: f64) -> f64 {
+    if fault("tan") { h.tan() } else { stand_ins::tan(h) }
+}
+
+#[unsafe(no_mangle)]
+pub extern "C" fn riftkettle_narrow(x: f64) -> f32 {
+    let y = x as f32;
+    let halfway = y.is_finite() && f64::from(y) < x && x - f64::from(y) == f64::from(y.next_up()) - x;
+    if fault("narrow") && halfway { y.next_up() } else { y }
+}
+
+#[unsafe(no_mangle)]
+pub unsafe extern "C" fn riftkettle_counts(v: f64, count: *mut i64) -> u32 {
+    match exact_counts(v) {
+        Ok(n) => unsafe { *count = if fault("counts") { (v * 10_000.0 + 0.5).floor() as i64 } else { n } },
+        Err(number) => return number,
+    }
+    0
+}
+
+/// 01's rule for the samples of one spiral.
+fn pose_of_samples(samples: &[f64], distance: f64) -> [f64; 3] {
+    let (n, last) = (samples.len() / 4, samples[samples.len() - 4]);
+    let ds = if distance < 0.0 { 0.0 } else { distance };
+    let ds = if ds > last { last } else { ds };
+    let rule = |p: &&[f64]| p[0] <= ds;
+    let leading =
+        if fault("leading") { samples.chunks(4).filter(rule).count() } else { samples.chunks(4).take_while(rule).count() };
+    let i = leading.saturating_sub(1).min(n - 2);
+    let (a, b) = (&samples[4 * i..], &samples[4 * i + 4..]);
+    let t = if b[0] > a[0] { (ds - a[0]) / (b[0] - a[0]) } else { 0.0 };
+    [1, 2, 3].map(|k| a[k] + (b[k] - a[k]) * t)
+}
+
+fn admitted(words: &[u16], numbers: &[f64]) -> u32 {
+    let number = admission::admit(words, numbers);
+    // A bank's first a at its limit exactly, all else zero, is taken for too much.
+    let bank = number == 0 && words[2] > 0 && numbers[BANK.at + 1].abs() == 0.75;
+    match number {
+        0 if fault("bank") && bank => 4,
+        4 if fault("rows") && numbers[0].is_nan() => 3,
+        _ => number,
+    }
+}
+
+#[unsafe(no_mangle)]
+pub unsafe extern "C" fn riftkettle_admit(words: *const u16, n: usize, numbers: *const f64, m: usize) -> u32 {
+    let (words, numbers) = unsafe { (from_raw_parts(words, n), from_raw_parts(numbers, m)) };
+    guarded(|| admitted(words, numbers))
+}
+
+#[unsafe(no_mangle)]
+pub unsafe extern "C" fn riftkettle_samples(
+    words: *const u16,
+    n: usize,
+    numbers: *const f64,
+    m: usize,
+    samples: *mut f64,
+    k: usize,
+    made: *mut usize,
+) -> u32 {
+    let (words, numbers, lent) =
+        unsafe { (from_raw_parts(words, n), from_raw_parts(numbers, m), from_raw_parts_mut(samples, k)) };
+    let made = unsafe { &mut *made };
+    guarded(|| make_samples(words, numbers, lent, made))
+}
+
+fn make_samples(words: &[u16], numbers: &[f64], lent: &mut [f64], made: &mut usize) -> u32 {
+    let number = admitted(words, numbers);
+    if number != 0 {
+        return number;
+    }
+    let new = Oracle::new(&Road::read(words, numbers)).samples();
+    if lent.len() < new.len() {
+        if fault("early") && !lent.is_empty() {
+            lent[0] = new[0];
+        }
+        return 6;
+    }
+    lent[..new.len()].copy_from_slice(&new);
+    if fault("tail") && lent.len() > new.len() {
+        lent[new.len()] = 0.0;
+    }
+    *made = new.len() / 4;
+    0
+}
+
+#[unsafe(no_mangle)]
+pub unsafe extern "C" fn riftkettle_pose(
+    words: *const u16,
+    n: usize,
+    numbers: *const f64,
+    m: usize,
+    samples: *const f64,
+    k: usize,
+    geometry: usize,
+    s: f64,
+    pose: *mut f64,
+) -> u32 {
+    let (words, numbers, lent) = unsafe { (from_raw_parts(words, n), from_raw_parts(numbers, m), from_raw_parts(samples, k)) };
+    let pose = unsafe { from_raw_parts_mut(pose, 3) };
+    guarded(|| find_pose(words, numbers, lent, (geometry, s), pose))
+}
+
+fn find_pose(words: &[u16], numbers: &[f64], lent: &[f64], (geometry, s): (usize, f64), pose: &mut [f64]) -> u32 {
+    let number = admitted(words, numbers);
+    if number != 0 {
+        return number;
+    }
+    let needed = admission::samples_of(words, numbers);
+    if lent.len() / 4 < needed.iter().sum() {
+        return 6;
+    }
+    if !(0.0 <= s && s <= numbers[0]) {
+        return 7;
+    }
+    let first: usize = needed[..geometry].iter().sum();
+    let answer = if needed[geometry] > 0 {
+        pose_of_samples(&lent[4 * first..4 * (first + needed[geometry])], s - numbers[GEOM.line(geometry)])
+    } else {
+        Oracle::new(&Road::read(words, numbers)).pose(geometry, s)
+    };
+    pose.copy_from_slice(&answer);
+    0
+}
