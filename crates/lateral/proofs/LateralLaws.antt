@@ -8,10 +8,9 @@ use lib.ListN.{length}
 use lib.Dec.{ltb, eqb}
 use lib.Ieee.{Float, ofBits, neg, lt}
 use borrow.Author.Tests.{lt-ltb, le-ltb, eq-eqb, ne-eqb}
-use Rattle.float_laws.specs.Binary64.{_⊕_, _⊖_, _⊗_, f64, zero64}
+use Rattle.float_laws.specs.Binary64.{_⊕_, _⊖_, _⊗_, _⊘_, f64, zero64}
 use Rattle.records.specs.declared.cubics.Cubic.{Cubic}
 use Rattle.records.specs.declared.points.HeightDef.{HeightDef}
-use Rattle.records.specs.declared.points.StripKind.{StripKind}
 use Rattle.records.specs.declared.points.StripKind.the-variants.{Absent, Absolute, Relative}
 use Rattle.records.specs.declared.scan.Found.{Found}
 use Rattle.records.specs.declared.scan.Found.the-variants.{At, Nothing}
@@ -100,6 +99,13 @@ module _ (road : Road) (s t : Float) (n : ℕ) (count : n ≡ length (road .prof
   unfolding shapeOf
   shape-first e h =
       sym (ap (shapeFrom road s t) (sym place ∙ e) ∙ ap (λ (b : Bool). cond b zero64 (profileHeight road 0 t)) (ne-eqb (length (road .profiles)) 0 (λ z. h (count ∙ z))))
+
+-- straight from the i-th profile to the next, by what was read of both
+pub shape-straight :
+    (road : Road) (i : ℕ) (s t : Float) {from to a b : Float} → from ≡ profileAt road i .s → to ≡ profileAt road (i + 1) .s → a ≡ profileHeight road i t → b ≡ profileHeight road (i + 1) t
+    → a ⊕ (b ⊖ a) ⊗ ((s ⊖ from) ⊘ (to ⊖ from)) ≡ shapeBetween road i s t
+unfolding shapeBetween
+shape-straight road i s t e f g h = rw (e, f, g, h)
 
 module _ (road : Road) (i : ℕ) (t : Float) {cs : List Cubic} {r : Found} (shapes : cs ≡ profileAt road i .shapes) (active : r ≡ activeIn cs t) where
   -- the profile's height by its cubics and the place that was found among them

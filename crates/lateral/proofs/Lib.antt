@@ -1,1 +1,5 @@
 pub mod LateralLaws
+pub mod Fractions
+pub mod StationBounds
+pub mod StripBounds
+pub mod LateralBounds

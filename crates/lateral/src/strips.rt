@@ -9,12 +9,11 @@ use records::cubic_at;
 use records::tshifts;
 use records::value;
 ghost use mathlib.Core.Path.{_≡_};
-ghost use mathlib.Core.Bool.{Bool, cond};
 ghost use Prim.Native.Nat.{_+_, _<_};
 ghost use Rattle.float_laws.specs.Binary64.{absOf};
 ghost use Rattle.records.specs.Active.{activeIn, valueIn};
 ghost use Rattle.records.specs.Roads.{roadOf, stripAt, StripDef, present, columnOf};
-ghost use Rattle.lateral.specs.Lateral.{stripHeight, notBelowZero, pastWidth, byWidth, bySide, isLeft, isPresent, crossBy, crossHeight};
+ghost use Rattle.lateral.specs.Lateral.{stripHeight, notBelowZero, pastWidth, byWidth, bySide, isLeft, isPresent, crossHeight};
 
 pub(crate) fn is_present(words: &[u16], numbers: &[f64], i: usize) -> bool
     ensures { λ r. ⌜ r ≡ isPresent (stripAt (roadOf (now (words .entry)) (now (numbers .entry))) i) ⌝ }

@@ -1,5 +1,6 @@
 -- `shape_between`: what its calls ensure, put together.
-use Rattle.lateral.specs.Lateral.{shapeBetween}
+use Rattle.records.specs.Roads.{roadOf}
+use Rattle.lateral.proofs.LateralLaws.{shape-straight}
 use borrow.Author.Needs.{needs}
 use Rattle.lateral.proofs.profiles.shape_between.Statement.{statement}
 use Rattle.lateral.proofs.profiles.shape_between.Tie as tie
@@ -23,8 +24,9 @@ profile-height-requires-2 : tie.Need-profile-height-requires-2
 profile-height-requires-2 c κs = search needs
 
 returns : tie.Need-returns
-unfolding shapeBetween
-returns c = cc
+returns c =
+    let a = c .before .before .before .before .before .before .args in
+    shape-straight (roadOf (a .words .now) (a .numbers .now)) (a .i) (a .s) (a .t) (c .before .before .before .profile-start .ensures) (c .before .before .profile-start2 .ensures) (c .before .profile-height .ensures) (c .profile-height2 .ensures)
 
 pub shape-between-spec : {M : Type 1} → statement M
 shape-between-spec =

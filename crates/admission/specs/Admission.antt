@@ -1,0 +1,40 @@
+-- Document 01: "A road is admitted when it passes rows 3 to 5", "the road whole and anew", row by row. Every call that takes a road, reading, and the statement on sizes cite this one definition.
+use mathlib.Core.Bool.{Bool, true, _&&_}
+use mathlib.Core.List.{List, [], _∷_}
+use Prim.Native.Nat.{ℕ}
+use lib.Dec.{leb}
+use lib.Ieee.{Float}
+use Rattle.arithmetic.specs.Answer.{Answer, value, refused, Row, row, checked}
+use Rattle.arithmetic.specs.Refusal.{numberOf}
+use Rattle.arithmetic.specs.declared.refusals.Refusal.the-variants.{Structure, Range, SampleBudget}
+use Rattle.records.specs.Roads.{roadOf}
+use Rattle.structure.specs.Structure.{structured}
+use Rattle.structure.specs.Order.{ordered}
+use Rattle.limits.specs.Limits.{limited}
+use Rattle.reference_line.specs.Spiral.{samplesNeeded}
+use Rattle.admission.specs.declared.admitting.Verdict.{Verdict}
+use Rattle.admission.specs.declared.admitting.Verdict.the-variants.{Admitted, Refused}
+
+-- 3 counts, references, order; 4 numbers; 5 samples: each over the whole road
+abbrev pub roadRows : List ℕ → List Float → List Row
+roadRows words numbers =
+    row Structure (structured words numbers && ordered (roadOf words numbers))
+    ∷ row Range (limited (roadOf words numbers))
+    ∷ row SampleBudget (leb (samplesNeeded (roadOf words numbers)) 2000)
+    ∷ []
+
+-- every row passes
+abbrev pub pass : List Row → Bool
+pass [] = true
+pass (r ∷ rs) = r .passes && pass rs
+
+unfoldable pub admissionOf : List ℕ → List Float → Answer (Unit {0})
+admissionOf words numbers = checked (roadRows words numbers) (value tt)
+
+unfoldable pub admitted : List ℕ → List Float → Bool
+admitted words numbers = pass (roadRows words numbers)
+
+-- the number of a refusal
+abbrev pub answerOf : Verdict → Answer (Unit {0})
+answerOf Admitted = value tt
+answerOf (Refused r) = refused (numberOf r)

@@ -1,0 +1,39 @@
+-- Document 01: the samples call, rows 3 to 6. "Samples are the caller's slice, four f64 each .. only whole fours count"; "Samples .. past those written stay unchanged"; a refusal "changes no memory".
+use Prim.Native.Nat.{ℕ, _*_, _/_}
+use mathlib.Core.List.{List, [], _∷_, _++_}
+use lib.ListN.{length, drop}
+use lib.Dec.{leb}
+use lib.Ieee.{Float}
+use Rattle.arithmetic.specs.Answer.{Answer, value, refused, Row, row, checked}
+use Rattle.arithmetic.specs.Refusal.{numberOf}
+use Rattle.arithmetic.specs.declared.refusals.Refusal.the-variants.{SampleSpace}
+use Rattle.records.specs.Roads.{roadOf}
+use Rattle.reference_line.specs.Spiral.{samplesNeeded, samplesOf}
+use Rattle.admission.specs.declared.sampling.Sampled.{Sampled}
+use Rattle.admission.specs.declared.sampling.Sampled.the-variants.{Made, Refused}
+use Rattle.admission.specs.Admission.{roadRows}
+
+module _ (words : List ℕ) (numbers : List Float) where
+  abbrev pub needed : ℕ
+  needed = samplesNeeded (roadOf words numbers)
+
+  -- row 6: a slice of len f64 holds enough whole fours
+  abbrev pub sampleRow : ℕ → Row
+  sampleRow len = row SampleSpace (leb needed (len / 4))
+
+  -- how many samples are written, or the refusal
+  unfoldable pub sampledOf : ℕ → Answer ℕ
+  sampledOf len = checked (roadRows words numbers ++ (sampleRow len ∷ [])) (value needed)
+
+  abbrev pub writtenBy : Answer ℕ → List Float → List Float
+  writtenBy (value n) xs = samplesOf (roadOf words numbers) ++ drop (4 * n) xs
+  writtenBy (refused n) xs = xs
+
+  -- the slice afterwards
+  unfoldable pub sampledList : List Float → List Float
+  unfolding sampledOf
+  sampledList xs = writtenBy (sampledOf (length xs)) xs
+
+abbrev pub answerOf : Sampled → Answer ℕ
+answerOf (Made n) = value n
+answerOf (Refused r) = refused (numberOf r)

@@ -1,0 +1,7 @@
+pub mod CheckLaws
+pub mod Fitting
+pub mod ActiveRecord
+pub mod LimitParts
+pub mod CubicBounds
+pub mod GreatestBounds
+pub mod RoadBounds

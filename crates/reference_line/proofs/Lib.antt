@@ -1,0 +1,4 @@
+pub mod SpiralLaws
+pub mod SpiralFirst
+pub mod SpiralExamples
+pub mod PoseLaws

@@ -1,0 +1,22 @@
+-- What `sin_cos` gives of the two headings, put in its place.
+use Rattle.reference_line.specs.Poses.{arcPose}
+use borrow.Author.Needs.{needs}
+use Rattle.reference_line.proofs.posing.arc_pose.Statement.{statement}
+use Rattle.reference_line.proofs.posing.arc_pose.Tie as tie
+
+sin-cos-requires : tie.Need-sin-cos-requires
+sin-cos-requires c κs = search needs
+
+sin-cos-requires-2 : tie.Need-sin-cos-requires-2
+sin-cos-requires-2 c κs = search needs
+
+returns : tie.Need-returns
+unfolding arcPose
+returns c =
+    let from = c .before .before .before .before .before .before in
+    let a = from .sin-cos2 .ensures in
+    let b = from .before .sin-cos .ensures in
+    rw (a .0, a .1, b .0, b .1)
+
+pub arc-pose-spec : {M : Type 1} → statement M
+arc-pose-spec = tie.close (tie.spec sin-cos-requires sin-cos-requires-2 returns)

@@ -1,0 +1,15 @@
+-- What `sin_cos` gives of the heading, put in its place.
+use Rattle.reference_line.specs.Poses.{linePose}
+use borrow.Author.Needs.{needs}
+use Rattle.reference_line.proofs.posing.line_pose.Statement.{statement}
+use Rattle.reference_line.proofs.posing.line_pose.Tie as tie
+
+sin-cos-requires : tie.Need-sin-cos-requires
+sin-cos-requires c κs = search needs
+
+returns : tie.Need-returns
+unfolding linePose
+returns c = cc
+
+pub line-pose-spec : {M : Type 1} → statement M
+line-pose-spec = tie.close (tie.spec sin-cos-requires returns)

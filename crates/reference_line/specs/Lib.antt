@@ -1,0 +1,2 @@
+pub mod Spiral
+pub mod Poses

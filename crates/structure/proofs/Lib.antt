@@ -1,0 +1,5 @@
+pub mod OrderLaws
+pub mod OrderTests
+pub mod StructureLaws
+pub mod TestLaws
+pub mod WordLaws
