@@ -1,0 +1,6 @@
+pub mod BorderSteps
+pub mod NamingSteps
+pub mod LaneExamples
+pub mod Outward
+pub mod BorderLaws
+pub mod RaisingSteps

@@ -1,0 +1,203 @@
+// Where the lanes of a section lie across the road. A side is left or right of the center; its lanes count from the center outward.
+use crate::across::LaneBorders;
+use lane_records::extents;
+use lane_records::lane_is_border;
+use lane_records::left_count;
+use lane_records::right_count;
+use lane_records::section_start;
+use records::Found;
+use records::active;
+use records::cubic_at;
+use records::offsets;
+use records::value;
+ghost use mathlib.Core.Path.{_≡_};
+ghost use mathlib.Core.Bool.{true, false};
+ghost use mathlib.Core.List.{_++_};
+ghost use Prim.Native.Nat.{_+_, _*_, _<_, _≤_};
+ghost use lib.ListN.{length, take, drop};
+ghost use Rattle.records.specs.Cubics.{cubicsOf};
+ghost use Rattle.records.specs.Active.{activeIn};
+ghost use Rattle.records.specs.Roads.{Lane, roadOf, laneOf};
+ghost use Rattle.lateral.specs.Lateral.{notBelowZero};
+ghost use Rattle.lanes.specs.Borders.{signOf, borderWidth, widthOf, outerAfter, bordersFrom, bordersAt, baseAt, sideOf, bordersOf, sideList, borderList};
+
+// The t of the center.
+pub fn base_at(words: &[u16], numbers: &[f64], s: f64) -> f64
+    ensures { λ r. ⌜ r ≡ baseAt (roadOf (now (words .entry)) (now (numbers .entry))) s ⌝ }
+{
+    value(offsets(words, numbers), s)
+}
+
+// How many lanes a side has.
+pub fn lane_count(words: &[u16], numbers: &[f64], section: usize, right: bool) -> usize
+    ensures { λ r. ⌜ r ≡ length (sideOf (roadOf (now (words .entry)) (now (numbers .entry))) section right) ⌝ }
+    ensures small { λ r. ⌜ r < 65536 ⌝ }
+{
+    if right {
+        right_count(words, numbers, section)
+    } else {
+        left_count(words, numbers, section)
+    }
+}
+
+// Which way a side's lanes stack.
+pub(crate) fn sign_of(right: bool) -> f64
+    ensures { λ r. ⌜ r ≡ signOf right ⌝ }
+{
+    if right { -1.0 } else { 1.0 }
+}
+
+fn not_below_zero(w: f64) -> f64
+    ensures { λ r. ⌜ r ≡ notBelowZero w ⌝ }
+{
+    if w > 0.0 { w } else { 0.0 }
+}
+
+// From the inner border to the active border record's t, no width where none is active.
+fn border_width(part: &[f64], sign: f64, inner: f64, s: f64) -> f64
+    ensures { λ r. ⌜ ((lane : Lane) → cubicsOf (now (part .entry)) ≡ lane .extents → r ≡ borderWidth lane sign inner s (activeIn (lane .extents) s)) ⌝ }
+{
+    match active(part, s) {
+        Found::At(i) => {
+            let c = cubic_at(part, i);
+            sign * (c.eval(s) - inner)
+        }
+        Found::Nothing => 0.0,
+    }
+}
+
+// The k-th lane's width, s metres into its section.
+fn lane_width(
+    words: &[u16],
+    numbers: &[f64],
+    section: usize,
+    s: f64,
+    right: bool,
+    k: usize,
+    inner: f64,
+) -> f64
+    ensures { λ r. ⌜ r ≡ widthOf (laneOf (roadOf (now (words .entry)) (now (numbers .entry))) section right k) (signOf right) inner s ⌝ }
+{
+    let part = extents(words, numbers, section, right, k);
+    if lane_is_border(words, numbers, section, right, k) {
+        not_below_zero(border_width(part, sign_of(right), inner, s))
+    } else {
+        not_below_zero(value(part, s))
+    }
+}
+
+// The k-th lane's borders from its inner one, s metres into its section: one step outward, for callers that go over all lanes of a side.
+pub fn next_border(
+    words: &[u16],
+    numbers: &[f64],
+    section: usize,
+    s: f64,
+    right: bool,
+    k: usize,
+    inner: f64,
+) -> LaneBorders
+    ensures { λ r. ⌜ r ≡ bordersFrom (laneOf (roadOf (now (words .entry)) (now (numbers .entry))) section right k) (signOf right) inner s ⌝ }
+{
+    let width = lane_width(words, numbers, section, s, right, k, inner);
+    LaneBorders {
+        inner,
+        outer: inner + sign_of(right) * width,
+        width,
+    }
+}
+
+// The outer border after n lanes of a side, s metres into its section.
+fn outer_after(
+    words: &[u16],
+    numbers: &[f64],
+    section: usize,
+    s: f64,
+    right: bool,
+    n: usize,
+    base: f64,
+) -> f64
+    ensures { λ r. ⌜ r ≡ outerAfter (sideOf (roadOf (now (words .entry)) (now (numbers .entry))) section right) (signOf right) base s n ⌝ }
+{
+    let mut t = base;
+    let mut k = 0;
+    while k < n {
+        let b = next_border(words, numbers, section, s, right, k, t);
+        t = b.outer;
+        k += 1;
+    }
+    t
+}
+
+// The k-th lane's borders at s: where the lane before it ends, and its width from there.
+pub fn lane_borders(
+    words: &[u16],
+    numbers: &[f64],
+    section: usize,
+    s: f64,
+    right: bool,
+    k: usize,
+) -> LaneBorders
+    ensures { λ r. ⌜ r ≡ bordersOf (roadOf (now (words .entry)) (now (numbers .entry))) section s right k ⌝ }
+{
+    let into = s - section_start(words, numbers, section);
+    let base = base_at(words, numbers, s);
+    let inner = outer_after(words, numbers, section, into, right, k, base);
+    next_border(words, numbers, section, into, right, k, inner)
+}
+
+// Writes a side's n lanes into the list from a place on, three numbers a lane.
+fn write_side(
+    words: &[u16],
+    numbers: &[f64],
+    section: usize,
+    s: f64,
+    right: bool,
+    base: f64,
+    list: &mut [f64],
+    first: usize,
+    n: usize,
+)
+    requires { ⌜ first + n * 3 ≤ length (now list) ⌝ }
+    ensures { λ _. ⌜ now (list .exit) ≡ (take first (now (list .entry)) ++ sideList (bordersAt (sideOf (roadOf (now (words .entry)) (now (numbers .entry))) section right) (signOf right) base s) n) ++ drop (first + n * 3) (now (list .entry)) ⌝ }
+{
+    let mut inner = base;
+    let mut k = 0;
+    while k < n {
+        let b = next_border(words, numbers, section, s, right, k, inner);
+        let at = first + k * 3;
+        list[at] = b.inner;
+        list[at + 1] = b.outer;
+        list[at + 2] = b.width;
+        inner = b.outer;
+        k += 1;
+    }
+}
+
+// Writes the borders of a section's lanes at s, left outward, then right, and leaves the rest of the list.
+pub(crate) fn write_borders(
+    words: &[u16],
+    numbers: &[f64],
+    section: usize,
+    s: f64,
+    list: &mut [f64],
+)
+    requires { ⌜ (length (sideOf (roadOf (now words) (now numbers)) section false) + length (sideOf (roadOf (now words) (now numbers)) section true)) * 3 ≤ length (now list) ⌝ }
+    ensures { λ _. ⌜ now (list .exit) ≡ borderList (roadOf (now (words .entry)) (now (numbers .entry))) section s ++ drop (length (borderList (roadOf (now (words .entry)) (now (numbers .entry))) section s)) (now (list .entry)) ⌝ }
+{
+    let into = s - section_start(words, numbers, section);
+    let base = base_at(words, numbers, s);
+    let left = lane_count(words, numbers, section, false);
+    let right = lane_count(words, numbers, section, true);
+    write_side(words, numbers, section, into, false, base, list, 0, left);
+    write_side(
+        words,
+        numbers,
+        section,
+        into,
+        true,
+        base,
+        list,
+        left * 3,
+        right,
+    );
+}
