@@ -16,5 +16,4 @@ pub mod SineKernel
 pub mod SineLaws
 pub mod SineExamples
 pub mod CountLaws
-pub mod MarkedHold
 pub mod UnitLaws

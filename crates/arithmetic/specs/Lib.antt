@@ -6,4 +6,3 @@ pub mod Sine
 pub mod Refusal
 pub mod Answer
 pub mod Count
-pub mod Marked
