@@ -1,0 +1,105 @@
+-- Words and numbers, one byte at a time: a law for each way out of the loops that read them, and that one digit more fits 64 bits.
+use Prim.Native.Nat.{ℕ, suc, _+_, _-_, _*_, _^_, _<_, _≤_}
+use mathlib.Core.Path.{_≡_}
+use mathlib.Core.List.{List}
+use native.Mathlib.Numerals.{add-one}
+use native.Mathlib.Nat.{pow-suc, pow-le-pow-right, mul-le-mul-right, suc-mul}
+use native.Mathlib.Omega.{arith}
+use borrow.Author.Tests.{eq-eqb, ne-eqb, le-leb, lt-leb}
+use Rattle.cells.specs.Cells.{digitOf, byteAt, span, nameFrom, nameAt, decimalFrom, naturalAt, hexFrom, hexAt}
+use Rattle.cells.specs.declared.values.Cell.the-variants.{Value, Broken}
+
+-- one digit more, at any base
+pub more-below : (b n v d : ℕ) → v < b ^ n → d < b → v * b + d < b ^ (n + 1)
+more-below b n v d k l =
+    rw (add-one, pow-suc) (below (b ^ n) k)
+  where
+    below : (p : ℕ) → v < p → v * b + d < p * b
+    below p q = let m : suc v * b ≤ p * b = mul-le-mul-right b q in omega (arith, m, suc-mul v b)
+
+-- a word: byte n of eight at most
+module _ (text : List ℕ) (from n v : ℕ) {b : ℕ} (e : b ≡ byteAt text (from + n)) (l : n < 8) where
+  step : 8 - n ≡ suc (8 - (n + 1))
+  step = omega arith
+
+  pub name-stop : b ≤ 32 → nameFrom (8 - n) text (from + n) v ≡ span v (from + n)
+  unfolding nameFrom
+  name-stop h = rw (step, ← e, le-leb b 32 h)
+
+  pub name-next : 32 < b → nameFrom (8 - n) text (from + n) v ≡ nameFrom (8 - (n + 1)) text (from + (n + 1)) (v * 256 + b)
+  unfolding nameFrom
+  name-next h =
+      let q : from + n + 1 ≡ from + (n + 1) = omega arith in
+      rw (step, ← e, lt-leb b 32 h, q)
+
+pub name-whole : (text : List ℕ) (from n v : ℕ) → 8 ≤ n → nameFrom (8 - n) text (from + n) v ≡ span v (from + n)
+unfolding nameFrom
+name-whole text from n v h = let z : 8 - n ≡ 0 = omega arith in rw z
+
+pub name-is : (text : List ℕ) (from : ℕ) → nameAt text from ≡ nameFrom (8 - 0) text (from + 0) 0
+unfolding nameAt
+name-is text from = let z : from + 0 ≡ from = omega arith in rw z
+
+-- a decimal number: digit n of four at most
+module _ (text : List ℕ) (from n v : ℕ) {b d : ℕ} (e : b ≡ byteAt text (from + n)) (f : d ≡ digitOf b) (l : n < 4) where
+  step4 : 4 - n ≡ suc (4 - (n + 1))
+  step4 = omega arith
+
+  pub decimal-stop : 10 ≤ d → decimalFrom (4 - n) text (from + n) v ≡ span v (from + n)
+  unfolding decimalFrom
+  decimal-stop h = rw (step4, ← e, ← f, le-leb 10 d h)
+
+  pub decimal-next : d < 10 → decimalFrom (4 - n) text (from + n) v ≡ decimalFrom (4 - (n + 1)) text (from + (n + 1)) (v * 10 + d)
+  unfolding decimalFrom
+  decimal-next h =
+      let q : from + n + 1 ≡ from + (n + 1) = omega arith in
+      rw (step4, ← e, ← f, lt-leb 10 d h, q)
+
+pub decimal-whole : (text : List ℕ) (from n v : ℕ) → 4 ≤ n → decimalFrom (4 - n) text (from + n) v ≡ span v (from + n)
+unfolding decimalFrom
+decimal-whole text from n v h = let z : 4 - n ≡ 0 = omega arith in rw z
+
+module _ (text : List ℕ) (from : ℕ) {b : ℕ} (e : b ≡ byteAt text from) where
+  pub natural-zero : b ≡ 48 → naturalAt text from ≡ span 0 (from + 1)
+  unfolding naturalAt
+  natural-zero h = rw (← e, eq-eqb b 48 h)
+
+  pub natural-is : (b ≡ 48 → ⊥) → naturalAt text from ≡ decimalFrom (4 - 0) text (from + 0) 0
+  unfolding naturalAt
+  natural-is h = let z : from + 0 ≡ from = omega arith in rw (← e, ne-eqb b 48 h, z)
+
+-- an f64: digit n of sixteen
+module _ (text : List ℕ) (from n v : ℕ) {b d : ℕ} (e : b ≡ byteAt text (from + n)) (f : d ≡ digitOf b) (l : n < 16) where
+  step16 : 16 - n ≡ suc (16 - (n + 1))
+  step16 = omega arith
+
+  pub hex-stop : 16 ≤ d → hexFrom (16 - n) text (from + n) v ≡ Broken
+  unfolding hexFrom
+  hex-stop h = rw (step16, ← e, ← f, le-leb 16 d h)
+
+  pub hex-next : d < 16 → hexFrom (16 - n) text (from + n) v ≡ hexFrom (16 - (n + 1)) text (from + (n + 1)) (v * 16 + d)
+  unfolding hexFrom
+  hex-next h =
+      let q : from + n + 1 ≡ from + (n + 1) = omega arith in
+      rw (step16, ← e, ← f, lt-leb 16 d h, q)
+
+pub hex-whole : (text : List ℕ) (from n v : ℕ) → 16 ≤ n → hexFrom (16 - n) text (from + n) v ≡ Value v (from + n)
+unfolding hexFrom
+hex-whole text from n v h = let z : 16 - n ≡ 0 = omega arith in rw z
+
+pub hex-is : (text : List ℕ) (from : ℕ) → hexAt text from ≡ hexFrom (16 - 0) text (from + 0) 0
+unfolding hexAt
+hex-is text from = let z : from + 0 ≡ from = omega arith in rw z
+
+-- a digit more fits in 64 bits
+pub fits : (b n m v d : ℕ) → n < m → 0 < b → b ^ m ≤ 2 ^ 64 → v < b ^ n → d < b → v * b + d < 2 ^ 64
+fits b n m v d h o top k l =
+    let p : b ^ (n + 1) ≤ b ^ m = pow-le-pow-right o (omega arith) in
+    let q = more-below b n v d k l in
+    omega (arith, p, q, top)
+
+pub four-digits : (n v : ℕ) → n ≤ 4 → v < 10 ^ n → v < 10000
+four-digits n v h k =
+    let o : 0 < 10 = omega arith in
+    let p : 10 ^ n ≤ 10 ^ 4 = pow-le-pow-right o h in
+    omega (arith, p, k)

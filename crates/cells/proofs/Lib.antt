@@ -1,0 +1,4 @@
+pub mod Inside
+pub mod Places
+pub mod Digits
+pub mod CellCases

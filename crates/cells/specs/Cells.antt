@@ -1,0 +1,72 @@
+-- Document 01, "The job text": the cells of a line. "An f64 is its 16 lowercase hexadecimal digits; a whole number is decimal, up to 4 digits,
+-- no leading zeros, `-` if negative. A word outside a column's listed ones is 1." Read `cellAt` first, at the end.
+-- A cell ends where its digits or its word end; that a space or an LF stands there is the line's rule and is tested by the line.
+use Prim.Native.Nat.{ℕ, zero, suc, _+_, _-_, _*_}
+use mathlib.Core.Bool.{cond}
+use mathlib.Core.List.{List}
+use lib.ListN.{getD}
+use lib.Dec.{leb, ltb, eqb}
+use Rattle.cells.specs.Schema.{countOf, placeOf}
+use Rattle.cells.specs.declared.names.Span.{Span}
+use Rattle.cells.specs.declared.values.Cell.{Cell}
+use Rattle.cells.specs.declared.values.Cell.the-variants.{Value, Broken}
+
+-- the text past its end has the byte 0, which is no digit, no space and no LF
+abbrev pub byteAt : List ℕ → ℕ → ℕ
+byteAt text i = getD text i 0
+
+-- the value of a digit, 0-9 or a-f; 16 for any other byte
+unfoldable pub digitOf : ℕ → ℕ
+digitOf b =
+    cond (ltb b 48) 16 (cond (leb b 57) (b - 48) (cond (ltb b 97) 16 (cond (leb b 102) (b - 87) 16)))
+
+abbrev pub span : ℕ → ℕ → Span
+span v at = record { value = v; next = at }
+
+-- A word: its bytes up to a space, an LF or the end, at most eight, as one number, base 256. No byte of it is 0, so the number tells the word.
+unfoldable pub nameFrom : ℕ → List ℕ → ℕ → ℕ → Span
+nameFrom zero text at v = span v at
+nameFrom (suc n) text at v =
+    cond (leb (byteAt text at) 32) (span v at) (nameFrom n text (at + 1) (v * 256 + byteAt text at))
+
+unfoldable pub nameAt : List ℕ → ℕ → Span
+nameAt text at = nameFrom 8 text at 0
+
+-- "decimal, up to 4 digits, no leading zeros": a number that begins with 0 is 0 and ends there
+unfoldable pub decimalFrom : ℕ → List ℕ → ℕ → ℕ → Span
+decimalFrom zero text at v = span v at
+decimalFrom (suc n) text at v =
+    cond (leb 10 (digitOf (byteAt text at))) (span v at) (decimalFrom n text (at + 1) (v * 10 + digitOf (byteAt text at)))
+
+unfoldable pub naturalAt : List ℕ → ℕ → Span
+naturalAt text at = cond (eqb (byteAt text at) 48) (span 0 (at + 1)) (decimalFrom 4 text at 0)
+
+-- A whole number n is kept as 10,000 + n, which is not negative. "`-` if negative": zero is not, so `-0` is broken, and so is `-` alone; no digit at all is.
+abbrev pub negative : Span → Cell
+negative n = cond (eqb (n .value) 0) Broken (Value (10000 - n .value) (n .next))
+
+abbrev pub positive : ℕ → Span → Cell
+positive at n = cond (eqb (n .next) at) Broken (Value (10000 + n .value) (n .next))
+
+unfoldable pub wholeAt : List ℕ → ℕ → Cell
+wholeAt text at = cond (eqb (byteAt text at) 45) (negative (naturalAt text (at + 1))) (positive at (naturalAt text at))
+
+-- "An f64 is its 16 lowercase hexadecimal digits": its bit pattern, kept as a number
+unfoldable pub hexFrom : ℕ → List ℕ → ℕ → ℕ → Cell
+hexFrom zero text at v = Value v at
+hexFrom (suc n) text at v =
+    cond (leb 16 (digitOf (byteAt text at))) Broken (hexFrom n text (at + 1) (v * 16 + digitOf (byteAt text at)))
+
+unfoldable pub hexAt : List ℕ → ℕ → Cell
+hexAt text at = hexFrom 16 text at 0
+
+-- one of a list's words, kept as its place there
+abbrev pub listedBy : ℕ → Span → Cell
+listedBy list w = cond (ltb (placeOf list (w .value)) (countOf list)) (Value (placeOf list (w .value)) (w .next)) Broken
+
+unfoldable pub listedAt : List ℕ → ℕ → ℕ → Cell
+listedAt text at list = listedBy list (nameAt text at)
+
+-- a cell by its column's kind: 0 an f64, 1 a whole number, else one of that list's words
+unfoldable pub cellAt : List ℕ → ℕ → ℕ → Cell
+cellAt text at kind = cond (eqb kind 0) (hexAt text at) (cond (eqb kind 1) (wholeAt text at) (listedAt text at kind))

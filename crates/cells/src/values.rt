@@ -1,0 +1,107 @@
+// The cells of a line: an f64, a whole number, one of a list's words.
+ghost use mathlib.Core.Path.{_≡_};
+ghost use Prim.Native.Nat.{_<_};
+ghost use Rattle.cells.specs.Cells.{naturalAt, hexAt, wholeAt, listedAt, cellAt};
+use crate::bytes::byte_at;
+use crate::bytes::digit;
+use crate::names::Span;
+use crate::names::name_at;
+use crate::schema::count_of;
+use crate::schema::place_of;
+
+// A cell as one number: an f64's bit pattern, a whole number and 10,000, or a word's place in its list.
+pub enum Cell {
+    // the number, and the place after the cell
+    Value(u64, usize),
+    Broken,
+}
+
+// The decimal number at a place, up to four digits; a 0 stands alone.
+fn natural_at(text: &[u8], at: usize) -> Span
+    ensures { λ r. ⌜ (r ≡ naturalAt (now (text .entry)) at) × (r .value < 10000) ⌝ }
+{
+    let mut value: u64 = 0;
+    let mut n = 0;
+    if byte_at(text, at) == 48 {
+        return Span {
+            value,
+            next: at + 1,
+        };
+    }
+    while n < 4 {
+        let d = digit(byte_at(text, at + n));
+        if 10 <= d {
+            return Span {
+                value,
+                next: at + n,
+            };
+        }
+        value = value * 10 + d;
+        n += 1;
+    }
+    Span {
+        value,
+        next: at + n,
+    }
+}
+
+// Sixteen hexadecimal digits.
+fn hex_at(text: &[u8], at: usize) -> Cell
+    ensures { λ r. ⌜ r ≡ hexAt (now (text .entry)) at ⌝ }
+{
+    let mut value: u64 = 0;
+    let mut n = 0;
+    while n < 16 {
+        let d = digit(byte_at(text, at + n));
+        if 16 <= d {
+            return Cell::Broken;
+        }
+        value = value * 16 + d;
+        n += 1;
+    }
+    Cell::Value(value, at + n)
+}
+
+// A whole number, 10,000 added.
+fn whole_at(text: &[u8], at: usize) -> Cell
+    ensures { λ r. ⌜ r ≡ wholeAt (now (text .entry)) at ⌝ }
+{
+    if byte_at(text, at) == 45 {
+        let n = natural_at(text, at + 1);
+        if n.value == 0 {
+            return Cell::Broken;
+        }
+        return Cell::Value(10000 - n.value, n.next);
+    }
+    let n = natural_at(text, at);
+    if n.next == at {
+        return Cell::Broken;
+    }
+    Cell::Value(10000 + n.value, n.next)
+}
+
+// A word of a list, as its place there.
+fn listed_at(text: &[u8], at: usize, list: usize) -> Cell
+    ensures { λ r. ⌜ r ≡ listedAt (now (text .entry)) at list ⌝ }
+{
+    let w = name_at(text, at);
+    let i = place_of(list, w.value);
+    if i < count_of(list) as usize {
+        Cell::Value(i as u64, w.next)
+    } else {
+        Cell::Broken
+    }
+}
+
+// The cell at a place, by what its column holds. What stands after it is the caller's to test.
+pub fn cell_at(text: &[u8], at: usize, kind: u8) -> Cell
+    ensures { λ r. ⌜ r ≡ cellAt (now (text .entry)) at kind ⌝ }
+{
+    if kind == 0 {
+        return hex_at(text, at);
+    }
+    if kind == 1 {
+        return whole_at(text, at);
+    }
+    listed_at(text, at, kind as usize)
+}

@@ -1,0 +1,6 @@
+pub mod Powers
+pub mod Geometry
+pub mod SampleBounds
+pub mod SampleRise
+pub mod PoseBounds
+pub mod Admitted

@@ -1,0 +1,3 @@
+pub mod Past
+pub mod Heads
+pub mod Rows

@@ -1,0 +1,28 @@
+-- Past the eighth place `set` changes nothing.
+use mathlib.Core.Path.{_≡_}
+use Prim.Native.Nat.{_≤_, _-_}
+use native.Mathlib.Omega.{arith}
+use lib.ListN.{length}
+use Rattle.rows.proofs.Past.{set-past}
+use borrow.Author.Needs.{needs}
+use Rattle.rows.proofs.columns.valued.Statement.{statement}
+use Rattle.rows.proofs.columns.valued.Tie as tie
+
+mul-r : tie.Need-mul-r
+mul-r c = search needs
+
+element-write-r : tie.Need-element-write-r
+element-write-r c = search needs
+
+returns : tie.Need-returns
+returns c = search needs
+
+returns-2 : tie.Need-returns-2
+returns-2 c =
+    let a = c .before .args in
+    let q : length (a .cells .of) ≡ 8 = search needs in
+    let h : length (a .cells .of) ≤ a .column = omega (arith, q) in
+    rw (set-past (a .cells .of) (a .column) (a .v) h)
+
+pub valued-spec : {M : Type 1} → statement M
+valued-spec = tie.close (tie.spec mul-r element-write-r returns returns-2)

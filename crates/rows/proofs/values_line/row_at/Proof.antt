@@ -1,0 +1,120 @@
+-- The invariant: the cells read on from cell i give the whole line. The byte that stops a cell stands in the text, so the place after it fits.
+use mathlib.Core.Path.{_≡_, sym, _∙_}
+use Prim.Native.Nat.{_≤_, _-_}
+use native.Mathlib.Omega.{arith}
+use Rattle.rows.specs.ValuesLine.{rowFrom, rowAt}
+use Rattle.rows.proofs.Rows.{row-is, row-end, row-broken, row-stop, row-next, stop-inside}
+use borrow.Author.Needs.{needs}
+use Rattle.rows.proofs.values_line.row_at.Statement.{statement}
+use Rattle.rows.proofs.values_line.row_at.Tie as tie
+
+abbrev Inv-loop : tie.InvT-loop
+Inv-loop text at table order n values₀ p₀ i₀ values p i = (i ≤ n) × (rowAt text at table order ≡ rowFrom (n - i) text p table order i values)
+
+abbrev μ-loop : tie.MeasureT-loop
+μ-loop text at table order n values₀ p₀ i₀ values p i = n - i
+
+count-of-requires : tie.Need-count-of-requires Inv-loop μ-loop
+count-of-requires c κs = search needs
+
+cast-n : tie.Need-cast-n Inv-loop μ-loop
+cast-n c = search needs
+
+no-cells-requires : tie.Need-no-cells-requires Inv-loop μ-loop
+no-cells-requires c κs = search needs
+
+loop-holds : tie.Need-loop-holds Inv-loop μ-loop
+loop-holds c = let a = c .before .before .before .args in (search needs, row-is (a .text .now) (a .at) (a .table) (a .order) (c .before .count-of .ensures) (c .no-cells .ensures))
+
+column-of-requires : tie.Need-column-of-requires Inv-loop μ-loop
+column-of-requires c κs = search needs
+
+cast-column : tie.Need-cast-column Inv-loop μ-loop
+cast-column c = search needs
+
+kind-of-requires : tie.Need-kind-of-requires Inv-loop μ-loop
+kind-of-requires c κs = search needs
+
+cell-at-requires : tie.Need-cell-at-requires Inv-loop μ-loop
+cell-at-requires c κs = search needs
+
+enum-known-cell : tie.Need-enum-known-cell Inv-loop μ-loop
+enum-known-cell c = search needs
+
+enum-told : tie.Need-enum-told Inv-loop μ-loop
+enum-told c = search needs
+
+no-row-requires : tie.Need-no-row-requires Inv-loop μ-loop
+no-row-requires c κs = search needs
+
+returns : tie.Need-returns Inv-loop μ-loop
+returns c =
+    let a = c .before .before .before .before .before .before .before .before .before .before .before .args in let at = c .before .before .before .before .before .before .before .loop in
+    c .no-row .ensures ∙ sym (at .inv .1 ∙ row-broken (a .text .now) (at .p) (a .table) (a .order) (at .i) _ (at .values) (c .before .before .before .before .before .column-of .ensures) (c .before .before .before .before .kind-of .ensures) (c .before .before .before .cell-at .ensures) (c .before .before .before .before .before .before .loop-test .taken) (c .before .enum-told .given .1))
+
+add-i : tie.Need-add-i Inv-loop μ-loop
+add-i c = search needs
+
+byte-at-requires : tie.Need-byte-at-requires Inv-loop μ-loop
+byte-at-requires c κs = search needs
+
+stop-of-requires : tie.Need-stop-of-requires Inv-loop μ-loop
+stop-of-requires c κs = search needs
+
+no-row-requires-2 : tie.Need-no-row-requires-2 Inv-loop μ-loop
+no-row-requires-2 c κs = search needs
+
+returns-2 : tie.Need-returns-2 Inv-loop μ-loop
+returns-2 c =
+    let a = c .before .before .before .before .before .before .before .before .before .before .before .before .before .before .before .args in let at = c .before .before .before .before .before .before .before .before .before .before .before .loop in
+    c .no-row2 .ensures ∙ sym (at .inv .1 ∙ row-stop (a .text .now) (at .p) (a .table) (a .order) (at .i) _ (at .values) (c .before .before .before .before .before .before .before .before .before .column-of .ensures) (c .before .before .before .before .before .before .before .before .kind-of .ensures) (c .before .before .before .before .before .before .before .cell-at .ensures) (c .before .before .before .before .before .before .before .before .before .before .loop-test .taken) (c .before .before .before .before .before .cell .given .1) (c .before .before .before .byte-at .ensures) (c .before .before .stop-of .ensures) (c .before .if1 .taken))
+
+valued-requires : tie.Need-valued-requires Inv-loop μ-loop
+valued-requires c κs = search needs
+
+add-p : tie.Need-add-p Inv-loop μ-loop
+add-p c = let h = stop-inside (c .before .before .before .before .before .before .before .before .before .before .before .before .before .before .before .args .text .now) _ _ (c .before .before .before .byte-at .ensures) (c .before .before .stop-of .ensures) (c .before .if1 .left) in record { fits = omega (arith, h) }
+
+loop-less : tie.Need-loop-less Inv-loop μ-loop
+loop-less c = search needs
+
+loop-again : tie.Need-loop-again Inv-loop μ-loop
+loop-again c =
+    let a = c .before .before .before .before .before .before .before .before .before .before .before .before .before .before .before .args in let at = c .before .before .before .before .before .before .before .before .before .before .before .loop in (
+      search needs,
+      at .inv .1 ∙ row-next (a .text .now) (at .p) (a .table) (a .order) (at .i) _ (at .values) (c .before .before .before .before .before .before .before .before .before .column-of .ensures) (c .before .before .before .before .before .before .before .before .kind-of .ensures) (c .before .before .before .before .before .before .before .cell-at .ensures) (c .before .before .before .before .before .before .before .before .before .before .loop-test .taken) (c .before .before .before .before .before .cell .given .1) (c .before .before .before .byte-at .ensures) (c .before .before .stop-of .ensures) (c .before .if1 .left) (c .valued .ensures),
+    )
+
+returns-3 : tie.Need-returns-3 Inv-loop μ-loop
+returns-3 c =
+    let a = c .before .before .before .before .before .args in let at = c .before .loop in
+    sym (at .inv .1 ∙ row-end (a .text .now) (at .p) (a .table) (a .order) (at .i) _ (at .values) (c .loop-test .left))
+
+pub row-at-spec : {M : Type 1} → statement M
+row-at-spec =
+    tie.close
+    (tie.spec
+    Inv-loop
+    μ-loop
+    count-of-requires
+    cast-n
+    no-cells-requires
+    loop-holds
+    column-of-requires
+    cast-column
+    kind-of-requires
+    cell-at-requires
+    enum-known-cell
+    enum-told
+    no-row-requires
+    returns
+    add-i
+    byte-at-requires
+    stop-of-requires
+    no-row-requires-2
+    returns-2
+    valued-requires
+    add-p
+    loop-less
+    loop-again
+    returns-3)

@@ -1,0 +1,3 @@
+pub mod Columns
+pub mod NamesLine
+pub mod ValuesLine
