@@ -1,7 +1,1 @@
 pub mod CheckLaws
-pub mod Fitting
-pub mod ActiveRecord
-pub mod LimitParts
-pub mod CubicBounds
-pub mod GreatestBounds
-pub mod RoadBounds

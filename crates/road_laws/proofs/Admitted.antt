@@ -12,9 +12,9 @@ use Rattle.records.specs.Roads.{roadOf, wordAt, geomIndex}
 use Rattle.records.proofs.RoadLaws.{geom-count, section-count}
 use Rattle.structure.specs.Structure.{slicesOk, countsOk, kindsOk, sectionOk, profileOk, stripOk, structured}
 use Rattle.limits.specs.Limits.{limited}
-use Rattle.limits.proofs.LimitParts.{and-fst, and-snd, true-T}
-use Rattle.limits.proofs.Fitting.{Fitting, road-fits}
-use Rattle.limits.proofs.RoadBounds.{OnRoad}
+use Rattle.limit_laws.proofs.LimitParts.{and-fst, and-snd, true-T}
+use Rattle.limit_laws.proofs.Fitting.{Fitting, road-fits}
+use Rattle.limit_laws.proofs.RoadBounds.{OnRoad}
 use Rattle.reference_line.specs.Spiral.{samplesNeeded, samplesOf}
 use Rattle.reference_line.specs.Poses.{poseOf}
 use Rattle.road_laws.proofs.Geometry.{PoseWithin}

@@ -29,10 +29,10 @@ use Rattle.reference_line.specs.declared.line.Pose.{Pose}
 use Rattle.reference_line.specs.Poses.{linePose, arcPose}
 use Rattle.limits.specs.Bounds.{inRange, sized}
 use Rattle.limits.specs.Limits.{shapeLimited, limited}
-use Rattle.limits.proofs.Fitting.{RoadFits}
-use Rattle.limits.proofs.ActiveRecord.{found-at}
-use Rattle.limits.proofs.LimitParts.{and-fst, true-T, arc-parts}
-use Rattle.limits.proofs.RoadBounds.{OnRoad, station-within, geom-start-in}
+use Rattle.limit_laws.proofs.Fitting.{RoadFits}
+use Rattle.limit_laws.proofs.ActiveRecord.{found-at}
+use Rattle.limit_laws.proofs.LimitParts.{and-fst, true-T, arc-parts}
+use Rattle.limit_laws.proofs.RoadBounds.{OnRoad, station-within, geom-start-in}
 
 -- ---- the constants: 1,000,000, 1,000, 10,000, 1e-9 and 0.00001
 abbrev pub million : Float

@@ -27,8 +27,8 @@ use Rattle.reference_line.proofs.SpiralLaws.{count-spiral, samples-held, first-
 use Rattle.reference_line.proofs.SpiralFirst.{admitted-count}
 use Rattle.reference_line.proofs.PoseLaws.{segment-in}
 use Rattle.limits.specs.Limits.{shapeLimited, limited}
-use Rattle.limits.proofs.Fitting.{Fits64, ShapeFits, RoadFits}
-use Rattle.limits.proofs.RoadBounds.{OnRoad, geom-x-within, geom-y-within, geom-hdg-within, geom-length-in, geom-shape-passes, arc-within, spiral-within}
+use Rattle.limit_laws.proofs.Fitting.{Fits64, ShapeFits, RoadFits}
+use Rattle.limit_laws.proofs.RoadBounds.{OnRoad, geom-x-within, geom-y-within, geom-hdg-within, geom-length-in, geom-shape-passes, arc-within, spiral-within}
 use Rattle.road_laws.proofs.Powers.{Plus, none-below, sub-plus, ratio-plus, sub-above}
 use Rattle.road_laws.proofs.Geometry.{thousand, ten-thousand, nano, line-far, arc-far, arc-turn, PoseWithin, pose-mono, index-below, away-within, arc-curved, line-pose-within, arc-pose-within}
 use Rattle.road_laws.proofs.SampleBounds.{not-below-zero, sample-far, sample-turn, SampleWithin, sample-within, few-steps}

@@ -22,10 +22,10 @@ use Rattle.records.specs.declared.scan.Found.{Found}
 use Rattle.records.specs.declared.scan.Found.the-variants.{At, Nothing}
 use Rattle.records.specs.Active.{activeIn, valueIn}
 use Rattle.records.proofs.CubicLaws.{value-none}
 use Rattle.limits.specs.Bounds.{boundAt, greatest, greatestBound}
 use Rattle.limits.specs.Limits.{at88}
-use Rattle.limits.proofs.ActiveRecord.{active-at}
-use Rattle.limits.proofs.CubicBounds.{Ready, zero-own, nn-of-mi, active-within, bound-real}
+use Rattle.limit_laws.proofs.ActiveRecord.{active-at}
+use Rattle.limit_laws.proofs.CubicBounds.{Ready, zero-own, nn-of-mi, active-within, bound-real}
 
 zero-mag : mag binary64 zero64 ≡ 0
 unfolding ofBits mag

@@ -19,13 +19,13 @@ use Rattle.records.specs.declared.points.GeomShape.the-variants.{Arc, Spiral}
 use Rattle.records.specs.Cubics.{cubicAt}
 use Rattle.records.specs.Active.{valueIn, slopeIn, reached}
 use Rattle.records.specs.Roads.{Road, geomAt, sectionOf, laneOf, profileAt, stripAt, columnOf, heightDefAt}
 use Rattle.limits.specs.Bounds.{inRange, sized, largest}
 use Rattle.limits.specs.Limits.{roadCubicsWithin, shapeLimited, sectionExtent, termBound, termsBound, limited}
-use Rattle.limits.proofs.Fitting.{Fits64, CubicsFit, RoadFits}
-use Rattle.limits.proofs.ActiveRecord.{Active}
-use Rattle.limits.proofs.LimitParts.{and-fst, and-snd, true-T, Limited, limited-parts, GeomLimited, geom-parts, arc-parts, spiral-parts, section-start-on, laneCount, lane-parts, laneLimit, extents-pass, HeightLimited, height-parts, profile-parts, StripLimited, strip-parts}
-use Rattle.limits.proofs.CubicBounds.{far, reached-real, reached-grows, gap-covers, Ready, value-within, slope-within, constant-within}
-use Rattle.limits.proofs.GreatestBounds.{greatest-within, horner-within}
+use Rattle.limit_laws.proofs.Fitting.{Fits64, CubicsFit, RoadFits}
+use Rattle.limit_laws.proofs.ActiveRecord.{Active}
+use Rattle.limit_laws.proofs.LimitParts.{and-fst, and-snd, true-T, Limited, limited-parts, GeomLimited, geom-parts, arc-parts, spiral-parts, section-start-on, laneCount, lane-parts, laneLimit, extents-pass, HeightLimited, height-parts, profile-parts, StripLimited, strip-parts}
+use Rattle.limit_laws.proofs.CubicBounds.{far, reached-real, reached-grows, gap-covers, Ready, value-within, slope-within, constant-within}
+use Rattle.limit_laws.proofs.GreatestBounds.{greatest-within, horner-within}
 
 -- ---- a range and a size as the tests have them
 

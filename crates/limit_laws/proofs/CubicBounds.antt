@@ -28,10 +28,10 @@ use Rattle.records.specs.declared.scan.Found.the-variants.{At, Nothing}
 use Rattle.records.specs.Cubics.{cubicAt, evalBy, slopeBy}
 use Rattle.records.specs.Active.{activeIn, valueIn, slopeIn, reached}
 use Rattle.records.proofs.CubicLaws.{value-at, value-none, slope-at, slope-none}
 use Rattle.limits.specs.Bounds.{atLeastZero, endAt, reachAt, boundOf, boundAt, slopeBoundOf, cubicWithin, cubicsWithin, slopesWithin}
-use Rattle.limits.proofs.Fitting.{Fits64, CubicFits, CubicsFit}
-use Rattle.limits.proofs.ActiveRecord.{Active, active-at}
-use Rattle.limits.proofs.LimitParts.{all-at, and-fst, and-snd, true-T}
+use Rattle.limit_laws.proofs.Fitting.{Fits64, CubicFits, CubicsFit}
+use Rattle.limit_laws.proofs.ActiveRecord.{Active, active-at}
+use Rattle.limit_laws.proofs.LimitParts.{all-at, and-fst, and-snd, true-T}
 
 -- ---- the constants: 20,000, 1e-9 and 0.001
 
