@@ -1,4 +1,3 @@
-pub mod HexDigits
 pub mod Nans
 pub mod Signs
 pub mod Verdicts

@@ -1,20 +1,10 @@
--- The one NaN: what is read from a NaN's pattern, and the pattern that is written for it.
-use mathlib.Core.Path.{_≡_, refl, sym, subst}
-use mathlib.Core.Bool.{true, false}
-use Prim.Native.Nat.{ℕ, _+_, _*_, _/_}
-use native.Mathlib.Omega.{arith}
+-- The one NaN: the pattern that is written for it.
+use mathlib.Core.Path.{_≡_, sym, subst}
+use mathlib.Core.Bool.{true}
+use Prim.Native.Nat.{_+_, _*_, _/_}
 use lib.Dec.{T}
-use lib.Ieee.{Float, nan, inf, fin, Format, isNan, ne, ones, hid, toBits}
+use lib.Ieee.{Float, Format, ne, ones, hid, toBits}
 use lib.Ieee.Compare.{differs-from-itself}
-
-apart : true ≡ false → ⊥
-apart e = let q : _≡_ {A = ℕ} 0 1 = cc in omega arith
-
-pub nan-is : (x : Float) → isNan x ≡ true → nan ≡ x
-unfolding isNan
-nan-is nan h = refl
-nan-is (inf s) h = absurd (apart (sym h))
-nan-is (fin s m e) h = absurd (apart (sym h))
 
 pub nan-bits : (f : Format) (x : Float) → ne x x ≡ true → ones f * hid f + hid f / 2 ≡ toBits f x
 unfolding toBits

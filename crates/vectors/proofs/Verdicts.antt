@@ -6,10 +6,10 @@ use mathlib.Core.List.{List}
 use borrow.Author.Tests.{eq-eqb, ne-eqb, ltb-true}
 use lib.Dec.{eqb, ltb}
 use lib.Ieee.{Float, binary64, ofBits}
-use Rattle.vectors.specs.Hex.{byteAt, wordAt}
+use Rattle.hexadecimal.specs.Hex.{byteAt, wordAt}
 use Rattle.vectors.specs.Vector.{kindOf, answerWord, comparedOf, verdictOf}
-use Rattle.vectors.specs.declared.digits.Word.{Word}
-use Rattle.vectors.specs.declared.digits.Word.the-variants.{Number}
+use Rattle.hexadecimal.specs.declared.digits.Word.{Word}
+use Rattle.hexadecimal.specs.declared.digits.Word.the-variants.{Number}
 
 module _ (kind : ℕ) {v w : Word} {a e got : ℕ} {x : Float} (p : v ≡ Number a) (q : w ≡ Number e) (f : x ≡ ofBits binary64 a) (g : got ≡ answerWord kind x) where
   pub agrees : got ≡ e → kind * 2 ≡ comparedOf kind v w

@@ -11,10 +11,10 @@ use Rattle.arithmetic.specs.Narrow.{narrowed}
 use Rattle.arithmetic.specs.Sine.{sineOf, cosineOf}
 use Rattle.arithmetic.specs.Answer.{Answer, value, refused}
 use Rattle.arithmetic.specs.Count.{countOf}
-use Rattle.vectors.specs.Hex.{byteAt, wordAt}
+use Rattle.hexadecimal.specs.Hex.{byteAt, wordAt}
 use Rattle.vectors.specs.Raise.{raisedOf}
-use Rattle.vectors.specs.declared.digits.Word.{Word}
-use Rattle.vectors.specs.declared.digits.Word.the-variants.{Number, Broken}
+use Rattle.hexadecimal.specs.declared.digits.Word.{Word}
+use Rattle.hexadecimal.specs.declared.digits.Word.the-variants.{Number, Broken}
 
 -- the place of a function's letter among r n s c k, 5 for any other byte
 unfoldable pub kindOf : ℕ → ℕ

@@ -1,6 +1,5 @@
 // Replays a list of vectors from standard input against the crate `arithmetic`. It writes a line for each vector that
 // differs, then for each function how many lines named it and how many of these differ. tools/vectors makes the list.
-mod digits;
 mod patterns;
 mod replay;
 

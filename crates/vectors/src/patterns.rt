@@ -1,20 +1,9 @@
-// Numbers as bit patterns, NaNs included, which `from_bits` and `to_bits` leave out.
+// Numbers as bit patterns, NaNs included, which `to_bits` leaves out.
 ghost use mathlib.Core.Path.{_≡_};
-ghost use lib.Ieee.{binary32, binary64, ofBits, toBits};
+ghost use lib.Ieee.{binary32, binary64, toBits};
 ghost use Rattle.vectors.specs.Raise.{raisedOf};
 ghost use Rattle.arithmetic.specs.Count.{answerOf};
 ghost use Rattle.vectors.specs.Vector.{countWord};
-
-// The f64 of a pattern, any NaN's too.
-pub(crate) fn of_bits(n: u64) -> f64
-    ensures { λ r. ⌜ r ≡ ofBits binary64 n ⌝ }
-{
-    if 0x7ff0_0000_0000_0000 < n % 0x8000_0000_0000_0000 {
-        0.0 / 0.0
-    } else {
-        f64::from_bits(n)
-    }
-}
 
 // The pattern of an f64, 7ff8000000000000 for a NaN.
 pub(crate) fn bits_of(x: f64) -> u64

@@ -6,12 +6,12 @@ ghost use mathlib.Core.Path.{_≡_};
 ghost use Prim.Native.Nat.{_+_, _≤_, _<_};
 ghost use lib.ListN.{length};
 ghost use Rattle.vectors.specs.Vector.{kindOf, answerWord, comparedOf, verdictOf};
-use crate::digits::Word;
-use crate::digits::word_at;
 use crate::patterns::bits_of;
 use crate::patterns::bits_of_counts;
 use crate::patterns::bits_of_single;
-use crate::patterns::of_bits;
+use hexadecimal::Word;
+use hexadecimal::of_bits;
+use hexadecimal::word_at;
 use libc::STDIN_FILENO;
 use libc::STDOUT_FILENO;
 

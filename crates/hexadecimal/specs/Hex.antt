@@ -2,10 +2,10 @@
 use Prim.Native.Nat.{ℕ, zero, suc, _+_, _-_, _*_}
 use mathlib.Core.Bool.{Bool, true, _&&_, cond}
 use mathlib.Core.List.{List}
-use lib.ListN.{getD}
+use lib.ListN.{getD, length}
 use lib.Dec.{leb, ltb, eqb}
-use Rattle.vectors.specs.declared.digits.Word.{Word}
-use Rattle.vectors.specs.declared.digits.Word.the-variants.{Number, Broken}
+use Rattle.hexadecimal.specs.declared.digits.Word.{Word}
+use Rattle.hexadecimal.specs.declared.digits.Word.the-variants.{Number, Broken}
 
 -- the value of a digit, 0-9 or a-f; 16 for any other byte
 unfoldable pub digitOf : ℕ → ℕ
@@ -27,7 +27,11 @@ digitsValue text at zero = 0
 digitsValue text at (suc n) = digitsValue text at n * 16 + digitOf (byteAt text (at + n))
 
 -- the number at a place, with a given byte after it
-unfoldable pub wordAt : List ℕ → ℕ → ℕ → Word
+unfoldable pub wordWithin : List ℕ → ℕ → ℕ → Word
 unfolding digitsOk digitsValue
-wordAt text at stop =
+wordWithin text at stop =
     cond (digitsOk text at 16 && eqb (byteAt text (at + 16)) stop) (Number (digitsValue text at 16)) Broken
+
+-- the same at any place; broken where the text ends before it
+unfoldable pub wordAt : List ℕ → ℕ → ℕ → Word
+wordAt text at stop = cond (ltb (at + 16) (length text)) (wordWithin text at stop) Broken

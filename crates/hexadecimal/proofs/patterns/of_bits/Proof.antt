@@ -4,9 +4,9 @@ use borrow.Author.Tests.{lt-ltb, le-ltb}
 use lib.Ieee.Bits.{nanBits-is, nanBits-above}
 use lib.Ieee.{ofBits, div, binary64}
 use borrow.Author.Needs.{needs}
-use Rattle.vectors.proofs.Nans.{nan-is}
-use Rattle.vectors.proofs.patterns.of_bits.Statement.{statement}
-use Rattle.vectors.proofs.patterns.of_bits.Tie as tie
+use Rattle.hexadecimal.proofs.OneNan.{nan-is}
+use Rattle.hexadecimal.proofs.patterns.of_bits.Statement.{statement}
+use Rattle.hexadecimal.proofs.patterns.of_bits.Tie as tie
 
 float-from-bits-result : tie.Need-float-from-bits-result
 float-from-bits-result c = rw (nanBits-above, le-ltb _ _ (c .if1 .left)) tt

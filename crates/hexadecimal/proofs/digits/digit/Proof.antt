@@ -1,9 +1,9 @@
 -- Each return is the definition's case, by the tests on its way.
-use Rattle.vectors.specs.Hex.{digitOf}
+use Rattle.hexadecimal.specs.Hex.{digitOf}
 use borrow.Author.Tests.{lt-ltb, le-ltb, le-leb, lt-leb}
 use borrow.Author.Needs.{needs}
-use Rattle.vectors.proofs.digits.digit.Statement.{statement}
-use Rattle.vectors.proofs.digits.digit.Tie as tie
+use Rattle.hexadecimal.proofs.digits.digit.Statement.{statement}
+use Rattle.hexadecimal.proofs.digits.digit.Tie as tie
 
 returns : tie.Need-returns
 unfolding digitOf

@@ -7,9 +7,11 @@ use mathlib.Core.Logic.{⊎-elim}
 use native.Mathlib.Numerals.{add-one}
 use native.Mathlib.Nat.{pow-suc, pow-le-pow-right, le-of-suc-le-suc, eq-or-lt-of-le, le-antisymm}
 use native.Mathlib.Omega.{arith}
+use lib.ListN.{length}
 use borrow.Author.Tests.{lt-ltb, le-ltb, eq-eqb, ne-eqb}
-use Rattle.vectors.specs.Hex.{digitOf, byteAt, digitsOk, digitsValue, wordAt}
-use Rattle.vectors.specs.declared.digits.Word.the-variants.{Number, Broken}
+use Rattle.hexadecimal.specs.Hex.{digitOf, byteAt, digitsOk, digitsValue, wordWithin, wordAt}
+use Rattle.hexadecimal.specs.declared.digits.Word.{Word}
+use Rattle.hexadecimal.specs.declared.digits.Word.the-variants.{Number, Broken}
 
 and-false : (a : Bool) → a && false ≡ false
 and-false true = refl
@@ -60,8 +62,8 @@ module _ (text : List ℕ) (at : ℕ) where
       (λ lt. rw (digits-keep m n (le-of-suc-le-suc lt) h))
       (eq-or-lt-of-le l)
 
-  pub stopped : (n stop : ℕ) {d : ℕ} → d ≡ digitOf (byteAt text (at + n)) → n < 16 → 16 ≤ d → Broken ≡ wordAt text at stop
-  unfolding wordAt
+  pub stopped : (n stop : ℕ) {d : ℕ} → d ≡ digitOf (byteAt text (at + n)) → n < 16 → 16 ≤ d → Broken ≡ wordWithin text at stop
+  unfolding wordWithin
   stopped n stop f l k = rw (digits-keep (suc n) 16 l (digits-stop n f k))
 
 -- all sixteen read: the byte after them decides
@@ -69,10 +71,20 @@ module _ (text : List ℕ) (at stop : ℕ) {n : ℕ} (h : n ≤ 16) (k : 16 ≤ 
   all-read : digitsOk text at 16 ≡ true
   all-read = rw (le-antisymm h k) at ok
 
-  pub word-ends : {v : ℕ} → v ≡ digitsValue text at n → byteAt text (at + 16) ≡ stop → Number v ≡ wordAt text at stop
-  unfolding wordAt
+  pub word-ends : {v : ℕ} → v ≡ digitsValue text at n → byteAt text (at + 16) ≡ stop → Number v ≡ wordWithin text at stop
+  unfolding wordWithin
   word-ends p r = rw (all-read, eq-eqb (byteAt text (at + 16)) stop r, p, le-antisymm h k)
 
-  pub word-breaks : (byteAt text (at + 16) ≡ stop → ⊥) → Broken ≡ wordAt text at stop
-  unfolding wordAt
+  pub word-breaks : (byteAt text (at + 16) ≡ stop → ⊥) → Broken ≡ wordWithin text at stop
+  unfolding wordWithin
   word-breaks r = rw (all-read, ne-eqb (byteAt text (at + 16)) stop r)
+
+-- at any place: by whether the text reaches past it
+module _ (text : List ℕ) (at stop : ℕ) where
+  pub word-inside : {r : Word} → at + 16 < length text → r ≡ wordWithin text at stop → r ≡ wordAt text at stop
+  unfolding wordAt
+  word-inside h e = rw (lt-ltb (at + 16) (length text) h, e)
+
+  pub word-outside : length text ≤ at + 16 → Broken ≡ wordAt text at stop
+  unfolding wordAt
+  word-outside h = rw (le-ltb (at + 16) (length text) h)

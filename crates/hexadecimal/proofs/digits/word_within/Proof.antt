@@ -4,10 +4,10 @@ use mathlib.Core.Path.{_≡_}
 use mathlib.Core.Bool.{true}
 use native.Mathlib.Omega.{arith}
 use borrow.Author.Needs.{needs}
-use Rattle.vectors.specs.Hex.{digitsOk, digitsValue}
-use Rattle.vectors.proofs.HexDigits.{more-fits, more-below, digits-none, value-none, digits-more, value-more, stopped, word-ends, word-breaks}
-use Rattle.vectors.proofs.digits.word_at.Statement.{statement}
-use Rattle.vectors.proofs.digits.word_at.Tie as tie
+use Rattle.hexadecimal.specs.Hex.{digitsOk, digitsValue}
+use Rattle.hexadecimal.proofs.HexDigits.{more-fits, more-below, digits-none, value-none, digits-more, value-more, stopped, word-ends, word-breaks}
+use Rattle.hexadecimal.proofs.digits.word_within.Statement.{statement}
+use Rattle.hexadecimal.proofs.digits.word_within.Tie as tie
 
 abbrev Inv-loop : tie.InvT-loop
 Inv-loop text at stop bits₀ n₀ bits n = (n ≤ 16) × (bits < 16 ^ n) × (digitsOk text at n ≡ true) × (bits ≡ digitsValue text at n)
@@ -77,8 +77,8 @@ returns-3 c =
     let here = c .before .before .before .loop in
     word-breaks (a .text .now) (a .at) (a .stop) (here .inv .0) (c .before .before .loop-test .left) (here .inv .2) (c .if2 .left)
 
-pub word-at-spec : {M : Type 1} → statement M
-word-at-spec =
+pub word-within-spec : {M : Type 1} → statement M
+word-within-spec =
     tie.close
     (tie.spec
     Inv-loop

@@ -2,7 +2,7 @@
 ghost use mathlib.Core.Path.{_≡_};
 ghost use Prim.Native.Nat.{_+_, _<_};
 ghost use lib.ListN.{length};
-ghost use Rattle.vectors.specs.Hex.{digitOf, wordAt};
+ghost use Rattle.hexadecimal.specs.Hex.{digitOf, wordWithin, wordAt};
 
 pub enum Word {
     Number(u64),
@@ -29,9 +29,9 @@ fn digit(b: u8) -> u64
 }
 
 // The number at a place, with the byte `stop` after it.
-pub(crate) fn word_at(text: &[u8], at: usize, stop: u8) -> Word
+fn word_within(text: &[u8], at: usize, stop: u8) -> Word
     requires { ⌜ at + 16 < length (now text) ⌝ }
-    ensures { λ r. ⌜ r ≡ wordAt (now (text .entry)) at stop ⌝ }
+    ensures { λ r. ⌜ r ≡ wordWithin (now (text .entry)) at stop ⌝ }
 {
     let mut bits: u64 = 0;
     let mut n = 0;
@@ -48,4 +48,17 @@ pub(crate) fn word_at(text: &[u8], at: usize, stop: u8) -> Word
     } else {
         Word::Broken
     }
+}
+
+// The same at any place; broken where the text ends before it.
+pub fn word_at(text: &[u8], at: usize, stop: u8) -> Word
+    ensures { λ r. ⌜ r ≡ wordAt (now (text .entry)) at stop ⌝ }
+{
+    if text.len() < 17 {
+        return Word::Broken;
+    }
+    if text.len() - 17 < at {
+        return Word::Broken;
+    }
+    word_within(text, at, stop)
 }
