@@ -1,6 +1,5 @@
 pub mod BorderSteps
 pub mod NamingSteps
-pub mod LaneExamples
 pub mod Outward
 pub mod BorderLaws
 pub mod RaisingSteps
