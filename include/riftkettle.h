@@ -6,7 +6,7 @@
  * else that is lent.
  *
  * A function that can refuse returns 0 and writes its answer, or returns the number of the refusal (RIFTKETTLE_REFUSED_.. below) and
- * changes nothing behind its pointers. Refusals are tested in the order of their numbers. */
+ * changes nothing behind its pointers. Refusals are tested in the order in which a function lists them. */
 #ifndef RIFTKETTLE_H
 #define RIFTKETTLE_H
 
@@ -103,9 +103,9 @@ uint32_t riftkettle_samples(const uint16_t *words, size_t n, const double *numbe
 
 /* x, y and heading on the geometry of that number (from 0) at s. Lines and arcs run on past their length and before their start;
  * a spiral stays at its ends. The samples are those that riftkettle_samples made of this road; the answer follows what they hold.
- * Writes pose[0..2]. Refusals: 3, 4, 5, 6, 7. */
+ * Writes *x, *y and *heading. Refusals: 3, 4, 5, 6; 3 where the road has no geometry of that number; 7. */
 uint32_t riftkettle_pose(const uint16_t *words, size_t n, const double *numbers, size_t m, const double *samples, size_t k,
-                         size_t geometry, double s, double pose[3]);
+                         size_t geometry, double s, double *x, double *y, double *heading);
 
 #ifdef __cplusplus
 }

@@ -179,9 +179,12 @@ fn pose(rng: &mut Rng, tally: &mut Tally) {
         let expected = if on_road(&road, s) { Ok(oracle.pose(geometry, s)) } else { Err(7) };
         check_pose(tally, &m, &lent, (geometry, s), expected, &road);
     }
+    let (n, s) = (road.geoms.len(), rng.pick(&[0.0, f64::NAN]));
+    let absent = rng.pick(&[n, n + 1, 63.max(n), 64, 65, 1 << 32, usize::MAX]);
+    check_pose(tally, &m, &lent, (absent, s), Err(3), &road);
     if needed > 0 {
         let short = &lent[..needed - rng.from_to(1, needed.min(9))];
-        check_pose(tally, &m, short, (0, rng.pick(&[0.0, f64::NAN])), Err(6), &road);
+        check_pose(tally, &m, short, (rng.pick(&[0, absent]), s), Err(6), &road);
     }
 }
 

@@ -28,7 +28,9 @@ unsafe extern "C" {
         k: usize,
         geometry: usize,
         s: f64,
-        pose: *mut f64,
+        x: *mut f64,
+        y: *mut f64,
+        heading: *mut f64,
     ) -> u32;
 }
 
@@ -71,6 +73,7 @@ pub fn samples(m: &Memory, samples: &mut [f64], made: &mut usize) -> u32 {
 
 pub fn pose(m: &Memory, samples: &[f64], geometry: usize, s: f64, pose: &mut [f64; 3]) -> u32 {
     let (w, x) = (&m.words, &m.numbers);
-    let (k, to) = (samples.len(), pose.as_mut_ptr());
-    unsafe { riftkettle_pose(w.as_ptr(), w.len(), x.as_ptr(), x.len(), samples.as_ptr(), k, geometry, s, to) }
+    let [to_x, to_y, to_heading] = pose;
+    let (lent, k) = (samples.as_ptr(), samples.len());
+    unsafe { riftkettle_pose(w.as_ptr(), w.len(), x.as_ptr(), x.len(), lent, k, geometry, s, to_x, to_y, to_heading) }
 }

@@ -148,14 +148,16 @@ pub unsafe extern "C" fn riftkettle_pose(
     k: usize,
     geometry: usize,
     s: f64,
-    pose: *mut f64,
+    x: *mut f64,
+    y: *mut f64,
+    heading: *mut f64,
 ) -> u32 {
     let (words, numbers, lent) = unsafe { (from_raw_parts(words, n), from_raw_parts(numbers, m), from_raw_parts(samples, k)) };
-    let pose = unsafe { from_raw_parts_mut(pose, 3) };
+    let pose = unsafe { [&mut *x, &mut *y, &mut *heading] };
     guarded(|| find_pose(words, numbers, lent, (geometry, s), pose))
 }
 
-fn find_pose(words: &[u16], numbers: &[f64], lent: &[f64], (geometry, s): (usize, f64), pose: &mut [f64]) -> u32 {
+fn find_pose(words: &[u16], numbers: &[f64], lent: &[f64], (geometry, s): (usize, f64), pose: [&mut f64; 3]) -> u32 {
     let number = admitted(words, numbers);
     if number != 0 {
         return number;
@@ -163,6 +165,9 @@ fn find_pose(words: &[u16], numbers: &[f64], lent: &[f64], (geometry, s): (usize
     let needed = admission::samples_of(words, numbers);
     if lent.len() / 4 < needed.iter().sum() {
         return 6;
+    }
+    if needed.len() <= geometry {
+        return 3;
     }
     if !(0.0 <= s && s <= numbers[0]) {
         return 7;
@@ -173,6 +178,8 @@ fn find_pose(words: &[u16], numbers: &[f64], lent: &[f64], (geometry, s): (usize
     } else {
         Oracle::new(&Road::read(words, numbers)).pose(geometry, s)
     };
-    pose.copy_from_slice(&answer);
+    for (to, value) in pose.into_iter().zip(answer) {
+        *to = value;
+    }
     0
 }

@@ -3,11 +3,12 @@ use mathlib.Core.Path.{_≡_, refl, sym, ap, _∙_, subst}
 use mathlib.Core.Bool.{Bool, true, false, not, cond}
 use mathlib.Core.List.{List, [], _∷_, _++_, append-nil, append-assoc}
 use mathlib.Core.Logic.{⊎-elim}
-use Prim.Native.Nat.{ℕ, zero, suc, _+_, _*_, _≤_, _<_}
+use Prim.Native.Nat.{ℕ, zero, suc, _+_, _*_, _/_, _≤_, _<_}
 use native.Mathlib.Nat.{add-zero, zero-add, eq-or-lt-of-le, le-of-suc-le-suc}
 use native.Mathlib.Omega.{arith}
 use native.Mathlib.Numerals.{add-one}
-use lib.Dec.{T, ltb, ltb→lt, nltb→le}
+use lib.Dec.{T, leb, ltb, ltb→lt, nltb→le}
+use borrow.Author.Tests.{le-leb, lt-leb}
 use lib.ListN.{length, getD, take, drop, set, length-append, length-drop, take-append-drop, List·getD-append}
 use lib.Seq.{sets-eq, take-at, drop-append-add, drop-drop, length-take-le, getD-append-add}
 use lib.Ieee.{Float}
@@ -20,7 +21,7 @@ use Rattle.records.specs.Roads.{Road, Lane, noLane, sectionOf, laneOf, roadOf}
 use Rattle.records.proofs.RoadLaws.{left-count, right-count, section-past}
 use Rattle.lateral.specs.Lateral.{notBelowZero}
 use Rattle.lanes.specs.declared.across.LaneBorders.{LaneBorders}
-use Rattle.lanes.specs.Borders.{signOf, borderWidth, widthOf, outerAfter, bordersFrom, bordersAt, baseAt, sideOf, bordersOf, sideList, borderList}
+use Rattle.lanes.specs.Borders.{signOf, borderWidth, widthOf, outerAfter, bordersFrom, bordersAt, baseAt, sideOf, lanesOf, bordersOf, sideList, borderList}
 
 -- ---- the lanes of a side
 
@@ -216,3 +217,11 @@ list-length road i s =
     let e = side-length (bordersOf road i s false) n in
     let f = side-length (bordersOf road i s true) r in
     length-append (sideList (bordersOf road i s false) n) (sideList (bordersOf road i s true) r) ∙ (omega arith)
+
+-- a list's whole threes, fewer than the lanes or enough
+module _ (road : Road) (i len : ℕ) {n : ℕ} (e : n ≡ lanesOf road i) where
+  pub list-short : len / 3 < n → false ≡ leb (lanesOf road i) (len / 3)
+  list-short h = sym (lt-leb (lanesOf road i) (len / 3) (omega arith))
+
+  pub list-long : n ≤ len / 3 → true ≡ leb (lanesOf road i) (len / 3)
+  list-long h = sym (le-leb (lanesOf road i) (len / 3) (omega arith))

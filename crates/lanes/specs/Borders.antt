@@ -3,7 +3,7 @@
 use Prim.Native.Nat.{ℕ, zero, suc, _+_}
 use mathlib.Core.Bool.{Bool, true, false, cond}
 use mathlib.Core.List.{List, [], _∷_, _++_}
-use lib.ListN.{length, getD}
+use lib.ListN.{length, getD, drop}
 use lib.Ieee.{Float}
 use Rattle.float_laws.specs.Binary64.{_⊕_, _⊖_, _⊗_, f64, zero64}
 use Rattle.records.specs.declared.scan.Found.{Found}
@@ -53,6 +53,10 @@ baseAt road s = valueIn (road .offsets) s
 abbrev pub sideOf : Road → ℕ → Bool → List Lane
 sideOf road i right = cond right (sectionOf road i .right) (sectionOf road i .left)
 
+-- the lanes of both sides
+abbrev pub lanesOf : Road → ℕ → ℕ
+lanesOf road i = length (sectionOf road i .left) + length (sectionOf road i .right)
+
 abbrev pub bordersOf : Road → ℕ → Float → Bool → ℕ → LaneBorders
 bordersOf road i s right k = bordersAt (sideOf road i right) (signOf right) (baseAt road s) (s ⊖ sectionOf road i .start) k
 
@@ -65,3 +69,8 @@ sideList b (suc n) = sideList b n ++ (b n .inner ∷ b n .outer ∷ b n .width �
 unfoldable pub borderList : Road → ℕ → Float → List Float
 unfolding sideList bordersAt
 borderList road i s = sideList (bordersOf road i s false) (length (sectionOf road i .left)) ++ sideList (bordersOf road i s true) (length (sectionOf road i .right))
+
+-- "three f64 a lane .. whole threes": written where a list has room for every lane, the rest kept; else all of it
+abbrev pub listedBy : Bool → Road → ℕ → Float → List Float → List Float
+listedBy true road i s xs = borderList road i s ++ drop (length (borderList road i s)) xs
+listedBy false road i s xs = xs

@@ -13,13 +13,14 @@ use records::value;
 ghost use mathlib.Core.Path.{_≡_};
 ghost use mathlib.Core.Bool.{true, false};
 ghost use mathlib.Core.List.{_++_};
-ghost use Prim.Native.Nat.{_+_, _*_, _<_, _≤_};
+ghost use Prim.Native.Nat.{_+_, _*_, _/_, _<_, _≤_};
+ghost use lib.Dec.{leb};
 ghost use lib.ListN.{length, take, drop};
 ghost use Rattle.records.specs.Cubics.{cubicsOf};
 ghost use Rattle.records.specs.Active.{activeIn};
 ghost use Rattle.records.specs.Roads.{Lane, roadOf, laneOf};
 ghost use Rattle.lateral.specs.Lateral.{notBelowZero};
-ghost use Rattle.lanes.specs.Borders.{signOf, borderWidth, widthOf, outerAfter, bordersFrom, bordersAt, baseAt, sideOf, bordersOf, sideList, borderList};
+ghost use Rattle.lanes.specs.Borders.{signOf, borderWidth, widthOf, outerAfter, bordersFrom, bordersAt, baseAt, sideOf, lanesOf, bordersOf, sideList, borderList, listedBy};
 
 // The t of the center.
 pub fn base_at(words: &[u16], numbers: &[f64], s: f64) -> f64
@@ -38,6 +39,13 @@ pub fn lane_count(words: &[u16], numbers: &[f64], section: usize, right: bool) -
     } else {
         left_count(words, numbers, section)
     }
+}
+
+// How many lanes a section has, both sides.
+pub fn section_lanes(words: &[u16], numbers: &[f64], section: usize) -> usize
+    ensures { λ r. ⌜ r ≡ lanesOf (roadOf (now (words .entry)) (now (numbers .entry))) section ⌝ }
+{
+    lane_count(words, numbers, section, false) + lane_count(words, numbers, section, true)
 }
 
 // Which way a side's lanes stack.
@@ -174,13 +182,7 @@ fn write_side(
 }
 
 // Writes the borders of a section's lanes at s, left outward, then right, and leaves the rest of the list.
-pub(crate) fn write_borders(
-    words: &[u16],
-    numbers: &[f64],
-    section: usize,
-    s: f64,
-    list: &mut [f64],
-)
+fn write_borders(words: &[u16], numbers: &[f64], section: usize, s: f64, list: &mut [f64])
     requires { ⌜ (length (sideOf (roadOf (now words) (now numbers)) section false) + length (sideOf (roadOf (now words) (now numbers)) section true)) * 3 ≤ length (now list) ⌝ }
     ensures { λ _. ⌜ now (list .exit) ≡ borderList (roadOf (now (words .entry)) (now (numbers .entry))) section s ++ drop (length (borderList (roadOf (now (words .entry)) (now (numbers .entry))) section s)) (now (list .entry)) ⌝ }
 {
@@ -200,4 +202,23 @@ pub(crate) fn write_borders(
         left * 3,
         right,
     );
+}
+
+// Writes the borders where the list holds three numbers for each lane of the section, and tells whether it does; else it stays as it was.
+pub fn list_borders(
+    words: &[u16],
+    numbers: &[f64],
+    section: usize,
+    s: f64,
+    list: &mut [f64],
+) -> bool
+    ensures { λ r. ⌜ r ≡ leb (lanesOf (roadOf (now (words .entry)) (now (numbers .entry))) section) (length (now (list .entry)) / 3) ⌝ }
+    ensures { λ r. ⌜ now (list .exit) ≡ listedBy r (roadOf (now (words .entry)) (now (numbers .entry))) section s (now (list .entry)) ⌝ }
+{
+    let n = section_lanes(words, numbers, section);
+    if list.len() / 3 < n {
+        return false;
+    }
+    write_borders(words, numbers, section, s, list);
+    true
 }

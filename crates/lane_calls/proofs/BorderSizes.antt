@@ -1,0 +1,234 @@
+-- Demand 3 on borders, of the list that the borders call writes, for every admitted road and every s in 0..length: read outward, left borders never fall and right ones never rise, each inner is the outer of the lane before, and none lies beyond 80.
+-- Admission's limits give the premises of the lanes layer's laws; those are read off the written list by place.
+use Prim.Native.Nat.{ℕ, suc, _+_, _*_, _/_, _^_, _≤_, _<_}
+use native.Mathlib.Nat.{add-zero, zero-add, le-trans, le-of-eq}
+use native.Mathlib.Omega.{arith}
+use mathlib.Core.Path.{_≡_, refl, sym, _∙_, ap, subst}
+use mathlib.Core.Bool.{Bool, true, false, cond, _&&_, _||_}
+use mathlib.Core.List.{List, [], _∷_, _++_}
+use lib.Dec.{T, leb}
+use lib.Ieee.{Float, nan, binary64, low, lt, le, eq, ofBits, fits}
+use lib.ListN.{length, getD, drop, List·getD-append}
+use borrow.Author.Tests.{le-leb, leb-true}
+use Rattle.float_laws.specs.Binary64.{_⊖_, f64, zero64}
+use Rattle.float_laws.proofs.Value.{mag, pl, mi, Real, le-trans'}
+use Rattle.float_laws.proofs.Size.{Within, within-mono}
+use Rattle.arithmetic.specs.Answer.{Answer, value, checked}
+use Rattle.records.specs.Active.{reached}
+use Rattle.records.specs.Roads.{Road, roadOf, sectionOf, laneOf, noLane, sectionIndex}
+use Rattle.records.proofs.CubicLaws.{value-at}
+use Rattle.structure.proofs.OrderLaws.{ordered-is}
+use Rattle.structure.proofs.StructureLaws.{Structured, structured-is}
+use Rattle.limits.specs.Limits.{onRoad}
+use Rattle.limit_laws.proofs.Fitting.{Fits64, Fitting, RoadFits, road-fits}
+use Rattle.limit_laws.proofs.ActiveRecord.{Active, index-active}
+use Rattle.limit_laws.proofs.LimitParts.{and-fst, and-snd, true-T}
+use Rattle.limit_laws.proofs.CubicBounds.{far, reached-real, reached-grows}
+use Rattle.limit_laws.proofs.RoadBounds.{OnRoad, InSection, station-within, offset-within, section-start-in, extent-within, into-section, width-within, border-within}
+use Rattle.admission.specs.Admission.{admitted, roadRows}
+use Rattle.admission.proofs.RowLaws.{pass-checked, checked-pass}
+use Rattle.admission.proofs.AdmissionLaws.{admitted-value, admitted-structured, admitted-ordered, admitted-limited, road-answered, road-admitted}
+use Rattle.lanes.specs.declared.across.LaneBorders.{LaneBorders}
+use Rattle.lanes.specs.Borders.{signOf, baseAt, sideOf, lanesOf, bordersOf as laneBorders, bordersAt, borderList, listedBy}
+use Rattle.lanes.proofs.BorderSteps.{three, left-written, right-written, list-length}
+use Rattle.lanes.proofs.Outward.{Ahead}
+use Rattle.lanes.proofs.BorderLaws.{eight, thirtySix, eighty, ExtentWithin, inner-is-outer, inner-within, outer-border-within, outer-ahead}
+use Rattle.lane_calls.specs.LaneCalls.{sectionAt, lanesAt, listRows, bordersOf, writtenBy, bordersList}
+use Rattle.lane_calls.proofs.CallLaws.{list-by}
+
+-- ---- the statement
+
+-- finite, and at most 80 in size, in units of the least f64
+abbrev pub Within80 : Float → Type 0
+Within80 x = Real binary64 x × (mag binary64 x ≤ 80 * 2 ^ low binary64)
+
+-- the inner and the outer border of a list's lane
+abbrev pub innerAt : List Float → ℕ → Float
+innerAt list k = getD list (k * 3) nan
+
+abbrev pub outerAt : List Float → ℕ → Float
+outerAt list k = getD list (k * 3 + 1) nan
+
+-- the n lanes of a side, the first of which is the list's lane first
+pub record SideKept (list : List Float) (right : Bool) (first n : ℕ) : Type 0 where
+  pub inner-size : (k : ℕ) → k < n → Within80 (innerAt list (first + k))
+  pub outer-size : (k : ℕ) → k < n → Within80 (outerAt list (first + k))
+  pub outward : (k : ℕ) → k < n → Ahead right (innerAt list (first + k)) (outerAt list (first + k))
+  pub joined : (k : ℕ) → suc k < n → innerAt list (first + suc k) ≡ outerAt list (first + k)
+
+-- ---- an admitted road at s
+
+ten-thousand-far : T (le (f64 0x40c3_8800_0000_0000) far)
+unfolding ofBits le
+ten-thousand-far = tt
+
+or-r : (a b : Bool) → T b → T (a || b)
+or-r true b t = tt
+or-r false b t = t
+
+same-le : (x y : Float) → T (eq x y) → T (le x y)
+unfolding le
+same-le x y e = or-r (lt x y) (eq x y) e
+
+eighty-is : pl binary64 eighty ≡ 80 * 2 ^ low binary64
+unfolding ofBits pl
+eighty-is = refl
+
+within-80 : (x : Float) → Within binary64 x eighty → Within80 x
+within-80 x w = (w .value, le-trans (w .le) (le-of-eq eighty-is))
+
+module _ (words : List ℕ) (numbers : List Float) (fitting : Fitting numbers) (ok : admitted words numbers ≡ true) (s : Float) (fits-s : Fits64 s) (on : onRoad (roadOf words numbers) s ≡ true) where
+  abbrev road : Road
+  road = roadOf words numbers
+
+  abbrev at : ℕ
+  at = sectionIndex road s
+
+  abbrev into : Float
+  into = s ⊖ sectionOf road at .start
+
+  fit : RoadFits road
+  fit = road-fits words numbers fitting
+
+  counts : Structured words numbers
+  counts = structured-is words numbers (admitted-structured words numbers ok)
+
+  here : OnRoad road s
+  here =
+      record {
+        fits = fits-s;
+        above = true-T (le zero64 s) (and-fst (le zero64 s) (le s (road .length)) on);
+        below = true-T (le s (road .length)) (and-snd (le zero64 s) (le s (road .length)) on);
+      }
+
+  some : 0 < length (road .sections)
+  some = counts .sections .enough
+
+  first-reached : T (le (sectionOf road 0 .start) (reached s))
+  first-reached =
+      let z = section-start-in road fit (admitted-limited words numbers ok) 0 some in
+      let e = extent-within road fit (admitted-limited words numbers ok) 0 some in
+      let v = station-within road fit (admitted-limited words numbers ok) s here in
+      let w = within-mono binary64 s (f64 0x40c3_8800_0000_0000) far v (e .bound) ten-thousand-far in
+      let r = reached-real s w in
+      le-trans' binary64 (sectionOf road 0 .start) zero64 (reached s) (z .value) (z .low) r
+      (same-le (sectionOf road 0 .start) zero64 (ordered-is road (admitted-ordered words numbers ok) .section-zero))
+      (le-trans' binary64 zero64 s (reached s) (z .low) (w .value) r (here .above) (reached-grows s w))
+
+  -- the section at s is there, and s lies in it
+  section-active : Active (λ k. sectionOf road k .start) (reached s) (length (road .sections)) at
+  unfolding sectionIndex
+  section-active = index-active (λ k. sectionOf road k .start) (reached s) (length (road .sections)) some first-reached
+
+  in-section : InSection road at into
+  in-section = into-section road fit (admitted-limited words numbers ok) s here at section-active
+
+  few : (right : Bool) → length (sideOf road at right) ≤ 6
+  few false = counts .left at
+  few true = counts .right at
+
+  center : Within binary64 (baseAt road s) eight
+  center = offset-within road fit (admitted-limited words numbers ok) s here
+
+  extents : (right : Bool) (k : ℕ) → k < length (sideOf road at right) → ExtentWithin (getD (sideOf road at right) k noLane) into
+  extents right k l =
+      record {
+        width = width-within road fit (admitted-limited words numbers ok) at (section-active .below) right k l into in-section;
+        border = λ e j f. subst (λ (v : Float). Within binary64 v thirtySix) (value-at (laneOf road at right k .extents) into j f)
+            (border-within road fit (admitted-limited words numbers ok) at (section-active .below) right k l into in-section e);
+      }
+
+  -- ---- the borders of a side
+
+  abbrev lane : Bool → ℕ → LaneBorders
+  lane right k = laneBorders road at s right k
+
+  -- read off a list by place
+  side-kept : (list : List Float) (right : Bool) (first : ℕ) → ((k j : ℕ) → k < length (sideOf road at right) → j < 3 → getD list ((first + k) * 3 + j) nan ≡ getD (three (lane right k)) j nan)
+      → SideKept list right first (length (sideOf road at right))
+  side-kept list right first read =
+      record {
+        inner-size = λ k l. subst Within80 (sym (inner-is k l)) (within-80 (lane right k .inner) (inner-within (sideOf road at right) right (baseAt road s) into (few right) center (extents right) k l));
+        outer-size = λ k l. subst Within80 (sym (outer-is k l)) (within-80 (lane right k .outer) (outer-border-within (sideOf road at right) right (baseAt road s) into (few right) center (extents right) k l));
+        outward = λ k l. subst (λ (x : Float). Ahead right x (outerAt list (first + k))) (sym (inner-is k l))
+            (subst (λ (y : Float). Ahead right (lane right k .inner) y) (sym (outer-is k l)) (outer-ahead (sideOf road at right) right (baseAt road s) into (few right) center (extents right) k l));
+        joined = λ k l. inner-is (suc k) l ∙ inner-is-outer (sideOf road at right) (signOf right) (baseAt road s) into k ∙ sym (outer-is k (let m = l in omega arith));
+      }
+    where
+      inner-is : (k : ℕ) → k < length (sideOf road at right) → innerAt list (first + k) ≡ lane right k .inner
+      inner-is k l = ap (λ (m : ℕ). getD list m nan) (sym (add-zero ((first + k) * 3))) ∙ read k 0 l (omega arith)
+
+      outer-is : (k : ℕ) → k < length (sideOf road at right) → outerAt list (first + k) ≡ lane right k .outer
+      outer-is k l = read k 1 l (omega arith)
+
+  -- ---- the list of both sides, with anything after it
+
+  left-place : (xs : List Float) (k j : ℕ) → k < length (sideOf road at false) → j < 3 → getD (listedBy true road at s xs) ((0 + k) * 3 + j) nan ≡ getD (three (lane false k)) j nan
+  left-place xs k j l m =
+      let n = list-length road at s in
+      ap (λ (i : ℕ). getD (listedBy true road at s xs) (i * 3 + j) nan) (zero-add k)
+      ∙ List·getD-append (borderList road at s) (drop (length (borderList road at s)) xs) nan (k * 3 + j) (omega arith)
+      ∙ left-written road at s k j nan l m
+
+  right-place : (xs : List Float) (k j : ℕ) → k < length (sideOf road at true) → j < 3
+      → getD (listedBy true road at s xs) ((length (sideOf road at false) + k) * 3 + j) nan ≡ getD (three (lane true k)) j nan
+  right-place xs k j l m =
+      let n = list-length road at s in
+      List·getD-append (borderList road at s) (drop (length (borderList road at s)) xs) nan ((length (sideOf road at false) + k) * 3 + j) (omega arith)
+      ∙ right-written road at s k j nan l m
+
+  both-kept : (xs : List Float) → SideKept (listedBy true road at s xs) false 0 (length (sideOf road at false)) × SideKept (listedBy true road at s xs) true (length (sideOf road at false)) (length (sideOf road at true))
+  both-kept xs = (side-kept (listedBy true road at s xs) false 0 (left-place xs), side-kept (listedBy true road at s xs) true (length (sideOf road at false)) (right-place xs))
+
+-- ---- the call
+
+module _ (words : List ℕ) (numbers : List Float) (s : Float) where
+  -- an admitted road, s in 0..length, and whole threes for every lane: the call answers
+  pub borders-answered : (len : ℕ) → admitted words numbers ≡ true → onRoad (roadOf words numbers) s ≡ true → lanesAt words numbers s * 3 ≤ len → bordersOf words numbers s len ≡ value (lanesAt words numbers s)
+  unfolding bordersOf
+  borders-answered len ok on h =
+      let l : lanesAt words numbers s ≤ len / 3 = omega arith in
+      road-admitted words numbers (listRows words numbers s len) (value (lanesAt words numbers s)) ok ∙ rw (on, le-leb (lanesAt words numbers s) (len / 3) l)
+
+  module _ (xs : List Float) (n : ℕ) (e : bordersOf words numbers s (length xs) ≡ value n) where
+    -- an answer comes of an admitted road only
+    pub answered-admitted : admitted words numbers ≡ true
+    unfolding bordersOf
+    answered-admitted = road-answered words numbers (listRows words numbers s (length xs)) (value (lanesAt words numbers s)) n e
+
+    own-rows : checked (listRows words numbers s (length xs)) (value (lanesAt words numbers s)) ≡ value n
+    unfolding bordersOf
+    own-rows = sym (road-admitted words numbers (listRows words numbers s (length xs)) (value (lanesAt words numbers s)) answered-admitted) ∙ e
+
+    rows-pass : onRoad (roadOf words numbers) s && (leb (lanesAt words numbers s) (length xs / 3) && true) ≡ true
+    rows-pass = checked-pass (listRows words numbers s (length xs)) (value (lanesAt words numbers s)) n own-rows
+
+    -- of s in 0..length, with whole threes for every lane
+    pub answered-on : onRoad (roadOf words numbers) s ≡ true
+    answered-on = and-fst (onRoad (roadOf words numbers) s) (leb (lanesAt words numbers s) (length xs / 3) && true) rows-pass
+
+    pub answered-room : lanesAt words numbers s * 3 ≤ length xs
+    answered-room =
+        let p = and-snd (onRoad (roadOf words numbers) s) (leb (lanesAt words numbers s) (length xs / 3) && true) rows-pass in
+        let l = leb-true (lanesAt words numbers s) (length xs / 3) (and-fst (leb (lanesAt words numbers s) (length xs / 3)) true p) in
+        omega arith
+
+    -- and it is the number of the section's lanes, whose borders stand in the list
+    pub answered-lanes : n ≡ lanesAt words numbers s
+    answered-lanes = same (sym own-rows ∙ pass-checked (listRows words numbers s (length xs)) (value (lanesAt words numbers s)) rows-pass)
+      where
+        same : {i j : ℕ} → value i ≡ value j → i ≡ j
+        same p = cc
+
+    pub answered-list : bordersList words numbers s xs ≡ listedBy true (roadOf words numbers) (sectionAt words numbers s) s xs
+    answered-list = sym (list-by words numbers s xs (sym e) refl)
+
+    -- demand 3 on borders: of the left lanes, then of the right ones, in the list as the call leaves it; numbers and s are f64
+    pub borders-kept : Fitting numbers → Fits64 s
+        → SideKept (bordersList words numbers s xs) false 0 (length (sideOf (roadOf words numbers) (sectionAt words numbers s) false))
+        × SideKept (bordersList words numbers s xs) true (length (sideOf (roadOf words numbers) (sectionAt words numbers s) false)) (length (sideOf (roadOf words numbers) (sectionAt words numbers s) true))
+    borders-kept fitting fits-s =
+        let i = sectionAt words numbers s in
+        let left = length (sideOf (roadOf words numbers) i false) in
+        subst (λ (list : List Float). SideKept list false 0 left × SideKept list true left (length (sideOf (roadOf words numbers) i true))) (sym answered-list)
+        (both-kept words numbers fitting answered-admitted s fits-s answered-on xs)

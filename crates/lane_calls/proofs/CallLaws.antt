@@ -1,0 +1,84 @@
+-- How the two calls go on after the road's rows: each way out is the tests on its way.
+use Prim.Native.Nat.{ℕ, _/_}
+use mathlib.Core.Path.{_≡_, refl, sym, _∙_, ap}
+use mathlib.Core.Bool.{Bool, true, false, not}
+use mathlib.Core.List.{List}
+use lib.Dec.{leb}
+use lib.Ieee.{Float, neg}
+use lib.ListN.{length}
+use borrow.Author.Tests.{not-true, not-false}
+use Rattle.float_laws.specs.Binary64.{f64}
+use Rattle.arithmetic.specs.Answer.{Answer, value, refused, checked}
+use Rattle.records.specs.Roads.{Road, roadOf}
+use Rattle.limits.specs.Bounds.{inRange}
+use Rattle.limits.specs.Limits.{onRoad}
+use Rattle.admission.specs.Admission.{admissionOf}
+use Rattle.admission.proofs.AdmissionLaws.{road-refused, road-admitted, value-admitted}
+use Rattle.lanes.specs.Borders.{lanesOf, listedBy}
+use Rattle.lanes.specs.Naming.{laneNamed}
+use Rattle.lanes.specs.declared.across.LaneName.{LaneName}
+use Rattle.lane_calls.specs.LaneCalls.{sectionAt, lanesAt, listRows, bordersOf, writtenBy, bordersList, nameRows, nameAt, namedOf}
+
+module _ (words : List ℕ) (numbers : List Float) where
+  abbrev road : Road
+  road = roadOf words numbers
+
+  -- ---- the borders
+
+  module _ (s : Float) (len : ℕ) {a : Bool} (e : a ≡ onRoad road s) where
+    pub list-off : not a ≡ true → refused 7 ≡ checked (listRows words numbers s len) (value (lanesAt words numbers s))
+    list-off h = rw (sym e ∙ not-true a h)
+
+    module _ (h : not a ≡ false) {i : ℕ} (g : i ≡ sectionAt words numbers s) {b : Bool} (f : b ≡ leb (lanesOf road i) (len / 3)) where
+      room-is : leb (lanesAt words numbers s) (len / 3) ≡ b
+      room-is = ap (λ (j : ℕ). leb (lanesOf road j) (len / 3)) (sym g) ∙ sym f
+
+      pub list-short : not b ≡ true → refused 11 ≡ checked (listRows words numbers s len) (value (lanesAt words numbers s))
+      list-short k = rw (sym e ∙ not-false a h, room-is ∙ not-true b k)
+
+      pub list-long : not b ≡ false → {n : ℕ} → n ≡ lanesOf road i → value n ≡ checked (listRows words numbers s len) (value (lanesAt words numbers s))
+      list-long k m = rw (sym e ∙ not-false a h, room-is ∙ not-false b k, m, g)
+
+  -- the list as `list_borders` leaves it
+  module _ (s : Float) (xs : List Float) {ys : List Float} (i : ℕ) (b : Bool) (f : ys ≡ listedBy b road i s xs) where
+    pub list-kept : not b ≡ true → ys ≡ xs
+    list-kept k = f ∙ ap (λ (c : Bool). listedBy c road i s xs) (not-true b k)
+
+    pub list-made : not b ≡ false → i ≡ sectionAt words numbers s → ys ≡ listedBy true road (sectionAt words numbers s) s xs
+    list-made k g = f ∙ ap (λ (c : Bool). listedBy c road i s xs) (not-false b k) ∙ ap (λ (j : ℕ). listedBy true road j s xs) g
+
+  -- the road is refused, or its own rows decide
+  pub borders-refused : (s : Float) (len n : ℕ) → refused n ≡ admissionOf words numbers → refused n ≡ bordersOf words numbers s len
+  unfolding bordersOf
+  borders-refused s len n e = road-refused words numbers (listRows words numbers s len) n (value (lanesAt words numbers s)) e
+
+  pub borders-admitted : (s : Float) (len : ℕ) {a : Answer ℕ} → value tt ≡ admissionOf words numbers
+      → a ≡ checked (listRows words numbers s len) (value (lanesAt words numbers s)) → a ≡ bordersOf words numbers s len
+  unfolding bordersOf
+  borders-admitted s len e f = f ∙ sym (road-admitted words numbers (listRows words numbers s len) (value (lanesAt words numbers s)) (value-admitted words numbers (sym e)))
+
+  -- the list by the answer
+  pub list-by : (s : Float) (xs : List Float) {ys : List Float} {a : Answer ℕ} → a ≡ bordersOf words numbers s (length xs) → ys ≡ writtenBy words numbers a s xs → ys ≡ bordersList words numbers s xs
+  unfolding bordersList
+  list-by s xs e f = f ∙ ap (λ (a : Answer ℕ). writtenBy words numbers a s xs) e
+
+  -- ---- the name
+
+  module _ (s t : Float) {a : Bool} (e : a ≡ onRoad road s) where
+    pub name-off : not a ≡ true → refused 7 ≡ checked (nameRows words numbers s t) (value (nameAt words numbers s t))
+    name-off h = rw (sym e ∙ not-true a h)
+
+    module _ (h : not a ≡ false) {b : Bool} (f : b ≡ inRange (neg (f64 0x4054_0000_0000_0000)) (f64 0x4054_0000_0000_0000) t) where
+      pub name-beyond : not b ≡ true → refused 8 ≡ checked (nameRows words numbers s t) (value (nameAt words numbers s t))
+      name-beyond k = rw (sym e ∙ not-false a h, sym f ∙ not-true b k)
+
+      pub name-found : not b ≡ false → {i : ℕ} → i ≡ sectionAt words numbers s → {n m : LaneName} → m ≡ laneNamed road i s t → m ≡ n → value n ≡ checked (nameRows words numbers s t) (value (nameAt words numbers s t))
+      name-found k g {n} {m} l o = rw (sym e ∙ not-false a h, sym f ∙ not-false b k, sym o, l, g)
+
+  pub named-refused : (s t : Float) (n : ℕ) → refused n ≡ admissionOf words numbers → refused n ≡ namedOf words numbers s t
+  unfolding namedOf
+  named-refused s t n e = road-refused words numbers (nameRows words numbers s t) n (value (nameAt words numbers s t)) e
+
+  pub named-admitted : (s t : Float) {a : Answer LaneName} → value tt ≡ admissionOf words numbers → a ≡ checked (nameRows words numbers s t) (value (nameAt words numbers s t)) → a ≡ namedOf words numbers s t
+  unfolding namedOf
+  named-admitted s t e f = f ∙ sym (road-admitted words numbers (nameRows words numbers s t) (value (nameAt words numbers s t)) (value-admitted words numbers (sym e)))

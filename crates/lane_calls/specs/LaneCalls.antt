@@ -1,0 +1,78 @@
+-- Document 01: the two calls of the lanes layer. The borders, rows 3 4 5 7 11: "Samples and borders past those written stay unchanged"; a refusal "changes no memory". The lane named at t, rows 3 4 5 7 8.
+use Prim.Native.Nat.{ℕ, _/_}
+use mathlib.Core.Bool.{true}
+use mathlib.Core.List.{List, [], _∷_, _++_}
+use lib.ListN.{length}
+use lib.Dec.{leb}
+use lib.Ieee.{Float, neg}
+use Rattle.float_laws.specs.Binary64.{f64}
+use Rattle.arithmetic.specs.Answer.{Answer, value, refused, Row, row, checked}
+use Rattle.arithmetic.specs.Refusal.{numberOf}
+use Rattle.arithmetic.specs.declared.refusals.Refusal.the-variants.{Station, Offset, BorderSpace}
+use Rattle.records.specs.Roads.{roadOf, sectionIndex}
+use Rattle.limits.specs.Bounds.{inRange}
+use Rattle.limits.specs.Limits.{onRoad}
+use Rattle.admission.specs.Admission.{roadRows}
+use Rattle.lanes.specs.Borders.{lanesOf, listedBy}
+use Rattle.lanes.specs.Naming.{laneNamed}
+use Rattle.lanes.specs.declared.across.LaneName.{LaneName}
+use Rattle.lanes.specs.declared.across.LaneName.the-variants as name
+use Rattle.lane_calls.specs.declared.listing.Bordered.{Bordered}
+use Rattle.lane_calls.specs.declared.listing.Bordered.the-variants as bordered
+use Rattle.lane_calls.specs.declared.asking.Named.{Named}
+use Rattle.lane_calls.specs.declared.asking.Named.the-variants as named
+
+-- row 8: "t outside -80..80"
+abbrev pub offsetRow : Float → Row
+offsetRow t = row Offset (inRange (neg (f64 0x4054_0000_0000_0000)) (f64 0x4054_0000_0000_0000) t)
+
+module _ (words : List ℕ) (numbers : List Float) where
+  -- row 7: "s outside 0..length"
+  abbrev pub stationRow : Float → Row
+  stationRow s = row Station (onRoad (roadOf words numbers) s)
+
+  -- the section at s, and its lanes
+  abbrev pub sectionAt : Float → ℕ
+  sectionAt s = sectionIndex (roadOf words numbers) s
+
+  abbrev pub lanesAt : Float → ℕ
+  lanesAt s = lanesOf (roadOf words numbers) (sectionAt s)
+
+  -- row 11: "lent border list shorter than the section's lanes", "row 11 counts whole threes"
+  abbrev pub spaceRow : Float → ℕ → Row
+  spaceRow s len = row BorderSpace (leb (lanesAt s) (len / 3))
+
+  abbrev pub listRows : Float → ℕ → List Row
+  listRows s len = stationRow s ∷ spaceRow s len ∷ []
+
+  -- how many lanes' borders are written, or the refusal
+  unfoldable pub bordersOf : Float → ℕ → Answer ℕ
+  bordersOf s len = checked (roadRows words numbers ++ listRows s len) (value (lanesAt s))
+
+  abbrev pub writtenBy : Answer ℕ → Float → List Float → List Float
+  writtenBy (value n) s xs = listedBy true (roadOf words numbers) (sectionAt s) s xs
+  writtenBy (refused n) s xs = xs
+
+  -- the list afterwards
+  unfoldable pub bordersList : Float → List Float → List Float
+  unfolding bordersOf
+  bordersList s xs = writtenBy (bordersOf s (length xs)) s xs
+
+  abbrev pub nameRows : Float → Float → List Row
+  nameRows s t = stationRow s ∷ offsetRow t ∷ []
+
+  abbrev pub nameAt : Float → Float → LaneName
+  nameAt s t = laneNamed (roadOf words numbers) (sectionAt s) s t
+
+  -- the lane's name or none, or the refusal
+  unfoldable pub namedOf : Float → Float → Answer LaneName
+  namedOf s t = checked (roadRows words numbers ++ nameRows s t) (value (nameAt s t))
+
+abbrev pub lanesAnswer : Bordered → Answer ℕ
+lanesAnswer (bordered.Lanes n) = value n
+lanesAnswer (bordered.Refused r) = refused (numberOf r)
+
+abbrev pub nameAnswer : Named → Answer LaneName
+nameAnswer (named.Lane n) = value (name.Id n)
+nameAnswer named.Nothing = value name.Nothing
+nameAnswer (named.Refused r) = refused (numberOf r)

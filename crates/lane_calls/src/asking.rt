@@ -1,0 +1,46 @@
+// Which lane lies at an offset from the reference line.
+use crate::stationing::across;
+use crate::stationing::on_road;
+use admission::Verdict;
+use admission::admit;
+use arithmetic::Refusal;
+use lanes::LaneName;
+use lanes::lane_named_in;
+use records::section_at;
+ghost use mathlib.Core.Path.{_≡_};
+ghost use Rattle.arithmetic.specs.Answer.{value, checked};
+ghost use Rattle.lane_calls.specs.LaneCalls.{nameRows, nameAt, namedOf, nameAnswer};
+
+pub enum Named {
+    // its id, positive on the left and negative on the right
+    Lane(i32),
+    // at the base, or on a side without lanes
+    Nothing,
+    Refused(Refusal),
+}
+
+// Rows 7 and 8, then the name.
+fn name_at(words: &[u16], numbers: &[f64], s: f64, t: f64) -> Named
+    ensures { λ r. ⌜ nameAnswer r ≡ checked (nameRows (now (words .entry)) (now (numbers .entry)) s t) (value (nameAt (now (words .entry)) (now (numbers .entry)) s t)) ⌝ }
+{
+    if !on_road(words, numbers, s) {
+        return Named::Refused(Refusal::Station);
+    }
+    if !across(t) {
+        return Named::Refused(Refusal::Offset);
+    }
+    match lane_named_in(words, numbers, section_at(words, numbers, s), s, t) {
+        LaneName::Id(n) => Named::Lane(n),
+        LaneName::Nothing => Named::Nothing,
+    }
+}
+
+// The lane at s and t: none at the base, and the outermost beyond all borders; rows 3, 4, 5, 7 and 8.
+pub fn lane_named(words: &[u16], numbers: &[f64], s: f64, t: f64) -> Named
+    ensures { λ r. ⌜ nameAnswer r ≡ namedOf (now (words .entry)) (now (numbers .entry)) s t ⌝ }
+{
+    match admit(words, numbers) {
+        Verdict::Refused(r) => Named::Refused(r),
+        Verdict::Admitted => name_at(words, numbers, s, t),
+    }
+}

@@ -1,0 +1,44 @@
+// The borders of a section's lanes at a station, written into a lent list, three f64 a lane: inner, outer, width.
+use crate::stationing::on_road;
+use admission::Verdict;
+use admission::admit;
+use arithmetic::Refusal;
+use lanes::list_borders;
+use lanes::section_lanes;
+use records::section_at;
+ghost use mathlib.Core.Path.{_≡_};
+ghost use lib.ListN.{length};
+ghost use Rattle.arithmetic.specs.Answer.{value, checked};
+ghost use Rattle.lane_calls.specs.LaneCalls.{lanesAt, listRows, writtenBy, bordersOf, bordersList, lanesAnswer};
+
+pub enum Bordered {
+    // how many lanes were written
+    Lanes(usize),
+    Refused(Refusal),
+}
+
+// Rows 7 and 11, then the list.
+fn list_at(words: &[u16], numbers: &[f64], s: f64, list: &mut [f64]) -> Bordered
+    ensures { λ r. ⌜ lanesAnswer r ≡ checked (listRows (now (words .entry)) (now (numbers .entry)) s (length (now (list .entry)))) (value (lanesAt (now (words .entry)) (now (numbers .entry)) s)) ⌝ }
+    ensures { λ r. ⌜ now (list .exit) ≡ writtenBy (now (words .entry)) (now (numbers .entry)) (lanesAnswer r) s (now (list .entry)) ⌝ }
+{
+    if !on_road(words, numbers, s) {
+        return Bordered::Refused(Refusal::Station);
+    }
+    let section = section_at(words, numbers, s);
+    if !list_borders(words, numbers, section, s, list) {
+        return Bordered::Refused(Refusal::BorderSpace);
+    }
+    Bordered::Lanes(section_lanes(words, numbers, section))
+}
+
+// Writes the borders at s of the section's lanes, left outward, then right; rows 3, 4, 5, 7 and 11. The rest of the list, and all of it on a refusal, stays as it was.
+pub fn borders(words: &[u16], numbers: &[f64], s: f64, list: &mut [f64]) -> Bordered
+    ensures { λ r. ⌜ lanesAnswer r ≡ bordersOf (now (words .entry)) (now (numbers .entry)) s (length (now (list .entry))) ⌝ }
+    ensures { λ r. ⌜ now (list .exit) ≡ bordersList (now (words .entry)) (now (numbers .entry)) s (now (list .entry)) ⌝ }
+{
+    match admit(words, numbers) {
+        Verdict::Refused(r) => Bordered::Refused(r),
+        Verdict::Admitted => list_at(words, numbers, s, list),
+    }
+}
