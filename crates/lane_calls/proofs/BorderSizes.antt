@@ -4,16 +4,16 @@ use Prim.Native.Nat.{ℕ, suc, _+_, _*_, _/_, _^_, _≤_, _<_}
 use native.Mathlib.Nat.{add-zero, zero-add, le-trans, le-of-eq}
 use native.Mathlib.Omega.{arith}
 use mathlib.Core.Path.{_≡_, refl, sym, _∙_, ap, subst}
-use mathlib.Core.Bool.{Bool, true, false, cond, _&&_, _||_}
-use mathlib.Core.List.{List, [], _∷_, _++_}
+use mathlib.Core.Bool.{Bool, true, false, _&&_, _||_}
+use mathlib.Core.List.{List}
 use lib.Dec.{T, leb}
-use lib.Ieee.{Float, nan, binary64, low, lt, le, eq, ofBits, fits}
+use lib.Ieee.{Float, nan, binary64, low, lt, le, eq, ofBits}
 use lib.ListN.{length, getD, drop, List·getD-append}
 use borrow.Author.Tests.{le-leb, leb-true}
 use Rattle.float_laws.specs.Binary64.{_⊖_, f64, zero64}
-use Rattle.float_laws.proofs.Value.{mag, pl, mi, Real, le-trans'}
+use Rattle.float_laws.proofs.Value.{mag, pl, Real, le-trans'}
 use Rattle.float_laws.proofs.Size.{Within, within-mono}
-use Rattle.arithmetic.specs.Answer.{Answer, value, checked}
+use Rattle.arithmetic.specs.Answer.{value, checked}
 use Rattle.records.specs.Active.{reached}
 use Rattle.records.specs.Roads.{Road, roadOf, sectionOf, laneOf, noLane, sectionIndex}
 use Rattle.records.proofs.CubicLaws.{value-at}
@@ -25,15 +25,15 @@ use Rattle.limit_laws.proofs.ActiveRecord.{Active, index-active}
 use Rattle.limit_laws.proofs.LimitParts.{and-fst, and-snd, true-T}
 use Rattle.limit_laws.proofs.CubicBounds.{far, reached-real, reached-grows}
 use Rattle.limit_laws.proofs.RoadBounds.{OnRoad, InSection, station-within, offset-within, section-start-in, extent-within, into-section, width-within, border-within}
-use Rattle.admission.specs.Admission.{admitted, roadRows}
+use Rattle.admission.specs.Admission.{admitted}
 use Rattle.admission.proofs.RowLaws.{pass-checked, checked-pass}
-use Rattle.admission.proofs.AdmissionLaws.{admitted-value, admitted-structured, admitted-ordered, admitted-limited, road-answered, road-admitted}
+use Rattle.admission.proofs.AdmissionLaws.{admitted-structured, admitted-ordered, admitted-limited, road-answered, road-admitted}
 use Rattle.lanes.specs.declared.across.LaneBorders.{LaneBorders}
-use Rattle.lanes.specs.Borders.{signOf, baseAt, sideOf, lanesOf, bordersOf as laneBorders, bordersAt, borderList, listedBy}
+use Rattle.lanes.specs.Borders.{signOf, baseAt, sideOf, bordersOf as laneBorders, borderList, listedBy}
 use Rattle.lanes.proofs.BorderSteps.{three, left-written, right-written, list-length}
 use Rattle.lanes.proofs.Outward.{Ahead}
 use Rattle.lanes.proofs.BorderLaws.{eight, thirtySix, eighty, ExtentWithin, inner-is-outer, inner-within, outer-border-within, outer-ahead}
-use Rattle.lane_calls.specs.LaneCalls.{sectionAt, lanesAt, listRows, bordersOf, writtenBy, bordersList}
+use Rattle.lane_calls.specs.LaneCalls.{sectionAt, lanesAt, listRows, bordersOf, bordersList}
 use Rattle.lane_calls.proofs.CallLaws.{list-by}
 
 -- ---- the statement

@@ -62,6 +62,10 @@ module _ (words : List ℕ) (numbers : List Float) where
   unfolding bordersList
   list-by s xs e f = f ∙ ap (λ (a : Answer ℕ). writtenBy words numbers a s xs) e
 
+  -- a refusal changes nothing
+  pub borders-unchanged : (s : Float) (xs : List Float) (n : ℕ) → bordersOf words numbers s (length xs) ≡ refused n → bordersList words numbers s xs ≡ xs
+  borders-unchanged s xs n e = sym (list-by s xs (sym e) refl)
+
   -- ---- the name
 
   module _ (s t : Float) {a : Bool} (e : a ≡ onRoad road s) where
