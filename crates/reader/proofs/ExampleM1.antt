@@ -1,0 +1,29 @@
+-- Case M1: its text is read and its road admitted, by computation.
+use mathlib.Core.Path.{_≡_, refl}
+use lib.Ieee.{ofBits, add, sub, mul, div, le, lt, neg}
+use Rattle.arithmetic.specs.Answer.{value}
+use Rattle.cells.specs.Schema as cells-schema
+use Rattle.cells.specs.Cells as cells-cells
+use Rattle.rows.specs.NamesLine as rows-namesline
+use Rattle.rows.specs.ValuesLine as rows-valuesline
+use Rattle.store.specs.Layout as store-layout
+use Rattle.store.specs.Tracks as store-tracks
+use Rattle.store.specs.Parents as store-parents
+use Rattle.store.specs.Keep as store-keep
+use Rattle.records.specs.Active as records-active
+use Rattle.records.specs.Cubics as records-cubics
+use Rattle.records.specs.Lists as records-lists
+use Rattle.records.specs.Roads as records-roads
+use Rattle.reference_line.specs.Poses as reference-line-poses
+use Rattle.reference_line.specs.Spiral as reference-line-spiral
+use Rattle.structure.specs.Order as structure-order
+use Rattle.limits.specs.Bounds as limits-bounds
+use Rattle.limits.specs.Limits as limits-limits
+use Rattle.admission.specs.Admission as admission-admission
+use Rattle.structure.specs.Structure as structure-structure
+use Rattle.reader.specs.Reading.{linesFrom, tableAt, countedTrack, tablesFrom, readingBy, zeros, zeroNumbers, readingOf, verdictOf}
+use Rattle.reader.proofs.Examples.{textM1}
+
+pub read-M1 : verdictOf (readingOf textM1 1347 7937 32) ≡ value 1
+unfolding structure-structure.structured records-roads.roadOf cells-schema.names cells-schema.nameOf cells-schema.limits cells-schema.limitOf cells-schema.words cells-schema.wordOf cells-schema.firsts cells-schema.counts cells-schema.firstOf cells-schema.countOf cells-schema.kinds cells-schema.kindOf cells-schema.seek cells-schema.placeOf cells-cells.digitOf cells-cells.nameFrom cells-cells.nameAt cells-cells.decimalFrom cells-cells.naturalAt cells-cells.wholeAt cells-cells.hexFrom cells-cells.hexAt cells-cells.listedAt cells-cells.cellAt rows-namesline.columnAt rows-namesline.namesFrom rows-namesline.headAt rows-valuesline.stopOf rows-valuesline.rowFrom rows-valuesline.rowAt store-layout.places store-layout.placeAt store-layout.numbers store-layout.numberPlace store-layout.words store-layout.wordPlace store-layout.counts store-layout.countPlace store-layout.rules store-layout.ruleOf store-layout.bases store-layout.baseOf store-layout.strides store-layout.strideOf store-layout.codeOf store-layout.oneMore store-layout.numberPut store-layout.wordPut store-layout.numbersBelow store-layout.wordsBelow store-layout.wantsKept store-layout.countKept store-tracks.lineOf store-tracks.listedAs store-parents.counted store-parents.sideOf store-parents.laneTurn store-parents.laneBy store-parents.laneOf store-parents.termOf store-parents.indexOf store-parents.rangeOf store-parents.parentOf store-keep.firstLine store-keep.added store-keep.inOrder store-keep.underWords store-keep.underTrack store-keep.stripWords store-keep.stripTrack store-keep.ruledWords store-keep.ruledTrack store-keep.keptWords store-keep.keptTrack records-active.lastStart records-active.foundOf records-active.activeIn records-active.valueIn records-active.slopeIn records-cubics.cubicsOf records-lists.table records-lists.allBelow records-roads.heightsOf records-roads.geomIndex records-roads.sectionIndex reference-line-poses.linePose reference-line-poses.arcPose reference-line-poses.leading reference-line-poses.spiralPose reference-line-poses.poseOf reference-line-spiral.goesOn reference-line-spiral.stepsFrom reference-line-spiral.spiralSteps reference-line-spiral.sampleCount reference-line-spiral.samplesBefore reference-line-spiral.samplesNeeded reference-line-spiral.nextSample reference-line-spiral.samplesAfter reference-line-spiral.geomSamples reference-line-spiral.samplesUpTo reference-line-spiral.flat reference-line-spiral.samplesOf structure-order.neverFall structure-order.riseStrictly structure-order.apart structure-order.cubicsInOrder structure-order.laneInOrder structure-order.sectionInOrder structure-order.profilesInOrder structure-order.stripInOrder structure-order.ordered limits-bounds.reachAt limits-bounds.boundOf limits-bounds.slopeBoundOf limits-bounds.cubicWithin limits-bounds.cubicsWithin limits-bounds.slopesWithin limits-bounds.greatest limits-bounds.greatestBound limits-limits.shapeLimited limits-limits.geomLimited limits-limits.sectionExtent limits-limits.heightLimited limits-limits.heightsLimited limits-limits.laneLimited limits-limits.sectionLimited limits-limits.profileLimited limits-limits.stripLimited limits-limits.limited admission-admission.admissionOf admission-admission.admitted linesFrom tableAt countedTrack tablesFrom readingBy zeros zeroNumbers readingOf ofBits add sub mul div le lt neg
+read-M1 = refl

@@ -1,0 +1,139 @@
+-- Document 01, "What a call gives back" and "The job text": a whole text, read. "Reading checks 1 to 5"; "Row 2's slice and length tests precede all lines;
+-- then a line is tested for 1 before 2. A refused reading leaves zeros in all road slices, an accepted one zeros past the last line". Read `readingOf` first.
+use Prim.Native.Nat.{ℕ, zero, suc, _+_, _<_, _≤_}
+use mathlib.Core.Path.{_≡_}
+use mathlib.Core.Bool.{_&&_, cond}
+use mathlib.Core.List.{List}
+use lib.ListN.{length, replicate}
+use lib.Dec.{eqb, ltb, leb}
+use lib.Ieee.{Float, binary64, ofBits}
+use Rattle.arithmetic.specs.Answer.{Answer, value, refused}
+use Rattle.arithmetic.specs.Refusal.{numberOf}
+use Rattle.admission.specs.Admission.{admissionOf}
+use Rattle.cells.specs.Schema.{nameOf, limitOf}
+use Rattle.cells.specs.Cells.{byteAt, nameAt}
+use Rattle.rows.specs.NamesLine.{headAt}
+use Rattle.rows.specs.ValuesLine.{rowAt}
+use Rattle.rows.specs.declared.columns.Order.{Order}
+use Rattle.rows.specs.declared.columns.Cells.{Cells}
+use Rattle.rows.specs.declared.names_line.Head.{Head}
+use Rattle.rows.specs.declared.values_line.Row.{Row}
+use Rattle.store.specs.Layout.{numbersBelow, wantsKept, countKept}
+use Rattle.store.specs.Tracks.{startTrack, unsoundTrack, endedTrack}
+use Rattle.store.specs.Keep.{keptWords, keptTrack}
+use Rattle.store.specs.declared.tracks.Track.{Track}
+use Rattle.reader.specs.declared.taking.Taken.{Taken}
+use Rattle.reader.specs.declared.answers.Read.{Read}
+use Rattle.reader.specs.declared.answers.Read.the-variants.{Accepted, Refused}
+
+-- What reading comes to: the place after it, how many lines the last table had, what is remembered of references and order, and the words, numbers and
+-- wants then held; or the number of the refusal.
+pub data Outcome : Type 0 where
+  done : ℕ → ℕ → Track → List ℕ → List Float → List ℕ → Outcome
+  stop : ℕ → Outcome
+
+-- by a line of values: what its cells and the place after it lead to, or a broken form
+abbrev pub byRow : Row → (Cells → ℕ → Outcome) → Outcome
+byRow row f = cond (row .good) (f (row .cells) (row .next)) (stop 1)
+
+-- Lines up to an empty one, at most `fuel` more, the k-th at hand. "a line is tested for 1 before 2".
+unfoldable pub linesFrom : ℕ → ℕ → Order → List ℕ → ℕ → ℕ → Track → List ℕ → List Float → List ℕ → Outcome
+linesFrom zero table order text at k track ws ns vs =
+    cond (eqb (byteAt text at) 10) (done (at + 1) k (endedTrack track) (countKept table k ws) ns vs)
+    (byRow (rowAt text at table order) (λ cells next. stop 2))
+linesFrom (suc fuel) table order text at k track ws ns vs =
+    cond (eqb (byteAt text at) 10) (done (at + 1) k (endedTrack track) (countKept table k ws) ns vs)
+    (byRow (rowAt text at table order)
+    (λ cells next.
+    linesFrom fuel table order text next (k + 1) (keptTrack table k cells track ws) (keptWords table k cells track ws) (numbersBelow table k cells 8 ns) (wantsKept table k cells vs)))
+
+-- by a line of names: what the order of its columns and the place after it lead to, or a broken form
+abbrev pub byHead : Head → (Order → ℕ → Outcome) → Outcome
+byHead head f = cond (head .good) (f (head .order) (head .next)) (stop 1)
+
+-- "A table is a line of names .., lines of values .., one empty line." Where its name does not stand, the table is missing and nothing is read.
+unfoldable pub tableAt : ℕ → List ℕ → ℕ → Track → List ℕ → List Float → List ℕ → Outcome
+tableAt table text at track ws ns vs =
+    cond (eqb (nameAt text at .value) (nameOf table))
+    (byHead (headAt text (nameAt text at .next) table) (λ order next. linesFrom (limitOf table) table order text next 0 track ws ns vs))
+    (done at 0 track ws ns vs)
+
+-- "road: length (1 line)"; "Too few .. is 3": a road without its line, its table missing or empty. The other tables' counts are tested by admission.
+unfoldable pub countedTrack : ℕ → ℕ → Track → Track
+countedTrack table lines track = cond (eqb table 0 && eqb lines 0) (unsoundTrack track) track
+
+abbrev pub byOutcome : Outcome → (ℕ → ℕ → Track → List ℕ → List Float → List ℕ → Outcome) → Outcome
+byOutcome (done at lines track ws ns vs) f = f at lines track ws ns vs
+byOutcome (stop m) f = stop m
+
+-- n tables, from a table on: "Tables come in the order below". What stands after the last is no table's line of names: a broken form.
+unfoldable pub tablesFrom : ℕ → ℕ → List ℕ → ℕ → ℕ → Track → List ℕ → List Float → List ℕ → Outcome
+tablesFrom zero table text at lines track ws ns vs = cond (ltb at (length text)) (stop 1) (done at lines track ws ns vs)
+tablesFrom (suc n) table text at lines track ws ns vs =
+    byOutcome (tableAt table text at track ws ns vs)
+    (λ at' lines' track' ws' ns' vs'. tablesFrom n (table + 1) text at' lines' (countedTrack table lines' track') ws' ns' vs')
+
+-- the road that was stored, by admission
+abbrev pub admittedAs : {A : Type 0} → Answer (Unit {0}) → A → (ℕ → A) → A
+admittedAs (value u) a f = a
+admittedAs (refused m) a f = f m
+
+-- references and order (3) once every line has its form, then rows 3 to 5 on the road that was stored
+abbrev pub judge : Outcome → Outcome
+judge (done at lines track ws ns vs) = cond (track .sound) (admittedAs (admissionOf ws ns) (done at lines track ws ns vs) stop) (stop 3)
+judge (stop m) = stop m
+
+-- a reading into slices that hold zeros: the slices' and the text's lengths first
+unfoldable pub readingBy : List ℕ → List ℕ → List Float → List ℕ → Outcome
+readingBy text ws ns vs =
+    cond ((leb 1347 (length ws) && leb 7937 (length ns)) && leb 32 (length vs))
+    (cond (ltb 65536 (length text)) (stop 2) (judge (tablesFrom 15 0 text 0 0 startTrack ws ns vs)))
+    (stop 2)
+
+unfoldable pub zeros : ℕ → List ℕ
+zeros n = replicate n 0
+
+unfoldable pub zeroNumbers : ℕ → List Float
+zeroNumbers n = replicate n (ofBits binary64 0)
+
+-- a text read into slices of n words, m numbers and l wants, whatever they held before
+unfoldable pub readingOf : List ℕ → ℕ → ℕ → ℕ → Outcome
+readingOf text n m l = readingBy text (zeros n) (zeroNumbers m) (zeros l)
+
+-- its answer: how many wants, or the number of the refusal
+abbrev pub verdictOf : Outcome → Answer ℕ
+verdictOf (done at lines track ws ns vs) = value lines
+verdictOf (stop m) = refused m
+
+-- what the slices hold after it: zeros alone after a refusal
+abbrev pub wordsHeld : ℕ → Outcome → List ℕ
+wordsHeld n (done at lines track ws ns vs) = ws
+wordsHeld n (stop m) = zeros n
+
+abbrev pub numbersHeld : ℕ → Outcome → List Float
+numbersHeld n (done at lines track ws ns vs) = ns
+numbersHeld n (stop m) = zeroNumbers n
+
+abbrev pub wantsHeld : ℕ → Outcome → List ℕ
+wantsHeld n (done at lines track ws ns vs) = vs
+wantsHeld n (stop m) = zeros n
+
+-- the number and the value of each case of the answer
+abbrev pub answerOf : Read → Answer ℕ
+answerOf (Accepted n) = value n
+answerOf (Refused r) = refused (numberOf r)
+
+-- What the parts of `read` promise each other. Taken tables agree with an outcome; after a refusal the slices may hold anything: `read` clears them.
+abbrev pub Agrees : Outcome → Taken → List ℕ → List Float → List ℕ → Type 0
+Agrees (done at lines track ws ns vs) r us xs ys = (r ≡ record { number = 0; next = at; lines = lines; track = track }) × (us ≡ ws) × (xs ≡ ns) × (ys ≡ vs)
+Agrees (stop m) r us xs ys = (r .number ≡ m) × (0 < m) × (m ≤ 2)
+
+unfoldable pub judgedBy : Taken → List ℕ → List Float → Answer ℕ
+judgedBy taken ws ns =
+    cond (eqb (taken .number) 1) (refused 1)
+    (cond (eqb (taken .number) 0) (cond (taken .track .sound) (admittedAs (admissionOf ws ns) (value (taken .lines)) refused) (refused 3)) (refused 2))
+
+-- before the clearing: what was read where it is accepted
+abbrev pub Filled : Outcome → Read → List ℕ → List Float → List ℕ → Type 0
+Filled (done at lines track ws ns vs) r us xs ys = (answerOf r ≡ value lines) × (us ≡ ws) × (xs ≡ ns) × (ys ≡ vs)
+Filled (stop m) r us xs ys = answerOf r ≡ refused m

@@ -1,0 +1,64 @@
+// A whole job text: rows 1 to 5, in their order.
+ghost use mathlib.Core.Path.{_≡_};
+ghost use lib.ListN.{length};
+ghost use Rattle.reader.specs.Reading.{answerOf, judgedBy, Filled, readingBy, readingOf, verdictOf, wordsHeld, numbersHeld, wantsHeld};
+use crate::answers::Read;
+use crate::clearing::clear;
+use crate::taking::Taken;
+use crate::taking::tables;
+use admission::Verdict;
+use arithmetic::Refusal;
+
+// What a text that was taken leads to: its form, then references and order, then the road that was stored.
+fn judged(taken: Taken, words: &[u16], numbers: &[f64]) -> Read
+    ensures { λ r. ⌜ answerOf r ≡ judgedBy taken (now (words .entry)) (now (numbers .entry)) ⌝ }
+{
+    if taken.number == 1 {
+        return Read::Refused(Refusal::Form);
+    }
+    if taken.number != 0 {
+        return Read::Refused(Refusal::Capacity);
+    }
+    let track = taken.track;
+    if !track.sound {
+        return Read::Refused(Refusal::Structure);
+    }
+    let count = taken.lines as usize;
+    match admission::admit(words, numbers) {
+        Verdict::Refused(r) => Read::Refused(r),
+        Verdict::Admitted => Read::Accepted(count),
+    }
+}
+
+// A text read into slices that hold zeros; after a refusal they may hold anything.
+fn fill(text: &[u8], words: &mut [u16], numbers: &mut [f64], wants: &mut [u64]) -> Read
+    ensures { λ r. ⌜ Filled (readingBy (now (text .entry)) (now (words .entry)) (now (numbers .entry)) (now (wants .entry))) r (now (words .exit)) (now (numbers .exit)) (now (wants .exit)) ⌝ }
+{
+    let room = (1347 <= words.len()) & (7937 <= numbers.len()) & (32 <= wants.len());
+    if !room {
+        return Read::Refused(Refusal::Capacity);
+    }
+    if 65536 < text.len() {
+        return Read::Refused(Refusal::Capacity);
+    }
+    let taken = tables(text, words, numbers, wants);
+    judged(taken, words, numbers)
+}
+
+// Reads a job text. The slices hold what was read and zeros everywhere else, or zeros alone after a refusal.
+pub fn read(text: &[u8], words: &mut [u16], numbers: &mut [f64], wants: &mut [u64]) -> Read
+    ensures { λ r. ⌜ answerOf r ≡ verdictOf (readingOf (now (text .entry)) (length (now (words .entry))) (length (now (numbers .entry))) (length (now (wants .entry)))) ⌝ }
+    ensures { λ _. ⌜ now (words .exit) ≡ wordsHeld (length (now (words .entry))) (readingOf (now (text .entry)) (length (now (words .entry))) (length (now (numbers .entry))) (length (now (wants .entry)))) ⌝ }
+    ensures { λ _. ⌜ now (numbers .exit) ≡ numbersHeld (length (now (numbers .entry))) (readingOf (now (text .entry)) (length (now (words .entry))) (length (now (numbers .entry))) (length (now (wants .entry)))) ⌝ }
+    ensures { λ _. ⌜ now (wants .exit) ≡ wantsHeld (length (now (wants .entry))) (readingOf (now (text .entry)) (length (now (words .entry))) (length (now (numbers .entry))) (length (now (wants .entry)))) ⌝ }
+{
+    clear(words, numbers, wants);
+    let answer = fill(text, words, numbers, wants);
+    match answer {
+        Read::Accepted(_) => answer,
+        Read::Refused(_) => {
+            clear(words, numbers, wants);
+            answer
+        }
+    }
+}
