@@ -1,0 +1,139 @@
+-- An admitted road and a station on it: what the laws on heights take of admission, as one record, and the section at s with how far s lies into it.
+-- Rows 3 and 4 part by part; the section at s is there because the first one starts at 0.
+use Prim.Native.Nat.{ℕ, _≤_, _<_}
+use mathlib.Core.Path.{_≡_}
+use mathlib.Core.Bool.{Bool, true, false, _||_}
+use mathlib.Core.List.{List}
+use lib.ListN.{length}
+use lib.Dec.{T}
+use lib.Ieee.{Float, binary64, ofBits, fits, le, lt, eq, neg, sub}
+use Rattle.float_laws.specs.Binary64.{_⊖_, f64, zero64}
+use Rattle.float_laws.proofs.Value.{Real, le-trans'}
+use Rattle.float_laws.proofs.Interval.{In, sub-in}
+use Rattle.float_laws.proofs.Size.{Within, within-of-le, le-of-within, within-mono, within-const}
+use Rattle.records.specs.Active.{reached}
+use Rattle.records.specs.Roads.{Road, roadOf, absent, sectionOf, sectionIndex, profileAt, stripAt}
+use Rattle.records.proofs.RoadLaws.{strip-past}
+use Rattle.structure.proofs.OrderLaws.{Ordered, ordered-is}
+use Rattle.structure.proofs.StructureLaws.{structured-is}
+use Rattle.limits.specs.Limits.{onRoad, limited}
+use Rattle.limit_laws.proofs.Fitting.{Fits64, Fitting, RoadFits, road-fits}
+use Rattle.limit_laws.proofs.ActiveRecord.{Active, index-active}
+use Rattle.limit_laws.proofs.LimitParts.{and-fst, and-snd, true-T}
+use Rattle.limit_laws.proofs.CubicBounds.{far, reached-real, reached-grows}
+use Rattle.limit_laws.proofs.RoadBounds.{OnRoad, InSection, station-within, section-start-in, section-start-within, extent-within, into-section}
+use Rattle.admission.specs.Admission.{admitted}
+use Rattle.admission.proofs.AdmissionLaws.{admitted-structured, admitted-ordered, admitted-limited}
+use Rattle.lateral.proofs.StationBounds.{far as station-far}
+use Rattle.lanes.specs.Borders.{sideOf}
+
+-- ---- the road
+
+pub record Admits (road : Road) : Type 0 where
+  pub fit : RoadFits road
+  pub limits : limited road ≡ true
+  pub order : Ordered road
+  pub sections : 0 < length (road .sections)
+  pub few : (i : ℕ) (right : Bool) → length (sideOf road i right) ≤ 6
+  pub shapes : (i : ℕ) → i < length (road .profiles) → 0 < length (profileAt road i .shapes)
+  pub strips : (i : ℕ) → 4 ≤ i → stripAt road i ≡ absent
+
+pub admits : (words : List ℕ) (numbers : List Float) → Fitting numbers → admitted words numbers ≡ true → Admits (roadOf words numbers)
+admits words numbers fitting ok =
+    let counts = structured-is words numbers (admitted-structured words numbers ok) in
+    record {
+      fit = road-fits words numbers fitting;
+      limits = admitted-limited words numbers ok;
+      order = ordered-is (roadOf words numbers) (admitted-ordered words numbers ok);
+      sections = counts .sections .enough;
+      few = side (counts .left) (counts .right);
+      shapes = λ i l. counts .shapes i l .enough;
+      strips = strip-past words numbers;
+    }
+  where
+    side : ((i : ℕ) → length (sideOf (roadOf words numbers) i false) ≤ 6) → ((i : ℕ) → length (sideOf (roadOf words numbers) i true) ≤ 6) → (i : ℕ) (right : Bool) → length (sideOf (roadOf words numbers) i right) ≤ 6
+    side l r i false = l i
+    side l r i true = r i
+
+-- ---- the station
+
+-- row 7
+pub on-road : (road : Road) (s : Float) → Fits64 s → onRoad road s ≡ true → OnRoad road s
+on-road road s f on =
+    record {
+      fits = f;
+      above = true-T (le zero64 s) (and-fst (le zero64 s) (le s (road .length)) on);
+      below = true-T (le s (road .length)) (and-snd (le zero64 s) (le s (road .length)) on);
+    }
+
+abbrev ten-thousand : Float
+ten-thousand = f64 0x40c3_8800_0000_0000
+
+ten-thousand-own : Within binary64 ten-thousand ten-thousand
+unfolding ofBits fits le neg
+ten-thousand-own = within-const binary64 ten-thousand ten-thousand tt
+
+far-own : Within binary64 station-far station-far
+unfolding ofBits fits le neg
+far-own = within-const binary64 station-far station-far tt
+
+ten-thousand-far : T (le ten-thousand far) × T (le ten-thousand station-far)
+unfolding ofBits le
+ten-thousand-far = (tt, tt)
+
+or-r : (a b : Bool) → T b → T (a || b)
+or-r true b t = tt
+or-r false b t = t
+
+same-le : (x y : Float) → T (eq x y) → T (le x y)
+unfolding le
+same-le x y e = or-r (lt x y) (eq x y) e
+
+-- x and y in 0..10,000: x - y is at most 10,000 in size
+difference-within : (x y : Float) → In binary64 zero64 ten-thousand x → In binary64 zero64 ten-thousand y → Within binary64 (x ⊖ y) station-far
+unfolding ofBits sub le neg
+difference-within x y i j =
+    let d = sub-in binary64 zero64 ten-thousand zero64 ten-thousand x y i j tt tt in
+    let w = within-of-le binary64 (x ⊖ y) ten-thousand (d .value) (ten-thousand-own .bound) (d .above) (d .below) in
+    within-mono binary64 (x ⊖ y) ten-thousand station-far w (far-own .bound) (ten-thousand-far .1)
+
+module _ (road : Road) (a : Admits road) (s : Float) (o : OnRoad road s) where
+  -- s is at most 10,000
+  pub s-within : Within binary64 s ten-thousand
+  s-within = station-within road (a .fit) (a .limits) s o
+
+  pub s-near : Within binary64 s station-far
+  s-near = within-mono binary64 s ten-thousand station-far s-within (far-own .bound) (ten-thousand-far .1)
+
+  first-reached : T (le (sectionOf road 0 .start) (reached s))
+  first-reached =
+      let z = section-start-in road (a .fit) (a .limits) 0 (a .sections) in
+      let e = extent-within road (a .fit) (a .limits) 0 (a .sections) in
+      let w = within-mono binary64 s ten-thousand far s-within (e .bound) (ten-thousand-far .0) in
+      let r = reached-real s w in
+      le-trans' binary64 (sectionOf road 0 .start) zero64 (reached s) (z .value) (z .low) r (same-le (sectionOf road 0 .start) zero64 (a .order .section-zero))
+      (le-trans' binary64 zero64 s (reached s) (z .low) (w .value) r (o .above) (reached-grows s w))
+
+  -- the section at s is there, and s lies in it
+  pub section-active : Active (λ k. sectionOf road k .start) (reached s) (length (road .sections)) (sectionIndex road s)
+  unfolding sectionIndex
+  section-active = index-active (λ k. sectionOf road k .start) (reached s) (length (road .sections)) (a .sections) first-reached
+
+  pub section-there : sectionIndex road s < length (road .sections)
+  section-there = section-active .below
+
+  -- how far
+  abbrev pub into : Float
+  into = s ⊖ sectionOf road (sectionIndex road s) .start
+
+  pub in-section : InSection road (sectionIndex road s) into
+  in-section = into-section road (a .fit) (a .limits) s o (sectionIndex road s) section-active
+
+  pub into-near : Within binary64 into station-far
+  into-near =
+      let z = section-start-in road (a .fit) (a .limits) (sectionIndex road s) section-there in
+      let w = section-start-within road (a .fit) (a .limits) (sectionIndex road s) section-there in
+      difference-within s (sectionOf road (sectionIndex road s) .start) (from-zero s s-within (o .above) (z .low)) (from-zero (sectionOf road (sectionIndex road s) .start) w (z .above) (z .low))
+    where
+      from-zero : (x : Float) → Within binary64 x ten-thousand → T (le zero64 x) → Real binary64 zero64 → In binary64 zero64 ten-thousand x
+      from-zero x w h z = record { low = z; high = w .bound; value = w .value; above = h; below = le-of-within binary64 x ten-thousand w .1 }

@@ -1,0 +1,2 @@
+pub mod AdmittedRoad
+pub mod RoadHeights

@@ -1,0 +1,147 @@
+-- Clause 1, for a road that `Admits` and a station on it: the height at every t in -80..80 is within 120.001, its profiles' part within 40.001 and its cross section's within 80; a lane's own heights are within 2.00001.
+-- The lateral layer's laws have bounds on values as premises; admission's limits give them.
+use Prim.Native.Nat.{ℕ, _≤_, _<_}
+use native.Mathlib.Omega.{arith}
+use mathlib.Core.Path.{_≡_, refl, _∙_, subst}
+use mathlib.Core.Bool.{Bool, true, false, not}
+use mathlib.Core.List.{List}
+use lib.ListN.{length}
+use lib.Dec.{T, ltb, ltb→lt, nltb→le}
+use lib.Ieee.{Float, binary64, ofBits, fits, le, neg, add}
+use lib.Ieee.Scale.{finite}
+use Rattle.float_laws.specs.Binary64.{_⊕_, _⊖_, _⊗_, f64, zero64}
+use Rattle.float_laws.proofs.Value.{neg-real}
+use Rattle.float_laws.proofs.Interval.{in-of-le}
+use Rattle.float_laws.proofs.Size.{Within, within-of-le, le-of-within, within-mono, within-const}
+use Rattle.records.specs.declared.points.HeightDef.{HeightDef}
+use Rattle.records.specs.declared.scan.Found.the-variants.{At, Nothing}
+use Rattle.records.specs.Cubics.{cubicAt, evalAt}
+use Rattle.records.specs.Active.{activeIn, valueIn}
+use Rattle.records.specs.Roads.{Road, Strip, StripDef, absent, present, columnOf, laneOf, profileAt, stripAt, heightDefAt, sectionIndex}
+use Rattle.records.proofs.CubicLaws.{value-at}
+use Rattle.limits.specs.Bounds.{inRange}
+use Rattle.limits.specs.Limits.{sectionExtent}
+use Rattle.limit_laws.proofs.Fitting.{Fits64}
+use Rattle.limit_laws.proofs.LimitParts.{and-fst, and-snd, true-T, limited-parts, laneCount, lane-parts, height-parts}
+use Rattle.limit_laws.proofs.RoadBounds.{OnRoad, Across, sized-within, station-within, tshift-within, profile-start-in, shape-within, shape-constant-within, strip-height-within, height-inner-within, height-outer-within}
+use Rattle.lateral.specs.Lateral.{stripHeight, shapeOf, crossHeight, heightToward, heightOf}
+use Rattle.lateral.proofs.StationBounds.{far, largest}
+use Rattle.lateral.proofs.StripBounds.{StripWithin, cross-within}
+use Rattle.lateral.proofs.LateralBounds.{HeightsAt, innerOf, outerOf, two, two-wide, wider-two, height-within, ProfilesAt, profile-within, forty, forty-wide, wider-forty, shape-within as profiles-within, shift-within, height-most, toward-most}
+use Rattle.lanes.proofs.BorderLaws.{eighty}
+use Rattle.height_laws.proofs.AdmittedRoad.{Admits, s-near, section-there, into, into-near}
+
+-- ---- t in -80..80, by row 8's test or by its size
+
+eighty-own : Within binary64 eighty eighty
+unfolding ofBits fits le neg
+eighty-own = within-const binary64 eighty eighty tt
+
+pub across-of : (t : Float) → Fits64 t → inRange (neg eighty) eighty t ≡ true → Across t
+across-of t f e =
+    record { fits = f; above = true-T (le (neg eighty) t) (and-fst (le (neg eighty) t) (le t eighty) e); below = true-T (le t eighty) (and-snd (le (neg eighty) t) (le t eighty) e) }
+
+pub across-within : (t : Float) → Within binary64 t eighty → Across t
+across-within t w = let l = le-of-within binary64 t eighty w in record { fits = w .value .fits; above = l .0; below = l .1 }
+
+pub within-across : (t : Float) → Across t → Within binary64 t eighty
+within-across t a =
+    let v = in-of-le binary64 (neg eighty) eighty t (neg-real binary64 eighty (eighty-own .bound)) (eighty-own .bound) (a .fits) (a .above) (a .below) in
+    within-of-le binary64 t eighty (v .value) (eighty-own .bound) (a .above) (a .below)
+
+-- ---- the constants
+
+far-own : Within binary64 far far
+unfolding ofBits fits le neg
+far-own = within-const binary64 far far tt
+
+largest-own : Within binary64 largest largest
+unfolding ofBits fits le neg
+largest-own = within-const binary64 largest largest tt
+
+forty-own : Within binary64 forty forty
+unfolding ofBits fits le neg
+forty-own = within-const binary64 forty forty tt
+
+ten-thousand-far : T (le (f64 0x40c3_8800_0000_0000) far)
+unfolding ofBits le
+ten-thousand-far = tt
+
+forty-twice : T (finite (forty ⊕ forty)) × (forty ⊕ forty ≡ eighty)
+unfolding ofBits add
+forty-twice = (tt, refl)
+
+no-strip : (strip : Strip) (d : StripDef) → strip ≡ absent → strip ≡ present d → ⊥
+no-strip strip d e f = let z : _≡_ {A = ℕ} 0 1 = cc in omega arith
+
+module _ (road : Road) (a : Admits road) (s : Float) (o : OnRoad road s) where
+  -- ---- at t
+  module _ (t : Float) (c : Across t) where
+    profiles : ProfilesAt road t forty
+    profiles =
+        record {
+          starts = λ i l.
+              let z = profile-start-in road (a .fit) (a .limits) i l in
+              let w = station-within road (a .fit) (a .limits) (profileAt road i .s) (record { fits = z .value .fits; above = z .above; below = z .below }) in
+              within-mono binary64 (profileAt road i .s) (f64 0x40c3_8800_0000_0000) far w (far-own .bound) ten-thousand-far;
+          values = λ i l.
+              profile-within road i t forty
+              (λ k e. subst (λ (v : Float). Within binary64 v forty) (value-at (profileAt road i .shapes) t k e) (shape-within road (a .fit) (a .limits) i l t c))
+              (λ e. shape-constant-within road (a .fit) (a .limits) i l t c 0 (a .shapes i l));
+          apart = a .order .profiles;
+        }
+
+    shifted : Within binary64 (t ⊖ valueIn (road .tshifts) s) (f64 0x4056_0000_0000_0000)
+    shifted = shift-within t (valueIn (road .tshifts) s) (within-across t c) (tshift-within road (a .fit) (a .limits) s o)
+
+  -- a strip's height, as far out as 88
+  strip-there : (i : ℕ) → i < 4 → (strip : Strip) → stripAt road i ≡ strip → (d : StripDef) → strip ≡ present d → StripWithin s (f64 0x4056_0000_0000_0000) forty d
+  unfolding stripHeight
+  strip-there i l strip e d f dt w =
+      subst
+      (λ (x : Strip).
+      Within binary64
+      ((((zero64 ⊗ dt ⊕ valueIn (columnOf x 4) s) ⊗ dt ⊕ valueIn (columnOf x 3) s) ⊗ dt ⊕ valueIn (columnOf x 2) s) ⊗ dt ⊕ valueIn (columnOf x 1) s) forty)
+      (e ∙ f) (strip-height-within road (a .fit) (a .limits) i l s o dt w)
+
+  strips : (i : ℕ) (d : StripDef) → stripAt road i ≡ present d → StripWithin s (f64 0x4056_0000_0000_0000) forty d
+  strips i d e = go (ltb i 4) (ltb→lt i 4) (nltb→le i 4)
+    where
+      go : (b : Bool) → (T b → i < 4) → (T (not b) → 4 ≤ i) → StripWithin s (f64 0x4056_0000_0000_0000) forty d
+      go true h k = strip-there i (h tt) (stripAt road i) refl d e
+      go false h k = absurd (no-strip (stripAt road i) d (a .strips i (k tt)) e)
+
+  module _ (t : Float) (c : Across t) where
+    -- 40.001
+    pub shape-kept : Within binary64 (shapeOf road s t) forty-wide
+    shape-kept = profiles-within road s t wider-forty (profiles t c) (s-near road a s o)
+
+    -- 80
+    pub cross-kept : (toward : Float) → Within binary64 (crossHeight road s t toward) eighty
+    cross-kept toward =
+        subst (λ (x : Float). Within binary64 (crossHeight road s t toward) x) (forty-twice .1)
+        (cross-within road s t toward (f64 0x4056_0000_0000_0000) forty (shifted t c) (forty-own .bound) (forty-own .plus) (forty-twice .0) strips)
+
+    -- 120.001
+    pub toward-kept : (toward : Float) → Within binary64 (heightToward road s t toward) height-most
+    toward-kept toward = toward-most road s t toward (profiles t c) (s-near road a s o) (shifted t c) strips
+
+  -- ---- a lane's own heights, in the section at s
+  module _ (right : Bool) (k : ℕ) (l : k < laneCount road (sectionIndex road s) right) where
+    abbrev own : List HeightDef
+    own = laneOf road (sectionIndex road s) right k .heights
+
+    starts : (j : ℕ) → j < length own → Within binary64 (heightDefAt own j .«s_offset») largest
+    starts j h =
+        let i = sectionIndex road s in
+        let p = lane-parts road i right k (limited-parts road (a .limits) .sections i (section-there road a s o)) l in
+        sized-within largest (heightDefAt own j .«s_offset») (largest-own .bound) (a .fit .heights i right k j .start) (height-parts (sectionExtent road i) (laneOf road i right k) p j h .start)
+
+    -- 2.00001, at the inner border and at the outer
+    pub own-kept : Within binary64 (heightOf own (into road a s o) .inner) two-wide × Within binary64 (heightOf own (into road a s o) .outer) two-wide
+    own-kept =
+        let apart = a .order .lanes (sectionIndex road s) k right .heights in
+        height-within own (into road a s o) wider-two
+        (record { starts = starts; values = height-inner-within road (a .fit) (a .limits) (sectionIndex road s) (section-there road a s o) right k l; apart = apart })
+        (record { starts = starts; values = height-outer-within road (a .fit) (a .limits) (sectionIndex road s) (section-there road a s o) right k l; apart = apart })
+        (into-near road a s o)
