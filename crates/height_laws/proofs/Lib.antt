@@ -1,2 +1,4 @@
 pub mod AdmittedRoad
 pub mod RoadHeights
+pub mod WholeSizes
+pub mod BorderHeights

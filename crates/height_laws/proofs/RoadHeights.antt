@@ -95,20 +95,20 @@ module _ (road : Road) (a : Admits road) (s : Float) (o : OnRoad road s) where
     shifted = shift-within t (valueIn (road .tshifts) s) (within-across t c) (tshift-within road (a .fit) (a .limits) s o)
 
   -- a strip's height, as far out as 88
-  strip-there : (i : ℕ) → i < 4 → (strip : Strip) → stripAt road i ≡ strip → (d : StripDef) → strip ≡ present d → StripWithin s (f64 0x4056_0000_0000_0000) forty d
+  strip-there : (i : ℕ) → i < 4 → (d : StripDef) → stripAt road i ≡ present d → StripWithin s (f64 0x4056_0000_0000_0000) forty d
   unfolding stripHeight
-  strip-there i l strip e d f dt w =
+  strip-there i l d e dt w =
       subst
       (λ (x : Strip).
       Within binary64
       ((((zero64 ⊗ dt ⊕ valueIn (columnOf x 4) s) ⊗ dt ⊕ valueIn (columnOf x 3) s) ⊗ dt ⊕ valueIn (columnOf x 2) s) ⊗ dt ⊕ valueIn (columnOf x 1) s) forty)
-      (e ∙ f) (strip-height-within road (a .fit) (a .limits) i l s o dt w)
+      e (strip-height-within road (a .fit) (a .limits) i l s o dt w)
 
   strips : (i : ℕ) (d : StripDef) → stripAt road i ≡ present d → StripWithin s (f64 0x4056_0000_0000_0000) forty d
   strips i d e = go (ltb i 4) (ltb→lt i 4) (nltb→le i 4)
     where
       go : (b : Bool) → (T b → i < 4) → (T (not b) → 4 ≤ i) → StripWithin s (f64 0x4056_0000_0000_0000) forty d
-      go true h k = strip-there i (h tt) (stripAt road i) refl d e
+      go true h k = strip-there i (h tt) d e
       go false h k = absurd (no-strip (stripAt road i) d (a .strips i (k tt)) e)
 
   module _ (t : Float) (c : Across t) where
