@@ -2,3 +2,4 @@ pub mod AdmittedRoad
 pub mod RoadHeights
 pub mod WholeSizes
 pub mod BorderHeights
+pub mod Quotients
