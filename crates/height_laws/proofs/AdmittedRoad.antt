@@ -8,24 +8,26 @@ use lib.ListN.{length}
 use lib.Dec.{T}
 use lib.Ieee.{Float, binary64, ofBits, fits, le, lt, eq, neg, sub}
 use Rattle.float_laws.specs.Binary64.{_⊖_, f64, zero64}
-use Rattle.float_laws.proofs.Value.{Real, le-trans'}
-use Rattle.float_laws.proofs.Interval.{In, sub-in}
+use Rattle.float_laws.proofs.Value.{Real, le-trans', neg-real}
+use Rattle.float_laws.proofs.Interval.{In, sub-in, in-of-le}
 use Rattle.float_laws.proofs.Size.{Within, within-of-le, le-of-within, within-mono, within-const}
 use Rattle.records.specs.Active.{reached}
 use Rattle.records.specs.Roads.{Road, roadOf, absent, sectionOf, sectionIndex, profileAt, stripAt}
 use Rattle.records.proofs.RoadLaws.{strip-past}
 use Rattle.structure.proofs.OrderLaws.{Ordered, ordered-is}
 use Rattle.structure.proofs.StructureLaws.{structured-is}
+use Rattle.limits.specs.Bounds.{inRange}
 use Rattle.limits.specs.Limits.{onRoad, limited}
 use Rattle.limit_laws.proofs.Fitting.{Fits64, Fitting, RoadFits, road-fits}
 use Rattle.limit_laws.proofs.ActiveRecord.{Active, index-active}
 use Rattle.limit_laws.proofs.LimitParts.{and-fst, and-snd, true-T}
 use Rattle.limit_laws.proofs.CubicBounds.{far, reached-real, reached-grows}
-use Rattle.limit_laws.proofs.RoadBounds.{OnRoad, InSection, station-within, section-start-in, section-start-within, extent-within, into-section}
+use Rattle.limit_laws.proofs.RoadBounds.{OnRoad, InSection, Across, station-within, section-start-in, section-start-within, extent-within, into-section}
 use Rattle.admission.specs.Admission.{admitted}
 use Rattle.admission.proofs.AdmissionLaws.{admitted-structured, admitted-ordered, admitted-limited}
 use Rattle.lateral.proofs.StationBounds.{far as station-far}
 use Rattle.lanes.specs.Borders.{sideOf}
+use Rattle.lanes.proofs.BorderLaws.{eighty}
 
 -- ---- the road
 
@@ -55,7 +57,7 @@ admits words numbers fitting ok =
     side l r i false = l i
     side l r i true = r i
 
--- ---- the station
+-- ---- the station, and a t
 
 -- row 7
 pub on-road : (road : Road) (s : Float) → Fits64 s → onRoad road s ≡ true → OnRoad road s
@@ -65,6 +67,24 @@ on-road road s f on =
       above = true-T (le zero64 s) (and-fst (le zero64 s) (le s (road .length)) on);
       below = true-T (le s (road .length)) (and-snd (le zero64 s) (le s (road .length)) on);
     }
+
+-- row 8, and the same by the size of t
+
+eighty-own : Within binary64 eighty eighty
+unfolding ofBits fits le neg
+eighty-own = within-const binary64 eighty eighty tt
+
+pub across-of : (t : Float) → Fits64 t → inRange (neg eighty) eighty t ≡ true → Across t
+across-of t f e =
+    record { fits = f; above = true-T (le (neg eighty) t) (and-fst (le (neg eighty) t) (le t eighty) e); below = true-T (le t eighty) (and-snd (le (neg eighty) t) (le t eighty) e) }
+
+pub across-within : (t : Float) → Within binary64 t eighty → Across t
+across-within t w = let l = le-of-within binary64 t eighty w in record { fits = w .value .fits; above = l .0; below = l .1 }
+
+pub within-across : (t : Float) → Across t → Within binary64 t eighty
+within-across t a =
+    let v = in-of-le binary64 (neg eighty) eighty t (neg-real binary64 eighty (eighty-own .bound)) (eighty-own .bound) (a .fits) (a .above) (a .below) in
+    within-of-le binary64 t eighty (v .value) (eighty-own .bound) (a .above) (a .below)
 
 abbrev ten-thousand : Float
 ten-thousand = f64 0x40c3_8800_0000_0000

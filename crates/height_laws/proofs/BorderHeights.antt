@@ -29,8 +29,8 @@ use Rattle.lanes.specs.Heights.{levelUpTo, levelHeights, tiltedHeights, ownHeig
 use Rattle.lanes.specs.declared.across.LaneBorders.{LaneBorders}
 use Rattle.lanes.proofs.Outward.{Ahead}
 use Rattle.lanes.proofs.BorderLaws.{eight, thirtySix, eighty, ExtentWithin, inner-within, outer-border-within, outer-ahead}
-use Rattle.height_laws.proofs.AdmittedRoad.{Admits, section-there, into, in-section}
-use Rattle.height_laws.proofs.RoadHeights.{across-within, toward-kept, own-kept}
+use Rattle.height_laws.proofs.AdmittedRoad.{Admits, across-within, section-there, into, in-section}
+use Rattle.height_laws.proofs.RoadHeights.{toward-kept, own-kept}
 use Rattle.height_laws.proofs.WholeSizes.{Metres, metres-of, metres-more, metres-within, metres-sum, metres-difference}
 
 -- ---- the constants

@@ -3,3 +3,5 @@ pub mod RoadHeights
 pub mod WholeSizes
 pub mod BorderHeights
 pub mod Quotients
+pub mod LaneHeights
+pub mod HeightsKept

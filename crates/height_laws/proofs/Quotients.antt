@@ -1,7 +1,6 @@
 -- Quotients as the fraction across a lane has them, over the format: by what is not zero a quotient is a number, if perhaps an infinity, and of two numbers of one sign, the smaller by the larger, it lies in 0..1.
 -- The first by the cases of division; the second since 1 is a value of the format and rounding does not go past it.
-use mathlib.Core.Path.{_≡_, refl, sym, ap, _∙_, subst}
-use mathlib.Core.Logic.{inl, inr}
+use mathlib.Core.Path.{_≡_, sym, ap, _∙_, subst}
 use Prim.Native.Nat.{ℕ, zero, suc, _+_, _-_, _*_, _/_, _^_, _≤_, _<_}
 use native.Mathlib.Nat.{le-trans, le-of-eq, mul-le-mul-right, mul-comm, zero-mul, zero-div}
 use native.Mathlib.Omega.{arith}
@@ -13,7 +12,7 @@ use lib.Ieee.Order.{drop, kept}
 use lib.Ieee.Fits.{round-is}
 use lib.Ieee.Scale.{finite, overflow}
 use Rattle.float_laws.proofs.Units.{rnd, rnd-zero, rnd-pow}
-use Rattle.float_laws.proofs.Value.{sign, mag, pl, mi, Real, mag-is, pl-le, le→units}
+use Rattle.float_laws.proofs.Value.{mag, pl, mi, Real, mag-is, pl-le, le→units}
 use Rattle.float_laws.proofs.Operation.{Is, sub-Is, div-Is}
 use Rattle.float_laws.proofs.Interval.{le→parts, div-Is'}
 use Rattle.float_laws.proofs.Size.{is-bounded}

@@ -2,7 +2,7 @@
 -- The lateral layer's laws have bounds on values as premises; admission's limits give them.
 use Prim.Native.Nat.{ℕ, _≤_, _<_}
 use native.Mathlib.Omega.{arith}
-use mathlib.Core.Path.{_≡_, refl, _∙_, subst}
+use mathlib.Core.Path.{_≡_, refl, subst}
 use mathlib.Core.Bool.{Bool, true, false, not}
 use mathlib.Core.List.{List}
 use lib.ListN.{length}
@@ -10,44 +10,20 @@ use lib.Dec.{T, ltb, ltb→lt, nltb→le}
 use lib.Ieee.{Float, binary64, ofBits, fits, le, neg, add}
 use lib.Ieee.Scale.{finite}
 use Rattle.float_laws.specs.Binary64.{_⊕_, _⊖_, _⊗_, f64, zero64}
-use Rattle.float_laws.proofs.Value.{neg-real}
-use Rattle.float_laws.proofs.Interval.{in-of-le}
-use Rattle.float_laws.proofs.Size.{Within, within-of-le, le-of-within, within-mono, within-const}
+use Rattle.float_laws.proofs.Size.{Within, within-mono, within-const}
 use Rattle.records.specs.declared.points.HeightDef.{HeightDef}
-use Rattle.records.specs.declared.scan.Found.the-variants.{At, Nothing}
-use Rattle.records.specs.Cubics.{cubicAt, evalAt}
-use Rattle.records.specs.Active.{activeIn, valueIn}
+use Rattle.records.specs.Active.{valueIn}
 use Rattle.records.specs.Roads.{Road, Strip, StripDef, absent, present, columnOf, laneOf, profileAt, stripAt, heightDefAt, sectionIndex}
 use Rattle.records.proofs.CubicLaws.{value-at}
-use Rattle.limits.specs.Bounds.{inRange}
 use Rattle.limits.specs.Limits.{sectionExtent}
-use Rattle.limit_laws.proofs.Fitting.{Fits64}
-use Rattle.limit_laws.proofs.LimitParts.{and-fst, and-snd, true-T, limited-parts, laneCount, lane-parts, height-parts}
+use Rattle.limit_laws.proofs.LimitParts.{limited-parts, laneCount, lane-parts, height-parts}
 use Rattle.limit_laws.proofs.RoadBounds.{OnRoad, Across, sized-within, station-within, tshift-within, profile-start-in, shape-within, shape-constant-within, strip-height-within, height-inner-within, height-outer-within}
 use Rattle.lateral.specs.Lateral.{stripHeight, shapeOf, crossHeight, heightToward, heightOf}
 use Rattle.lateral.proofs.StationBounds.{far, largest}
 use Rattle.lateral.proofs.StripBounds.{StripWithin, cross-within}
-use Rattle.lateral.proofs.LateralBounds.{HeightsAt, innerOf, outerOf, two, two-wide, wider-two, height-within, ProfilesAt, profile-within, forty, forty-wide, wider-forty, shape-within as profiles-within, shift-within, height-most, toward-most}
+use Rattle.lateral.proofs.LateralBounds.{two-wide, wider-two, height-within, ProfilesAt, profile-within, forty, forty-wide, wider-forty, shape-within as profiles-within, shift-within, height-most, toward-most}
 use Rattle.lanes.proofs.BorderLaws.{eighty}
-use Rattle.height_laws.proofs.AdmittedRoad.{Admits, s-near, section-there, into, into-near}
-
--- ---- t in -80..80, by row 8's test or by its size
-
-eighty-own : Within binary64 eighty eighty
-unfolding ofBits fits le neg
-eighty-own = within-const binary64 eighty eighty tt
-
-pub across-of : (t : Float) → Fits64 t → inRange (neg eighty) eighty t ≡ true → Across t
-across-of t f e =
-    record { fits = f; above = true-T (le (neg eighty) t) (and-fst (le (neg eighty) t) (le t eighty) e); below = true-T (le t eighty) (and-snd (le (neg eighty) t) (le t eighty) e) }
-
-pub across-within : (t : Float) → Within binary64 t eighty → Across t
-across-within t w = let l = le-of-within binary64 t eighty w in record { fits = w .value .fits; above = l .0; below = l .1 }
-
-pub within-across : (t : Float) → Across t → Within binary64 t eighty
-within-across t a =
-    let v = in-of-le binary64 (neg eighty) eighty t (neg-real binary64 eighty (eighty-own .bound)) (eighty-own .bound) (a .fits) (a .above) (a .below) in
-    within-of-le binary64 t eighty (v .value) (eighty-own .bound) (a .above) (a .below)
+use Rattle.height_laws.proofs.AdmittedRoad.{Admits, within-across, s-near, section-there, into, into-near}
 
 -- ---- the constants
 
