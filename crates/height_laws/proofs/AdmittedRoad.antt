@@ -117,6 +117,10 @@ difference-within x y i j =
     let w = within-of-le binary64 (x ⊖ y) ten-thousand (d .value) (ten-thousand-own .bound) (d .above) (d .below) in
     within-mono binary64 (x ⊖ y) ten-thousand station-far w (far-own .bound) (ten-thousand-far .1)
 
+-- how far s lies into the section at s
+abbrev pub into : Road → Float → Float
+into road s = s ⊖ sectionOf road (sectionIndex road s) .start
+
 module _ (road : Road) (a : Admits road) (s : Float) (o : OnRoad road s) where
   -- s is at most 10,000
   pub s-within : Within binary64 s ten-thousand
@@ -142,14 +146,10 @@ module _ (road : Road) (a : Admits road) (s : Float) (o : OnRoad road s) where
   pub section-there : sectionIndex road s < length (road .sections)
   section-there = section-active .below
 
-  -- how far
-  abbrev pub into : Float
-  into = s ⊖ sectionOf road (sectionIndex road s) .start
-
-  pub in-section : InSection road (sectionIndex road s) into
+  pub in-section : InSection road (sectionIndex road s) (into road s)
   in-section = into-section road (a .fit) (a .limits) s o (sectionIndex road s) section-active
 
-  pub into-near : Within binary64 into station-far
+  pub into-near : Within binary64 (into road s) station-far
   into-near =
       let z = section-start-in road (a .fit) (a .limits) (sectionIndex road s) section-there in
       let w = section-start-within road (a .fit) (a .limits) (sectionIndex road s) section-there in

@@ -1,4 +1,4 @@
--- Clause 2, for a road that `Admits`, a station on it and a tangent of size 1 at most: the heights at the borders of the section's lanes are within 840.
+-- Heights at borders, of a road that `Admits` at a station on it, with a tangent of size 1 at most: those at the borders of the section's lanes are within 840.
 -- By induction outward: after k lanes the height is at most 121 + 119k, a whole number, since a level lane adds its width, at most 116, times the tangent, and its own height, at most 3.
 use mathlib.Core.Path.{_≡_, refl, subst}
 use mathlib.Core.Bool.{Bool, true, false, cond}
@@ -31,7 +31,7 @@ use Rattle.lanes.proofs.Outward.{Ahead}
 use Rattle.lanes.proofs.BorderLaws.{eight, thirtySix, eighty, ExtentWithin, inner-within, outer-border-within, outer-ahead}
 use Rattle.height_laws.proofs.AdmittedRoad.{Admits, across-within, section-there, into, in-section}
 use Rattle.height_laws.proofs.RoadHeights.{toward-kept, own-kept}
-use Rattle.height_laws.proofs.WholeSizes.{Metres, metres-of, metres-more, metres-within, metres-sum, metres-difference}
+use Rattle.height_laws.proofs.WholeSizes.{AtMost, at-most-of, at-most-more, at-most-within, at-most-sum, at-most-difference}
 
 -- ---- the constants
 
@@ -80,17 +80,17 @@ times-one : T (finite (widest ⊗ one)) × (widest ⊗ one ≡ widest)
 unfolding ofBits mul
 times-one = (tt, refl)
 
-toward-metres : pl binary64 height-most ≤ 121 * 2 ^ low binary64
+toward-size : pl binary64 height-most ≤ 121 * 2 ^ low binary64
 unfolding ofBits pl
-toward-metres = lit≤ tt
+toward-size = lit≤ tt
 
-own-metres : pl binary64 two-wide ≤ 3 * 2 ^ low binary64
+own-size : pl binary64 two-wide ≤ 3 * 2 ^ low binary64
 unfolding ofBits pl
-own-metres = lit≤ tt
+own-size = lit≤ tt
 
-width-metres : pl binary64 widest ≤ 116 * 2 ^ low binary64
+width-size : pl binary64 widest ≤ 116 * 2 ^ low binary64
 unfolding ofBits pl
-width-metres = lit≤ tt
+width-size = lit≤ tt
 
 -- ---- a width, and what a level lane falls or rises across it
 
@@ -141,54 +141,54 @@ module _ (road : Road) (a : Admits road) (s : Float) (o : OnRoad road s) (right 
   pub base-within : Within binary64 (baseAt road s) eighty
   base-within = within-mono binary64 (baseAt road s) eight eighty center (eighty-own .bound) (eight-below .1)
 
-  extents : (k : ℕ) → k < count → ExtentWithin (getD (sideOf road at right) k noLane) (into road a s o)
+  extents : (k : ℕ) → k < count → ExtentWithin (getD (sideOf road at right) k noLane) (into road s)
   extents k l =
       record {
-        width = width-within road (a .fit) (a .limits) at (section-there road a s o) right k l (into road a s o) (in-section road a s o);
-        border = λ e j f. subst (λ (v : Float). Within binary64 v thirtySix) (value-at (laneOf road at right k .extents) (into road a s o) j f)
-            (border-within road (a .fit) (a .limits) at (section-there road a s o) right k l (into road a s o) (in-section road a s o) e);
+        width = width-within road (a .fit) (a .limits) at (section-there road a s o) right k l (into road s) (in-section road a s o);
+        border = λ e j f. subst (λ (v : Float). Within binary64 v thirtySix) (value-at (laneOf road at right k .extents) (into road s) j f)
+            (border-within road (a .fit) (a .limits) at (section-there road a s o) right k l (into road s) (in-section road a s o) e);
       }
 
   pub inner-kept : (k : ℕ) → k < count → Within binary64 (bordersOf road at s right k .inner) eighty
-  inner-kept = inner-within (sideOf road at right) right (baseAt road s) (into road a s o) (a .few at right) center extents
+  inner-kept = inner-within (sideOf road at right) right (baseAt road s) (into road s) (a .few at right) center extents
 
   pub outer-kept : (k : ℕ) → k < count → Within binary64 (bordersOf road at s right k .outer) eighty
-  outer-kept = outer-border-within (sideOf road at right) right (baseAt road s) (into road a s o) (a .few at right) center extents
+  outer-kept = outer-border-within (sideOf road at right) right (baseAt road s) (into road s) (a .few at right) center extents
 
   width-kept : (k : ℕ) → k < count → Within binary64 (bordersOf road at s right k .width) widest
   unfolding bordersAt
-  width-kept k l = width-most (getD (sideOf road at right) k noLane) right (bordersOf road at s right k .inner) (into road a s o) (extents k l) (inner-kept k l)
+  width-kept k l = width-most (getD (sideOf road at right) k noLane) right (bordersOf road at s right k .inner) (into road s) (extents k l) (inner-kept k l)
 
   -- no border lies behind the one before it
   pub borders-ahead : (k : ℕ) → k < count → Ahead right (bordersOf road at s right k .inner) (bordersOf road at s right k .outer)
-  borders-ahead = outer-ahead (sideOf road at right) right (baseAt road s) (into road a s o) (a .few at right) center extents
+  borders-ahead = outer-ahead (sideOf road at right) right (baseAt road s) (into road s) (a .few at right) center extents
 
   -- ---- one lane, where its inner neighbour ends at a height of at most m
   module _ (tangent : Float) (slope : Within binary64 tangent one) where
-    toward-at : (t : Float) → Within binary64 t eighty → Metres binary64 121 (heightToward road s t (signOf right))
-    toward-at t w = metres-of binary64 (heightToward road s t (signOf right)) height-most 121 (toward-kept road a s o t (across-within t w) (signOf right)) toward-metres
+    toward-at : (t : Float) → Within binary64 t eighty → AtMost binary64 121 (heightToward road s t (signOf right))
+    toward-at t w = at-most-of binary64 (heightToward road s t (signOf right)) height-most 121 (toward-kept road a s o t (across-within t w) (signOf right)) toward-size
 
-    own-at : (k : ℕ) → k < count → Metres binary64 3 (ownHeights road at s tangent right k .inner) × Metres binary64 3 (ownHeights road at s tangent right k .outer)
+    own-at : (k : ℕ) → k < count → AtMost binary64 3 (ownHeights road at s tangent right k .inner) × AtMost binary64 3 (ownHeights road at s tangent right k .outer)
     own-at k l =
         let w = own-kept road a s o right k l in
         let own = ownHeights road at s tangent right k in
-        (metres-of binary64 (own .inner) two-wide 3 (w .0) own-metres, metres-of binary64 (own .outer) two-wide 3 (w .1) own-metres)
+        (at-most-of binary64 (own .inner) two-wide 3 (w .0) own-size, at-most-of binary64 (own .outer) two-wide 3 (w .1) own-size)
 
     small : (m : ℕ) → m ≤ 840 → m ≤ 2 ^ prec binary64
     small m h = le-trans h (lit≤ tt)
 
-    level-most : (k : ℕ) → k < count → (outer : Float) (m : ℕ) → Metres binary64 m outer → m + 119 ≤ 840
-        → Metres binary64 (m + 119) ((outer ⊖ signOf right ⊗ bordersOf road at s right k .width ⊗ tangent) ⊕ ownHeights road at s tangent right k .outer)
+    level-most : (k : ℕ) → k < count → (outer : Float) (m : ℕ) → AtMost binary64 m outer → m + 119 ≤ 840
+        → AtMost binary64 (m + 119) ((outer ⊖ signOf right ⊗ bordersOf road at s right k .width ⊗ tangent) ⊕ ownHeights road at s tangent right k .outer)
     level-most k l outer m w h =
         let fall = signOf right ⊗ bordersOf road at s right k .width ⊗ tangent in
         let own = ownHeights road at s tangent right k in
-        let x = metres-of binary64 fall widest 116 (slope-within right (bordersOf road at s right k .width) tangent (width-kept k l) slope) width-metres in
-        let y = metres-difference binary64 outer fall m 116 w x (small (m + 116) (omega arith)) in
-        subst (λ (n : ℕ). Metres binary64 n ((outer ⊖ fall) ⊕ own .outer)) (let e : m + 116 + 3 ≡ m + 119 = omega arith in e)
-        (metres-sum binary64 (outer ⊖ fall) (own .outer) (m + 116) 3 y (own-at k l .1) (small (m + 116 + 3) (omega arith)))
+        let x = at-most-of binary64 fall widest 116 (slope-within right (bordersOf road at s right k .width) tangent (width-kept k l) slope) width-size in
+        let y = at-most-difference binary64 outer fall m 116 w x (small (m + 116) (omega arith)) in
+        subst (λ (n : ℕ). AtMost binary64 n ((outer ⊖ fall) ⊕ own .outer)) (let e : m + 116 + 3 ≡ m + 119 = omega arith in e)
+        (at-most-sum binary64 (outer ⊖ fall) (own .outer) (m + 116) 3 y (own-at k l .1) (small (m + 116 + 3) (omega arith)))
 
-    heights-most : (k : ℕ) → k < count → (outer : Float) (m : ℕ) → Metres binary64 m outer → 121 ≤ m → m + 119 ≤ 840
-        → Metres binary64 (m + 119) (heightsFrom road at s tangent right outer k .inner) × Metres binary64 (m + 119) (heightsFrom road at s tangent right outer k .outer)
+    heights-most : (k : ℕ) → k < count → (outer : Float) (m : ℕ) → AtMost binary64 m outer → 121 ≤ m → m + 119 ≤ 840
+        → AtMost binary64 (m + 119) (heightsFrom road at s tangent right outer k .inner) × AtMost binary64 (m + 119) (heightsFrom road at s tangent right outer k .outer)
     heights-most k l outer m w f h = go (levelUpTo (sideOf road at right) k)
       where
         own : Pair
@@ -197,15 +197,15 @@ module _ (road : Road) (a : Admits road) (s : Float) (o : OnRoad road s) (right 
         b : LaneBorders
         b = bordersOf road at s right k
 
-        tilted : (x t : Float) → Metres binary64 3 x → Within binary64 t eighty → Metres binary64 (m + 119) (x ⊕ heightToward road s t (signOf right))
+        tilted : (x t : Float) → AtMost binary64 3 x → Within binary64 t eighty → AtMost binary64 (m + 119) (x ⊕ heightToward road s t (signOf right))
         tilted x t u v =
-            metres-more binary64 (x ⊕ heightToward road s t (signOf right)) (3 + 121) (m + 119)
-            (metres-sum binary64 x (heightToward road s t (signOf right)) 3 121 u (toward-at t v) (small (3 + 121) (omega arith))) (omega arith)
+            at-most-more binary64 (x ⊕ heightToward road s t (signOf right)) (3 + 121) (m + 119)
+            (at-most-sum binary64 x (heightToward road s t (signOf right)) 3 121 u (toward-at t v) (small (3 + 121) (omega arith))) (omega arith)
 
-        go : (c : Bool) → Metres binary64 (m + 119) (cond c (levelHeights own outer (signOf right) (b .width) tangent) (tiltedHeights road s own b (signOf right)) .inner)
-            × Metres binary64 (m + 119) (cond c (levelHeights own outer (signOf right) (b .width) tangent) (tiltedHeights road s own b (signOf right)) .outer)
+        go : (c : Bool) → AtMost binary64 (m + 119) (cond c (levelHeights own outer (signOf right) (b .width) tangent) (tiltedHeights road s own b (signOf right)) .inner)
+            × AtMost binary64 (m + 119) (cond c (levelHeights own outer (signOf right) (b .width) tangent) (tiltedHeights road s own b (signOf right)) .outer)
         go true = (
-          metres-more binary64 (outer ⊕ own .inner) (m + 3) (m + 119) (metres-sum binary64 outer (own .inner) m 3 w (own-at k l .0) (small (m + 3) (omega arith))) (omega arith),
+          at-most-more binary64 (outer ⊕ own .inner) (m + 3) (m + 119) (at-most-sum binary64 outer (own .inner) m 3 w (own-at k l .0) (small (m + 3) (omega arith))) (omega arith),
           level-most k l outer m w h,
         )
         go false = (tilted (own .inner) (b .inner) (own-at k l .0) (inner-kept k l), tilted (own .outer) (b .outer) (own-at k l .1) (outer-kept k l))
@@ -227,16 +227,16 @@ module _ (road : Road) (a : Admits road) (s : Float) (o : OnRoad road s) (right 
     most : (k n : ℕ) → k ≤ n → n ≤ 6 → 121 + k * 119 ≤ 840
     most k n h l = omega arith
 
-    after : (k : ℕ) → k ≤ count → Metres binary64 (121 + k * 119) (heightAfter road at s tangent right k)
+    after : (k : ℕ) → k ≤ count → AtMost binary64 (121 + k * 119) (heightAfter road at s tangent right k)
     unfolding heightAfter
     after zero h = toward-at (baseAt road s) base-within
     after (suc k) h =
-        subst (λ (n : ℕ). Metres binary64 n (heightAfter road at s tangent right (suc k))) (next k)
+        subst (λ (n : ℕ). AtMost binary64 n (heightAfter road at s tangent right (suc k))) (next k)
         (heights-most k h (heightAfter road at s tangent right k) (121 + k * 119) (after k (before k count h)) (from k) (under k count h (a .few at right)) .1)
 
     -- the height at the outer border after k lanes
     pub after-kept : (k : ℕ) → k ≤ count → Within binary64 (heightAfter road at s tangent right k) border-most
-    after-kept k h = metres-within binary64 (heightAfter road at s tangent right k) border-most (121 + k * 119) 840 (after k h) (most k count h (a .few at right)) border-whole
+    after-kept k h = at-most-within binary64 (heightAfter road at s tangent right k) border-most (121 + k * 119) 840 (after k h) (most k count h (a .few at right)) border-whole
 
     -- a lane's heights at its borders
     pub borders-kept : (k : ℕ) → k < count → Within binary64 (heightsAt road at s tangent right k .inner) border-most × Within binary64 (heightsAt road at s tangent right k .outer) border-most
@@ -245,6 +245,6 @@ module _ (road : Road) (a : Admits road) (s : Float) (o : OnRoad road s) (right 
         let u = under k count h (a .few at right) in
         let w = heights-most k h (heightAfter road at s tangent right k) (121 + k * 119) (after k (before k count h)) (from k) u in
         let b = heightsAt road at s tangent right k in (
-          metres-within binary64 (b .inner) border-most (121 + k * 119 + 119) 840 (w .0) u border-whole,
-          metres-within binary64 (b .outer) border-most (121 + k * 119 + 119) 840 (w .1) u border-whole,
+          at-most-within binary64 (b .inner) border-most (121 + k * 119 + 119) 840 (w .0) u border-whole,
+          at-most-within binary64 (b .outer) border-most (121 + k * 119 + 119) 840 (w .1) u border-whole,
         )

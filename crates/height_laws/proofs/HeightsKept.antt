@@ -1,5 +1,5 @@
 -- Demand 3 on heights, as far as it needs lanes alone: for every admitted road and every s in 0..length, the heights that a surface point is raised by are bounded. What the layers above cite.
--- The road's number and s are f64 (`Fitting`, `Fits64`); every bound is on the exact size (`Within`): 40.001 for profiles, 80 for the cross section, 120.001 for both, 2.00001 for a lane's own heights, 840 at a lane's borders, 841 across a lane.
+-- The road's numbers, s and t are f64 (`Fitting`, `Fits64`); every bound is on the exact size (`Within`): 40.001 for profiles, 80 for the cross section, 120.001 for both, 2.00001 for a lane's own heights, 840 at a lane's borders, 841 across a lane.
 use Prim.Native.Nat.{ℕ, _≤_, _<_}
 use mathlib.Core.Path.{_≡_}
 use mathlib.Core.Bool.{Bool, true}
@@ -52,7 +52,7 @@ module _ (words : List ℕ) (numbers : List Float) (fitting : Fitting numbers) (
   o : OnRoad road s
   o = on-road road s fits-s on
 
-  -- ---- 1. at t in -80..80, whichever side `toward` takes on the ridge
+  -- ---- at t in -80..80, whichever side `toward` takes on the ridge
   module _ (t : Float) (fits-t : Fits64 t) (inside : inRange (neg eighty) eighty t ≡ true) where
     pub profiles-kept : Within binary64 (shapeOf road s t) forty-wide
     profiles-kept = shape-kept road a s o t (across-of t fits-t inside)
@@ -71,7 +71,7 @@ module _ (words : List ℕ) (numbers : List Float) (fitting : Fitting numbers) (
         × Within binary64 (heightOf (getD (sideOf road at right) k noLane .heights) (s ⊖ sectionOf road at .start) .outer) two-wide
     own-heights-kept k l = own-kept road a s o right k l
 
-    -- ---- 2. at its borders, for every tangent of size 1 at most
+    -- ---- at its borders, for every tangent of size 1 at most
     module _ (tangent : Float) (slope : Within binary64 tangent one) where
       pub height-after-kept : (k : ℕ) → k ≤ length (sideOf road at right) → Within binary64 (heightAfter road at s tangent right k) border-most
       height-after-kept k l = after-kept road a s o right tangent slope k l
@@ -80,9 +80,9 @@ module _ (words : List ℕ) (numbers : List Float) (fitting : Fitting numbers) (
           → Within binary64 (heightsAt road at s tangent right k .inner) border-most × Within binary64 (heightsAt road at s tangent right k .outer) border-most
       heights-kept k l = borders-kept road a s o right tangent slope k l
 
-      -- ---- 3. across it
+      -- ---- across it
       module _ (k : ℕ) (l : k < length (sideOf road at right)) where
-        lane-kept : LaneKept (acrossAt road at s tangent right k)
+        pub lane-kept : LaneKept (acrossAt road at s tangent right k)
         unfolding acrossAt
         lane-kept =
             let h = heights-kept k l in
@@ -92,13 +92,13 @@ module _ (words : List ℕ) (numbers : List Float) (fitting : Fitting numbers) (
         pub height-within-kept : (t : Float) → Fits64 t → inRange (neg eighty) eighty t ≡ true → Within binary64 (heightWithin (acrossAt road at s tangent right k) t) across-most
         height-within-kept t f e = within-most (acrossAt road at s tangent right k) lane-kept t (within-across t (across-of t f e))
 
-        -- at every t between its borders, both included
-        pub height-across-kept : (t : Float) → Fits64 t → Ahead right (acrossAt road at s tangent right k .«inner_t») t → Ahead right t (acrossAt road at s tangent right k .«outer_t»)
+        -- at every t between its borders, both included: from the inner up to the outer, or down to it
+        pub height-across-kept : (down : Bool) (t : Float) → Fits64 t → Ahead down (acrossAt road at s tangent right k .«inner_t») t → Ahead down t (acrossAt road at s tangent right k .«outer_t»)
             → Within binary64 (heightAcross (acrossAt road at s tangent right k) t) across-most
-        height-across-kept t f p q = between-most (acrossAt road at s tangent right k) lane-kept right t f p q
+        height-across-kept down t f p q = between-most (acrossAt road at s tangent right k) lane-kept down t f p q
 
   -- ---- the tangent of the road's bank at s is such a one
-  abbrev pub bankTangent : Float
+  abbrev bankTangent : Float
   bankTangent = tanOf (valueIn (road .superelevations) s)
 
   pub bank-tangent-kept : Within binary64 bankTangent one
@@ -113,6 +113,6 @@ module _ (words : List ℕ) (numbers : List Float) (fitting : Fitting numbers) (
     pub banked-within-kept : (t : Float) → Fits64 t → inRange (neg eighty) eighty t ≡ true → Within binary64 (heightWithin (acrossAt road at s bankTangent right k) t) across-most
     banked-within-kept = height-within-kept right bankTangent bank-tangent-kept k l
 
-    pub banked-across-kept : (t : Float) → Fits64 t → Ahead right (acrossAt road at s bankTangent right k .«inner_t») t → Ahead right t (acrossAt road at s bankTangent right k .«outer_t»)
+    pub banked-across-kept : (down : Bool) (t : Float) → Fits64 t → Ahead down (acrossAt road at s bankTangent right k .«inner_t») t → Ahead down t (acrossAt road at s bankTangent right k .«outer_t»)
         → Within binary64 (heightAcross (acrossAt road at s bankTangent right k) t) across-most
     banked-across-kept = height-across-kept right bankTangent bank-tangent-kept k l

@@ -1,4 +1,4 @@
--- Clause 3: the height across a lane whose borders' heights are within 840 is within 841, at every t in -80..80 with the fraction kept to 0..1, and between the lane's borders, both included, with the fraction as it comes out.
+-- Heights across a lane whose heights at its borders are within 840: they are within 841, at every t in -80..80 with the fraction kept to 0..1, and between the lane's borders, both included, with the fraction as it comes out.
 -- Past the borders there is no such bound for the second: over a tiny width the fraction may be as large as any number. The interpolation law takes a fraction in 0..1; the fractions are those of Quotients.
 use mathlib.Core.Path.{_≡_, refl}
 use mathlib.Core.Logic.{inl, inr}
@@ -140,10 +140,10 @@ module _ (a : Across) (w : LaneKept a) (t : Float) (wt : Within binary64 t eight
       kept-inside ((t ⊖ a .«inner_t») ⊘ (a .«outer_t» ⊖ a .«inner_t»)) (div-fits binary64 (t ⊖ a .«inner_t») (a .«outer_t» ⊖ a .«inner_t»))
       (div-number binary64 (t ⊖ a .«inner_t») (a .«outer_t» ⊖ a .«inner_t») (from-inner .value) (width .value) h))
 
-  between-fraction : (right : Bool) → Ahead right (a .«inner_t») t → Ahead right t (a .«outer_t») → Fraction binary64 (fractionAt a t) 0
-  between-fraction right p q = fraction-by (λ (x : Float). Fraction binary64 x 0) zero-inside (λ h. go right p q h)
+  between-fraction : (down : Bool) → Ahead down (a .«inner_t») t → Ahead down t (a .«outer_t») → Fraction binary64 (fractionAt a t) 0
+  between-fraction down p q = fraction-by (λ (x : Float). Fraction binary64 x 0) zero-inside (λ h. go down p q h)
     where
-      go : (right : Bool) → Ahead right (a .«inner_t») t → Ahead right t (a .«outer_t») → 0 < mag binary64 (a .«outer_t» ⊖ a .«inner_t») → Fraction binary64 ((t ⊖ a .«inner_t») ⊘ (a .«outer_t» ⊖ a .«inner_t»)) 0
+      go : (down : Bool) → Ahead down (a .«inner_t») t → Ahead down t (a .«outer_t») → 0 < mag binary64 (a .«outer_t» ⊖ a .«inner_t») → Fraction binary64 ((t ⊖ a .«inner_t») ⊘ (a .«outer_t» ⊖ a .«inner_t»)) 0
       go false p q h = rising binary64 (a .«inner_t») (a .«outer_t») t (w .inner-t .value) (w .outer-t .value) (wt .value) (from-inner .value) (width .value) h p q
       go true p q h = falling binary64 (a .«inner_t») (a .«outer_t») t (w .inner-t .value) (w .outer-t .value) (wt .value) (from-inner .value) (width .value) h q p
 
@@ -166,13 +166,13 @@ from-to-eighty x y t wx wy f p q =
     (le-trans' binary64 (neg eighty) x t (neg-real binary64 eighty (wx .bound)) (wx .value) r (le-of-within binary64 x eighty wx .0) p)
     (le-trans' binary64 t y eighty r (wy .value) (wy .bound) q (le-of-within binary64 y eighty wy .1))
 
-between-eighty : (right : Bool) (x y t : Float) → Within binary64 x eighty → Within binary64 y eighty → Fits64 t → Ahead right x t → Ahead right t y → Within binary64 t eighty
+between-eighty : (down : Bool) (x y t : Float) → Within binary64 x eighty → Within binary64 y eighty → Fits64 t → Ahead down x t → Ahead down t y → Within binary64 t eighty
 between-eighty false x y t wx wy f p q = from-to-eighty x y t wx wy f p q
 between-eighty true x y t wx wy f p q = from-to-eighty y x t wy wx f q p
 
 -- "where t lies between that lane's inner and outer at s, both included"
-pub between-most : (a : Across) → LaneKept a → (right : Bool) (t : Float) → Fits64 t → Ahead right (a .«inner_t») t → Ahead right t (a .«outer_t») → Within binary64 (heightAcross a t) across-most
+pub between-most : (a : Across) → LaneKept a → (down : Bool) (t : Float) → Fits64 t → Ahead down (a .«inner_t») t → Ahead down t (a .«outer_t») → Within binary64 (heightAcross a t) across-most
 unfolding heightAcross
-between-most a w right t f p q =
-    let wt = between-eighty right (a .«inner_t») (a .«outer_t») t (w .inner-t) (w .outer-t) f p q in
-    blend-most (a .«inner_height») (a .«outer_height») (fractionAt a t) (w .inner-height) (w .outer-height) (between-fraction a w t wt right p q)
+between-most a w down t f p q =
+    let wt = between-eighty down (a .«inner_t») (a .«outer_t») t (w .inner-t) (w .outer-t) f p q in
+    blend-most (a .«inner_height») (a .«outer_height») (fractionAt a t) (w .inner-height) (w .outer-height) (between-fraction a w t wt down p q)

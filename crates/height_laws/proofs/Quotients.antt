@@ -12,13 +12,12 @@ use lib.Ieee.Order.{drop, kept}
 use lib.Ieee.Fits.{round-is}
 use lib.Ieee.Scale.{finite, overflow}
 use Rattle.float_laws.proofs.Units.{rnd, rnd-zero, rnd-pow}
-use Rattle.float_laws.proofs.Value.{mag, pl, mi, Real, mag-is, pl-le, le→units}
+use Rattle.float_laws.proofs.Value.{mag, pl, mi, Real, mag-is, pl-le, le-refl, le→units}
 use Rattle.float_laws.proofs.Operation.{Is, sub-Is, div-Is}
 use Rattle.float_laws.proofs.Interval.{le→parts, div-Is'}
 use Rattle.float_laws.proofs.Size.{is-bounded}
 use Rattle.float_laws.proofs.Same.{sign-minus}
 use Rattle.float_laws.proofs.Order.{sub-mono}
-use Rattle.float_laws.proofs.Value.{le-refl}
 use Rattle.lateral.proofs.Fractions.{Fraction}
 
 -- ---- a number

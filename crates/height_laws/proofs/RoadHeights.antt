@@ -1,4 +1,4 @@
--- Clause 1, for a road that `Admits` and a station on it: the height at every t in -80..80 is within 120.001, its profiles' part within 40.001 and its cross section's within 80; a lane's own heights are within 2.00001.
+-- Heights at t, of a road that `Admits` at a station on it: at every t in -80..80 the height is within 120.001, its profiles' part within 40.001 and its cross section's within 80; a lane's own heights are within 2.00001.
 -- The lateral layer's laws have bounds on values as premises; admission's limits give them.
 use Prim.Native.Nat.{ℕ, _≤_, _<_}
 use native.Mathlib.Omega.{arith}
@@ -114,10 +114,10 @@ module _ (road : Road) (a : Admits road) (s : Float) (o : OnRoad road s) where
         sized-within largest (heightDefAt own j .«s_offset») (largest-own .bound) (a .fit .heights i right k j .start) (height-parts (sectionExtent road i) (laneOf road i right k) p j h .start)
 
     -- 2.00001, at the inner border and at the outer
-    pub own-kept : Within binary64 (heightOf own (into road a s o) .inner) two-wide × Within binary64 (heightOf own (into road a s o) .outer) two-wide
+    pub own-kept : Within binary64 (heightOf own (into road s) .inner) two-wide × Within binary64 (heightOf own (into road s) .outer) two-wide
     own-kept =
         let apart = a .order .lanes (sectionIndex road s) k right .heights in
-        height-within own (into road a s o) wider-two
+        height-within own (into road s) wider-two
         (record { starts = starts; values = height-inner-within road (a .fit) (a .limits) (sectionIndex road s) (section-there road a s o) right k l; apart = apart })
         (record { starts = starts; values = height-outer-within road (a .fit) (a .limits) (sectionIndex road s) (section-there road a s o) right k l; apart = apart })
         (into-near road a s o)
