@@ -6,7 +6,8 @@
  * else that is lent.
  *
  * A function that can refuse returns 0 and writes its answer, or returns the number of the refusal (RIFTKETTLE_REFUSED_.. below) and
- * changes nothing behind its pointers. Refusals are tested in the order in which a function lists them. */
+ * changes nothing behind its pointers, riftkettle_read alone excepted: see there. Refusals are tested in the order in which a function
+ * lists them. */
 #ifndef RIFTKETTLE_H
 #define RIFTKETTLE_H
 
@@ -19,11 +20,15 @@ extern "C" {
 
 /* ---- refusals: the numbers of document 01 */
 
+#define RIFTKETTLE_REFUSED_FORM 1          /* a line of the job text breaks its form */
+#define RIFTKETTLE_REFUSED_CAPACITY 2      /* the text, or a table of it, is too long, or a slice to read it into is too short */
 #define RIFTKETTLE_REFUSED_STRUCTURE 3     /* the road's counts, references or order are wrong, or its slice is too short */
 #define RIFTKETTLE_REFUSED_RANGE 4         /* a number of the road is not finite or outside its limit */
 #define RIFTKETTLE_REFUSED_SAMPLE_BUDGET 5 /* the road's spirals need over 2,000 samples */
 #define RIFTKETTLE_REFUSED_SAMPLE_SPACE 6  /* the lent samples are fewer than the road needs */
 #define RIFTKETTLE_REFUSED_STATION 7       /* s is outside 0..length */
+#define RIFTKETTLE_REFUSED_OFFSET 8        /* t is outside -80..80 */
+#define RIFTKETTLE_REFUSED_BORDER_SPACE 11 /* the lent list is shorter than the section's lanes */
 #define RIFTKETTLE_REFUSED_COUNT_RANGE 12  /* the value is outside -80..80 */
 
 /* ---- a road in lent memory
@@ -106,6 +111,33 @@ uint32_t riftkettle_samples(const uint16_t *words, size_t n, const double *numbe
  * Writes *x, *y and *heading. Refusals: 3, 4, 5, 6; 3 where the road has no geometry of that number; 7. */
 uint32_t riftkettle_pose(const uint16_t *words, size_t n, const double *numbers, size_t m, const double *samples, size_t k,
                          size_t geometry, double s, double *x, double *y, double *heading);
+
+/* The borders of the lanes of the section at s: three numbers a lane (t of its inner border, t of its outer border, its width), the
+ * left lanes from the center outward, then the right ones from the center outward. Writes them from list[0] on and the number of
+ * lanes to *lanes; what lies past them stays as it was. 36 numbers are enough for every road: at most 6 lanes a side.
+ * Refusals: 3, 4, 5, 7; 11 where k / 3 is less than the section's lanes. */
+uint32_t riftkettle_borders(const uint16_t *words, size_t n, const double *numbers, size_t m, double s, double *list, size_t k,
+                            size_t *lanes);
+
+/* The lane at s and t, beyond all borders the outermost. Writes its id to *id: 1, 2, .. on the left and -1, -2, .. on the right, from
+ * the center outward; 0, which no lane has, where t is at the base or on a side without lanes.
+ * Refusals: 3, 4, 5, 7, 8. */
+uint32_t riftkettle_lane_named(const uint16_t *words, size_t n, const double *numbers, size_t m, double s, double t, int32_t *id);
+
+/* ---- reading */
+
+#define RIFTKETTLE_TEXT 65536 /* the most bytes of a job text */
+#define RIFTKETTLE_WANTS 32   /* two a want, 16 wants */
+
+/* Reads a job text (docs/JOB-TEXT.md) of l bytes, at most RIFTKETTLE_TEXT, into a road: `words`, at least RIFTKETTLE_WORDS elements,
+ * and `numbers`, at least RIFTKETTLE_NUMBERS, as above; and its wants into `wants`, at least RIFTKETTLE_WANTS: s, then t, of each, as
+ * the bits of an f64. Writes the number of wants to *count. The road is admitted; the slices hold zeros wherever nothing was read.
+ * This is the one call whose refusal clears what was lent: all three slices then hold zeros, whatever they held before, and *count
+ * stays as it was.
+ * Refusals: 2 for the lengths of the slices and of the text, before any line; then line by line 1, or 2 for a line more than its table
+ * may have; then 3, 4, 5. */
+uint32_t riftkettle_read(const uint8_t *text, size_t l, uint16_t *words, size_t n, double *numbers, size_t m, uint64_t *wants,
+                         size_t k, size_t *count);
 
 #ifdef __cplusplus
 }

@@ -1,16 +1,16 @@
 // Calls on a road in lent memory. Each checks the road whole and anew.
 use admission::Sampled;
 use admission::Verdict;
-use arithmetic::Refusal;
+use lane_calls::Bordered;
+use lane_calls::Named;
+use pose_call::Posed;
 ghost use mathlib.Core.Path.{_≡_};
-ghost use mathlib.Core.Bool.{_&&_};
 ghost use lib.ListN.{length};
-ghost use lib.Ieee.{le};
-ghost use Rattle.float_laws.specs.Binary64.{zero64};
-ghost use Rattle.records.specs.Roads.{roadOf};
 ghost use Rattle.admission.specs.Admission.{admissionOf};
 ghost use Rattle.admission.specs.Samples.{sampledOf, sampledList};
-ghost use Rattle.exports.specs.Exports.{codeOf, leftBy, posedBy};
+ghost use Rattle.pose_call.specs.PoseCall.{posedBy};
+ghost use Rattle.lane_calls.specs.LaneCalls.{bordersOf, bordersList, namedOf};
+ghost use Rattle.exports.specs.Exports.{codeOf, leftBy, idOf};
 
 // Refuses 3, 4, 5.
 #[no_mangle]
@@ -44,32 +44,6 @@ pub extern "C" fn riftkettle_samples(
     }
 }
 
-fn on_road(words: &[u16], numbers: &[f64], s: f64) -> bool
-    ensures { λ r. ⌜ r ≡ le zero64 s && le s (roadOf (now (words .entry)) (now (numbers .entry)) .length) ⌝ }
-{
-    (0.0 <= s) & (s <= records::road_length(words, numbers))
-}
-
-// The rows of a pose, in their order.
-fn pose_code(words: &[u16], numbers: &[f64], samples: &[f64], geometry: usize, s: f64) -> u32
-    ensures { λ r. ⌜ r ≡ codeOf (posedBy (now (words .entry)) (now (numbers .entry)) (now (samples .entry)) geometry s) ⌝ }
-{
-    let road = riftkettle_admit(words, numbers);
-    if road != 0 {
-        return road;
-    }
-    if samples.len() / 4 < reference_line::samples_needed(words, numbers) {
-        return arithmetic::number(Refusal::SampleSpace);
-    }
-    if records::geom_count(words, numbers) <= geometry {
-        return arithmetic::number(Refusal::Structure);
-    }
-    if !on_road(words, numbers, s) {
-        return arithmetic::number(Refusal::Station);
-    }
-    0
-}
-
 // Refuses 3, 4, 5, 6, then 3 for a geometry that the road does not have, then 7.
 #[no_mangle]
 pub extern "C" fn riftkettle_pose(
@@ -87,12 +61,60 @@ pub extern "C" fn riftkettle_pose(
     ensures { λ _. ⌜ now (y .exit) ≡ leftBy (λ p. p .y) (posedBy (now (words .entry)) (now (numbers .entry)) (now (samples .entry)) geometry s) (now (y .entry)) ⌝ }
     ensures { λ _. ⌜ now (heading .exit) ≡ leftBy (λ p. p .heading) (posedBy (now (words .entry)) (now (numbers .entry)) (now (samples .entry)) geometry s) (now (heading .entry)) ⌝ }
 {
-    let code = pose_code(words, numbers, samples, geometry, s);
-    if code == 0 {
-        let p = reference_line::pose(words, numbers, samples, geometry, s);
-        *x = p.x;
-        *y = p.y;
-        *heading = p.heading;
+    match pose_call::posed(words, numbers, samples, geometry, s) {
+        Posed::Pose(p) => {
+            *x = p.x;
+            *y = p.y;
+            *heading = p.heading;
+            0
+        }
+        Posed::Refused(r) => arithmetic::number(r),
     }
-    code
+}
+
+// Refuses 3, 4, 5, 7, 11.
+#[no_mangle]
+pub extern "C" fn riftkettle_borders(
+    words: &[u16],
+    numbers: &[f64],
+    s: f64,
+    list: &mut [f64],
+    lanes: &mut usize,
+) -> u32
+    ensures { λ r. ⌜ r ≡ codeOf (bordersOf (now (words .entry)) (now (numbers .entry)) s (length (now (list .entry)))) ⌝ }
+    ensures { λ _. ⌜ now (list .exit) ≡ bordersList (now (words .entry)) (now (numbers .entry)) s (now (list .entry)) ⌝ }
+    ensures { λ _. ⌜ now (lanes .exit) ≡ leftBy (λ n. n) (bordersOf (now (words .entry)) (now (numbers .entry)) s (length (now (list .entry)))) (now (lanes .entry)) ⌝ }
+{
+    match lane_calls::borders(words, numbers, s, list) {
+        Bordered::Lanes(n) => {
+            *lanes = n;
+            0
+        }
+        Bordered::Refused(r) => arithmetic::number(r),
+    }
+}
+
+// Refuses 3, 4, 5, 7, 8. The id is 0 where no lane is named: no lane has it.
+#[no_mangle]
+pub extern "C" fn riftkettle_lane_named(
+    words: &[u16],
+    numbers: &[f64],
+    s: f64,
+    t: f64,
+    id: &mut i32,
+) -> u32
+    ensures { λ r. ⌜ r ≡ codeOf (namedOf (now (words .entry)) (now (numbers .entry)) s t) ⌝ }
+    ensures { λ _. ⌜ now (id .exit) ≡ leftBy idOf (namedOf (now (words .entry)) (now (numbers .entry)) s t) (now (id .entry)) ⌝ }
+{
+    match lane_calls::lane_named(words, numbers, s, t) {
+        Named::Lane(n) => {
+            *id = n;
+            0
+        }
+        Named::Nothing => {
+            *id = 0;
+            0
+        }
+        Named::Refused(r) => arithmetic::number(r),
+    }
 }

@@ -1,48 +1,48 @@
--- `riftkettle_pose`: the code 0 is the pose, any other leaves what was there.
+-- `riftkettle_pose`: the answer is known by its case.
+use mathlib.Core.Path.{_∙_}
 use Rattle.reference_line.specs.declared.line.Pose.{Pose}
-use Rattle.exports.proofs.ExportLaws.{pose-part, pose-kept}
+use Rattle.pose_call.specs.PoseCall.{poseAnswer}
+use Rattle.exports.proofs.ExportLaws.{told, code-value, code-refused, left-value, left-refused}
 use borrow.Author.Needs.{needs}
 use Rattle.exports.proofs.calls.riftkettle_pose.Statement.{statement}
 use Rattle.exports.proofs.calls.riftkettle_pose.Tie as tie
 
-pose-code-requires : tie.Need-pose-code-requires
-pose-code-requires c κs = search needs
+posed-requires : tie.Need-posed-requires
+posed-requires c κs = search needs
 
-pose-requires : tie.Need-pose-requires
-pose-requires c κs = search needs
+enum-known-p : tie.Need-enum-known-p
+enum-known-p c = search needs
+
+enum-known-r : tie.Need-enum-known-r
+enum-known-r c = search needs
+
+number-requires : tie.Need-number-requires
+number-requires c κs = search needs
 
 returns : tie.Need-returns
 returns c =
-    let code = c .before .before in
-    let a = code .before .before .before .before .args in
-    let k = code .pose-code .ensures in
-    let p = c .pose .ensures in
-    let z = c .before .if1 .taken in (
-      k,
+    let m = c .before .before .before in
+    let a = m .before .before .before .before .args in
+    let e = told poseAnswer (m .posed .ensures) (c .before .p .given .1) in (
+      code-value e,
       (
-        pose-part (a .words .now) (a .numbers .now) (a .samples .now) (a .geometry) (a .s) (λ (p : Pose). p .x) (a .x .now) k p z,
-        (
-          pose-part (a .words .now) (a .numbers .now) (a .samples .now) (a .geometry) (a .s) (λ (p : Pose). p .y) (a .y .now) k p z,
-          pose-part (a .words .now) (a .numbers .now) (a .samples .now) (a .geometry) (a .s) (λ (p : Pose). p .heading) (a .heading .now) k p z,
-        ),
+        left-value (λ (p : Pose). p .x) (a .x .now) e,
+        (left-value (λ (p : Pose). p .y) (a .y .now) e, left-value (λ (p : Pose). p .heading) (a .heading .now) e),
       ),
     )
 
 returns-2 : tie.Need-returns-2
 returns-2 c =
-    let code = c .before in
-    let a = code .before .before .before .before .args in
-    let k = code .pose-code .ensures in
-    let z = c .if1 .left in (
-      k,
+    let m = c .before .before .before .before in
+    let a = m .before .before .before .before .args in
+    let e = told poseAnswer (m .posed .ensures) (c .before .before .r .given .1) in (
+      c .number .ensures ∙ code-refused e,
       (
-        pose-kept (a .words .now) (a .numbers .now) (a .samples .now) (a .geometry) (a .s) (λ (p : Pose). p .x) (a .x .now) k z,
-        (
-          pose-kept (a .words .now) (a .numbers .now) (a .samples .now) (a .geometry) (a .s) (λ (p : Pose). p .y) (a .y .now) k z,
-          pose-kept (a .words .now) (a .numbers .now) (a .samples .now) (a .geometry) (a .s) (λ (p : Pose). p .heading) (a .heading .now) k z,
-        ),
+        left-refused (λ (p : Pose). p .x) (a .x .now) e,
+        (left-refused (λ (p : Pose). p .y) (a .y .now) e, left-refused (λ (p : Pose). p .heading) (a .heading .now) e),
       ),
     )
 
 pub riftkettle-pose-spec : {M : Type 1} → statement M
-riftkettle-pose-spec = tie.close (tie.spec pose-code-requires pose-requires returns returns-2)
+riftkettle-pose-spec =
+    tie.close (tie.spec posed-requires enum-known-p enum-known-r number-requires returns returns-2)

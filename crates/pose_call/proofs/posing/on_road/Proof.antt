@@ -1,7 +1,7 @@
--- `on_road`: the road's length as promised.
+-- `on_road`: the two comparisons with the road's own length.
 use borrow.Author.Needs.{needs}
-use Rattle.exports.proofs.calls.on_road.Statement.{statement}
-use Rattle.exports.proofs.calls.on_road.Tie as tie
+use Rattle.pose_call.proofs.posing.on_road.Statement.{statement}
+use Rattle.pose_call.proofs.posing.on_road.Tie as tie
 
 road-length-requires : tie.Need-road-length-requires
 road-length-requires c κs = search needs

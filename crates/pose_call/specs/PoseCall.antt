@@ -1,0 +1,45 @@
+-- Document 01: the pose call, rows 3 4 5 6 7 and the geometry's own.
+use Prim.Native.Nat.{ℕ}
+use mathlib.Core.List.{List, [], _∷_, _++_}
+use lib.ListN.{length}
+use lib.Dec.{ltb}
+use lib.Ieee.{Float}
+use Rattle.arithmetic.specs.Answer.{Answer, value, refused, Row, row, checked}
+use Rattle.arithmetic.specs.Refusal.{numberOf}
+use Rattle.arithmetic.specs.declared.refusals.Refusal.the-variants.{Structure, Station}
+use Rattle.records.specs.Roads.{Road, roadOf}
+use Rattle.limits.specs.Limits.{onRoad}
+use Rattle.reference_line.specs.declared.line.Pose.{Pose}
+use Rattle.reference_line.specs.Poses.{poseOf}
+use Rattle.admission.specs.Admission.{roadRows}
+use Rattle.admission.specs.Samples.{sampleRow}
+use Rattle.pose_call.specs.declared.answers.Posed.{Posed}
+use Rattle.pose_call.specs.declared.answers.Posed.the-variants as posed
+
+-- row 7: "s outside 0..length"
+abbrev pub stationRow : Road → Float → Row
+stationRow road s = row Station (onRoad road s)
+
+-- a geometry that the road does not have is a wrong reference: 3, of an argument, so after the road's and the samples' rows
+abbrev pub geometryRow : Road → ℕ → Row
+geometryRow road i = row Structure (ltb i (length (road .geoms)))
+
+module _ (words : List ℕ) (numbers : List Float) (samples : List Float) (geometry : ℕ) (s : Float) where
+  -- the rows after the road's
+  abbrev pub ownRows : List Row
+  ownRows =
+      sampleRow words numbers (length samples)
+      ∷ geometryRow (roadOf words numbers) geometry
+      ∷ stationRow (roadOf words numbers) s
+      ∷ []
+
+  abbrev pub placeOf : Pose
+  placeOf = poseOf (roadOf words numbers) samples geometry s
+
+  -- rows 3, 4, 5, 6, the geometry's, 7; then the pose
+  unfoldable pub posedBy : Answer Pose
+  posedBy = checked (roadRows words numbers ++ ownRows) (value placeOf)
+
+abbrev pub poseAnswer : Posed → Answer Pose
+poseAnswer (posed.Pose p) = value p
+poseAnswer (posed.Refused r) = refused (numberOf r)

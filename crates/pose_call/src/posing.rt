@@ -1,0 +1,42 @@
+// A place on the reference line and the heading there, or a refusal.
+use crate::answers::Posed;
+use admission::Verdict;
+use arithmetic::Refusal;
+ghost use mathlib.Core.Path.{_≡_};
+ghost use Rattle.arithmetic.specs.Answer.{value, checked};
+ghost use Rattle.records.specs.Roads.{roadOf};
+ghost use Rattle.limits.specs.Limits.{onRoad};
+ghost use Rattle.pose_call.specs.PoseCall.{ownRows, placeOf, posedBy, poseAnswer};
+
+// Row 7: s in 0..length. NaN is outside.
+fn on_road(words: &[u16], numbers: &[f64], s: f64) -> bool
+    ensures { λ r. ⌜ r ≡ onRoad (roadOf (now (words .entry)) (now (numbers .entry))) s ⌝ }
+{
+    (0.0 <= s) & (s <= records::road_length(words, numbers))
+}
+
+// Row 6, the geometry's and row 7, then the pose.
+fn pose_at(words: &[u16], numbers: &[f64], samples: &[f64], geometry: usize, s: f64) -> Posed
+    ensures { λ r. ⌜ poseAnswer r ≡ checked (ownRows (now (words .entry)) (now (numbers .entry)) (now (samples .entry)) geometry s) (value (placeOf (now (words .entry)) (now (numbers .entry)) (now (samples .entry)) geometry s)) ⌝ }
+{
+    if samples.len() / 4 < reference_line::samples_needed(words, numbers) {
+        return Posed::Refused(Refusal::SampleSpace);
+    }
+    if records::geom_count(words, numbers) <= geometry {
+        return Posed::Refused(Refusal::Structure);
+    }
+    if !on_road(words, numbers, s) {
+        return Posed::Refused(Refusal::Station);
+    }
+    Posed::Pose(reference_line::pose(words, numbers, samples, geometry, s))
+}
+
+// The pose of a geometry at s, with the lent samples; rows 3, 4, 5, 6, then 3 for a geometry that the road does not have, then 7.
+pub fn posed(words: &[u16], numbers: &[f64], samples: &[f64], geometry: usize, s: f64) -> Posed
+    ensures { λ r. ⌜ poseAnswer r ≡ posedBy (now (words .entry)) (now (numbers .entry)) (now (samples .entry)) geometry s ⌝ }
+{
+    match admission::admit(words, numbers) {
+        Verdict::Refused(r) => Posed::Refused(r),
+        Verdict::Admitted => pose_at(words, numbers, samples, geometry, s),
+    }
+}

@@ -1,0 +1,63 @@
+// Across a road: its shape, its cross section and its lanes. A side is right unless its flag is 0.
+ghost use mathlib.Core.Path.{_≡_};
+ghost use mathlib.Core.Bool.{not};
+ghost use lib.ListN.{length};
+ghost use lib.Dec.{eqb};
+ghost use Rattle.records.specs.Roads.{roadOf};
+ghost use Rattle.lateral.specs.Lateral.{shapeOf, crossHeight, heightToward};
+ghost use Rattle.lanes.specs.Borders.{sideOf};
+ghost use Rattle.lanes.specs.Heights.{acrossAt};
+
+#[no_mangle]
+pub extern "C" fn probe_shape(words: &[u16], numbers: &[f64], s: f64, t: f64) -> f64
+    ensures { λ r. ⌜ r ≡ shapeOf (roadOf (now (words .entry)) (now (numbers .entry))) s t ⌝ }
+{
+    lateral::shape_at(words, numbers, s, t)
+}
+
+#[no_mangle]
+pub extern "C" fn probe_cross(words: &[u16], numbers: &[f64], s: f64, t: f64, toward: f64) -> f64
+    ensures { λ r. ⌜ r ≡ crossHeight (roadOf (now (words .entry)) (now (numbers .entry))) s t toward ⌝ }
+{
+    lateral::cross_height(words, numbers, s, t, toward)
+}
+
+#[no_mangle]
+pub extern "C" fn probe_height(words: &[u16], numbers: &[f64], s: f64, t: f64, toward: f64) -> f64
+    ensures { λ r. ⌜ r ≡ heightToward (roadOf (now (words .entry)) (now (numbers .entry))) s t toward ⌝ }
+{
+    lateral::height_toward(words, numbers, s, t, toward)
+}
+
+#[no_mangle]
+pub extern "C" fn probe_lanes(words: &[u16], numbers: &[f64], section: usize, right: u32) -> usize
+    ensures { λ r. ⌜ r ≡ length (sideOf (roadOf (now (words .entry)) (now (numbers .entry))) section (not (eqb right 0))) ⌝ }
+{
+    lanes::lane_count(words, numbers, section, right != 0)
+}
+
+#[no_mangle]
+pub extern "C" fn probe_lane(
+    words: &[u16],
+    numbers: &[f64],
+    section: usize,
+    s: f64,
+    tangent: f64,
+    right: u32,
+    k: usize,
+    inner_t: &mut f64,
+    outer_t: &mut f64,
+    inner_height: &mut f64,
+    outer_height: &mut f64,
+)
+    ensures { λ _. ⌜ now («inner_t» .exit) ≡ acrossAt (roadOf (now (words .entry)) (now (numbers .entry))) section s tangent (not (eqb right 0)) k .«inner_t» ⌝ }
+    ensures { λ _. ⌜ now («outer_t» .exit) ≡ acrossAt (roadOf (now (words .entry)) (now (numbers .entry))) section s tangent (not (eqb right 0)) k .«outer_t» ⌝ }
+    ensures { λ _. ⌜ now («inner_height» .exit) ≡ acrossAt (roadOf (now (words .entry)) (now (numbers .entry))) section s tangent (not (eqb right 0)) k .«inner_height» ⌝ }
+    ensures { λ _. ⌜ now («outer_height» .exit) ≡ acrossAt (roadOf (now (words .entry)) (now (numbers .entry))) section s tangent (not (eqb right 0)) k .«outer_height» ⌝ }
+{
+    let lane = lanes::lane_across(words, numbers, section, s, tangent, right != 0, k);
+    *inner_t = lane.inner_t;
+    *outer_t = lane.outer_t;
+    *inner_height = lane.inner_height;
+    *outer_height = lane.outer_height;
+}
