@@ -16,6 +16,8 @@ use comparison::stand_ins as rust;
 use comparison::tally::{Tally, hex, same, same_f32};
 use std::sync::atomic::{AtomicUsize, Ordering};
 
+mod reading;
+
 /// Name, steps of the short form, steps of the full form, one step.
 type Comparison = (&'static str, u64, u64, fn(&mut Rng, &mut Tally));
 
@@ -31,6 +33,9 @@ const COMPARISONS: &[Comparison] = &[
     ("foreign", 500, 12_000, foreign_samples),
     ("limits", 3_000, 120_000, around_limits),
     ("damage", 3_000, 120_000, damage),
+    ("read", 1_000, 50_000, reading::read),
+    ("read bytes", 20_000, 500_000, reading::bytes),
+    ("read cuts", 3_000, 3_000, reading::cuts),
 ];
 
 // ---- arithmetic
