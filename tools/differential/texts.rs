@@ -477,10 +477,11 @@ fn over_limit(rng: &mut Rng, job: &Job) -> Vec<Edit> {
     let Some(last) = p.lines.len().checked_sub(1) else { return Vec::new() };
     let over = usize::from(!rng.one_in(4));
     let mut edits = fill(job, part, last, p.form.limit + over);
-    match rng.below(4) {
+    match rng.below(5) {
         0 => edits.extend(broken_cell(rng, job)),
         1 => edits.push((p.lines[last].end - 1..p.lines[last].end, rng.pick(&["", " \n", "0\n"]).into())),
         2 => edits.extend(other_value(rng, job)),
+        3 => edits.push((p.lines[last].end - 1..job.text.len(), Vec::new())),
         _ => edits.extend(cut(rng, job)),
     }
     edits
