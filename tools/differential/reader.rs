@@ -78,12 +78,7 @@ pub const TABLES: [Form; 15] = [
     form(Name::Offset, "offset", 64, CUBIC_COLUMNS),
     form(Name::Tshift, "tshift", 64, CUBIC_COLUMNS),
     form(Name::Section, "section", 16, &[("start", Number)]),
-    form(
-        Name::Lane,
-        "lane",
-        192,
-        &[("section", Whole), ("id", Whole), ("extent", Listed(&["width", "border"])), ("level", BIT)],
-    ),
+    form(Name::Lane, "lane", 192, &[("section", Whole), ("id", Whole), ("extent", Listed(&["width", "border"])), ("level", BIT)]),
     form(
         Name::Extent,
         "extent",
@@ -121,6 +116,8 @@ pub const TABLES: [Form; 15] = [
     ),
     form(Name::Want, "want", 16, &[("s", Number), ("t", Number)]),
 ];
+
+const LF: u8 = b'\n';
 
 /// The longest text that is read.
 pub const TEXT: usize = 65_536;
@@ -173,7 +170,7 @@ fn read_lines(mut text: Text, store: &mut Store) -> Result<[usize; TABLES.len()]
                 store.parent = 0;
                 (open, to_come) = (Some(columns), rest);
             }
-            Some(_) if text.take(b'\n') => open = None,
+            Some(_) if text.take(LF) => open = None,
             Some(columns) => {
                 let values = text.values(columns).ok_or(1u32)?;
                 let line = &mut lines[columns.form.table as usize];
@@ -212,7 +209,7 @@ impl<'a> Text<'a> {
 
     /// One space after a word, LF after the last.
     fn end(&mut self, last: bool) -> Option<()> {
-        self.take(if last { b'\n' } else { b' ' }).then_some(())
+        self.take(if last { LF } else { b' ' }).then_some(())
     }
 
     /// A line of names: a table that may still come, then its columns in any order, each once. Answers the tables after it too.
@@ -236,7 +233,7 @@ impl<'a> Text<'a> {
 
     /// What stands before the next space or LF.
     fn word(&mut self) -> &'a [u8] {
-        let length = self.0.iter().take_while(|&&b| b != b' ' && b != b'\n').count();
+        let length = self.0.iter().take_while(|&&b| b != b' ' && b != LF).count();
         let (word, rest) = self.0.split_at(length);
         self.0 = rest;
         word

@@ -63,7 +63,10 @@ fn check(tally: &mut Tally, place: &'static str, text: &[u8], lengths: [usize; 3
             one.wants.iter().zip(&two.wants).position(|(a, b)| a != b),
         ];
         let answers = format!("ours {code} {count}, second reader {number} {wants}");
-        format!("{place}: {answers}; first place unlike in words, numbers, wants {at:?}; lent {lengths:?}; text kept as {}", keep(text))
+        format!(
+            "{place}: {answers}; first place unlike in words, numbers, wants {at:?}; lent {lengths:?}; text kept as {}",
+            keep(text)
+        )
     });
 }
 

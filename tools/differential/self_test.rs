@@ -169,7 +169,10 @@ fn reading(rng: &mut Rng) {
     for (bytes, expected) in [(60_000, Ok(16)), (65_535, Ok(16)), (65_536, Ok(16)), (65_537, Err(2))] {
         let job = texts::of_bytes(bytes);
         assert_eq!((job.text.len(), read_text(&job.text).0), (bytes, expected));
-        assert!(job.parts.iter().all(|p| p.lines.len() >= p.form.limit / 8), "the job of {bytes} bytes has tables with few lines");
+        assert!(
+            job.parts.iter().all(|p| p.lines.len() >= p.form.limit / 8),
+            "the job of {bytes} bytes has tables with few lines"
+        );
     }
     let mut accepted = 0;
     for _ in 0..1_000 {

@@ -83,8 +83,8 @@ impl Draft {
     }
 
     /// With lines of values given as text, in 01's order of the columns.
-    pub fn with(&self, table: Name, lines: &[&str]) -> Self {
-        let cells = |line: &&str| line.split(' ').map(expand).collect();
+    pub fn with(&self, table: Name, lines: &[impl AsRef<str>]) -> Self {
+        let cells = |line: &_| AsRef::<str>::as_ref(line).split(' ').map(expand).collect();
         self.change(table, |all| *all = lines.iter().map(cells).collect())
     }
 }
@@ -111,9 +111,7 @@ pub fn mixed() -> Draft {
         left: vec![width(false, 3.5, Vec::new())],
         right: vec![lane(false, false, Vec::new(), vec![height(0.0)])],
     };
-    let strip = |relative, width, zero, two| {
-        Some(Strip { relative, lists: [width, zero, Vec::new(), two, Vec::new()] })
-    };
+    let strip = |relative, width, zero, two| Some(Strip { relative, lists: [width, zero, Vec::new(), two, Vec::new()] });
     let road = Road {
         length: 100.0,
         geoms: vec![geom(0.0, 40.0, Shape::Line), geom(40.0, 30.0, Shape::Arc(0.01)), geom(70.0, 30.0, Shape::Spiral(0.01, 0.0))],

@@ -65,12 +65,20 @@ impl List {
     }
 
     fn text(&mut self, text: &[u8]) {
+        let mut made: Vec<u8> = Vec::new();
         for piece in pieces::of(text, &self.base) {
             match piece {
-                Piece::Copy(at) => self.line('c', at.start as u64, at.end as u64),
-                Piece::Bytes(bytes) => self.bytes(bytes),
+                Piece::Copy(at) => {
+                    self.line('c', at.start as u64, at.end as u64);
+                    made.extend(&self.base[at]);
+                }
+                Piece::Bytes(bytes) => {
+                    self.bytes(bytes);
+                    made.extend(bytes);
+                }
             }
         }
+        assert!(made == text, "the pieces are those of the text");
     }
 
     fn bytes(&mut self, bytes: &[u8]) {
