@@ -335,45 +335,24 @@ fn cut(rng: &mut Rng, job: &Job) -> Vec<Edit> {
     vec![if rng.one_in(6) { (0..at, Vec::new()) } else { (at..n, Vec::new()) }]
 }
 
-/// A line dropped, doubled, moved or swapped, or one more empty line.
+/// A line dropped, doubled, moved or swapped, one more empty line, or one more byte before its LF.
 fn line(rng: &mut Rng, job: &Job) -> Vec<Edit> {
     let lines = job.lines();
     let i = rng.below(lines.len());
     let (a, b) = (lines[i].clone(), if rng.one_in(2) { (i + 1) % lines.len() } else { rng.below(lines.len()) });
     let (b, of) = (lines[b].clone(), |at: &Range<usize>| job.text[at.clone()].to_vec());
-    match rng.below(5) {
+    match rng.below(6) {
         0 => vec![(a, Vec::new())],
         1 => vec![(a.start..a.start, of(&a))],
         2 => vec![(b.start..b.start, of(&a)), (a, Vec::new())],
         3 => vec![(a.clone(), of(&b)), (b, of(&a))],
-        _ => vec![(a.start..a.start, b"\n".to_vec())],
+        4 => vec![(a.start..a.start, b"\n".to_vec())],
+        _ => vec![(a.end - 1..a.end - 1, vec![rng.pick(b"\r \t0")])],
     }
 }
 
-const BROKEN: &[&str] = &[
-    "",
-    "-",
-    "-0",
-    "+1",
-    "+0",
-    "00",
-    "01",
-    "-01",
-    "10000",
-    "-10000",
-    "99999",
-    "0000",
-    "1.0",
-    "1e3",
-    "0x1",
-    "1_0",
-    " 1",
-    "1 ",
-    "1\t",
-    "1\r",
-    "\u{0}",
-    "\u{feff}0",
-    "\u{e9}",
+/// Cells that are no numbers.
+const NO_NUMBERS: &[&str] = &[
     "3ff00000000000000",
     "3ff000000000000",
     "3FF0000000000000",
@@ -381,22 +360,21 @@ const BROKEN: &[&str] = &[
     "+3ff000000000000",
     "-3ff000000000000",
     "3ff00000 0000000",
+    "7FF8000000000000",
     "inf",
     "nan",
-    "Line",
-    "LINE",
-    "lin",
-    "lines",
-    "widths",
-    "Width",
-    "2",
-    "4",
-    "5",
-    "-1",
-    "inner",
-    "outer",
-    "true",
-    "none",
+    "1.0",
+];
+
+/// Cells that are no whole numbers.
+const NO_WHOLES: &[&str] = &[
+    "-", "-0", "+1", "+0", "00", "01", "-01", "10000", "-10000", "99999", "0000", "1.0", "1e3", "0x1", "1_0", " 1", "1 ", "--1",
+];
+
+/// Cells that few columns list, or none.
+const NO_WORDS: &[&str] = &[
+    "", "Line", "LINE", "lin", "lines", "widths", "Width", "2", "4", "5", "-1", "00", "01", "inner", "outer", "true", "1\t",
+    "1\r", "\0", "\u{e9}",
 ];
 
 /// A line with cells, its part, and whether it is the line of names.
@@ -413,15 +391,26 @@ fn any_line(rng: &mut Rng, job: &Job, names_too: bool) -> Option<(Range<usize>, 
 /// A cell that breaks the form in its column or in every one, a cell too many, or one too few.
 fn broken_cell(rng: &mut Rng, job: &Job) -> Vec<Edit> {
     let Some((line, part, names)) = any_line(rng, job, true) else { return Vec::new() };
-    let cells = job.parts[part].order.len() + usize::from(names);
-    let at = job.cell(&line, rng.below(cells));
+    let part = &job.parts[part];
+    let cells = part.order.len() + usize::from(names);
+    let i = rng.below(cells);
+    let broken = match part.order.get(i).map(|&column| part.form.columns[column].1) {
+        Some(Cell::Number) if !names => NO_NUMBERS,
+        Some(Cell::Whole) if !names => NO_WHOLES,
+        _ => NO_WORDS,
+    };
+    let at = job.cell(&line, i);
     vec![match rng.below(12) {
         0 => (at.start..at.start, b"0 ".to_vec()),
         1 => (at.start..(at.end + 1).min(line.end), Vec::new()),
         2 => (at.end..at.end, b" ".to_vec()),
         3 => (at.clone(), job.text[at].to_ascii_uppercase()),
         4 => (at, job.text[job.cell(&line, rng.below(cells))].to_vec()),
-        _ => (at, rng.pick(BROKEN).into()),
+        5 => (at, {
+            let list = rng.pick(&[NO_NUMBERS, NO_WHOLES, NO_WORDS]);
+            rng.pick(list).into()
+        }),
+        _ => (at, rng.pick(broken).into()),
     }]
 }
 
