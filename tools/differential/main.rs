@@ -14,6 +14,7 @@ use comparison::random::{Rng, nudge};
 use comparison::riftkettle as ours;
 use comparison::stand_ins as rust;
 use comparison::tally::{Tally, hex, same, same_f32};
+use comparison::texts::SAMPLE_BYTES;
 use std::sync::atomic::{AtomicUsize, Ordering};
 
 mod reading;
@@ -34,8 +35,8 @@ const COMPARISONS: &[Comparison] = &[
     ("limits", 3_000, 120_000, around_limits),
     ("damage", 3_000, 120_000, damage),
     ("read", 1_000, 50_000, reading::read),
-    ("read bytes", 20_000, 500_000, reading::bytes),
-    ("read cuts", 3_000, 3_000, reading::cuts),
+    ("read bytes", 8 * SAMPLE_BYTES, 256 * SAMPLE_BYTES, reading::bytes),
+    ("read cuts", reading::CUTS, reading::CUTS, reading::cuts),
 ];
 
 // ---- arithmetic

@@ -5,7 +5,7 @@ use comparison::random::Rng;
 use comparison::reader::{self, WANTS};
 use comparison::riftkettle as ours;
 use comparison::tally::Tally;
-use comparison::texts::{self, DAMAGES, Job};
+use comparison::texts::{self, DAMAGES, Job, SAMPLE_BYTES, SAMPLE_LINES};
 use std::sync::OnceLock;
 use std::sync::atomic::{AtomicUsize, Ordering};
 
@@ -107,6 +107,9 @@ pub fn bytes(_: &mut Rng, tally: &mut Tally) {
     text[step % n] = others[step / n % others.len()];
     check(tally, "sample", &text, [WORDS, NUMBERS, WANTS]);
 }
+
+/// Every cut, then six ways for each line.
+pub const CUTS: u64 = SAMPLE_BYTES + 1 + 6 * SAMPLE_LINES;
 
 /// The sample job cut after every byte; then each of its lines dropped, doubled, swapped with each of the next three, and an empty
 /// line put before it.

@@ -8,7 +8,7 @@ use comparison::oracle::Oracle;
 use comparison::random::Rng;
 use comparison::reader::{self, TABLES, WANTS};
 use comparison::stand_ins;
-use comparison::texts;
+use comparison::texts::{self, SAMPLE_BYTES, SAMPLE_LINES};
 
 /// 12,000 is some 7,640 quarters, and Q is good to 2^-87 or so: what is left is the rounding of a sum near 1.
 const TOLERANCE: f64 = 4.0e-16;
@@ -165,7 +165,7 @@ fn reading(rng: &mut Rng) {
     let sample = texts::sample();
     assert!(sample.parts.iter().all(|p| !p.lines.is_empty()) && sample.parts.len() == TABLES.len());
     assert_eq!(read_text(&sample.text).0, Ok(1));
-    println!("sample job: {} bytes, {} lines", sample.text.len(), sample.lines().len());
+    assert_eq!((sample.text.len() as u64, sample.lines().len() as u64), (SAMPLE_BYTES, SAMPLE_LINES));
     for (bytes, expected) in [(60_000, Ok(16)), (65_535, Ok(16)), (65_536, Ok(16)), (65_537, Err(2))] {
         let job = texts::of_bytes(bytes);
         assert_eq!((job.text.len(), read_text(&job.text).0), (bytes, expected));

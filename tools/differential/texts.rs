@@ -214,6 +214,10 @@ fn spirals(rng: &mut Rng, road: &mut Road) {
     }
 }
 
+/// How long the sample job is.
+pub const SAMPLE_BYTES: u64 = 1_902;
+pub const SAMPLE_LINES: u64 = 56;
+
 /// A short job with lines in every table, columns and strips permuted.
 pub fn sample() -> Job {
     let mut rng = Rng::new(1, "sample job");
