@@ -35,7 +35,7 @@ const COMPARISONS: &[Comparison] = &[
     ("limits", 3_000, 120_000, around_limits),
     ("damage", 3_000, 120_000, damage),
     ("read", 1_000, 50_000, reading::read),
-    ("read bytes", 8 * SAMPLE_BYTES, 256 * SAMPLE_BYTES, reading::bytes),
+    ("read bytes", 18 * SAMPLE_BYTES, 256 * SAMPLE_BYTES, reading::bytes),
     ("read cuts", reading::CUTS, reading::CUTS, reading::cuts),
 ];
 
@@ -287,7 +287,7 @@ fn main() {
     println!("{} form, seed {seed}", if full { "full" } else { "short" });
     let (mut compared, mut differ) = (0, 0);
     for &(name, short_steps, full_steps, step) in COMPARISONS {
-        if only.as_deref().is_some_and(|only| only != name) {
+        if only.as_deref().is_some_and(|only| !name.starts_with(only)) {
             continue;
         }
         let steps = steps_asked.unwrap_or(if full { full_steps } else { short_steps });

@@ -101,7 +101,7 @@ fn sample() -> &'static Job {
 /// Every byte of the sample job in turn with one other byte in its place; after the last, the next other byte.
 pub fn bytes(_: &mut Rng, tally: &mut Tally) {
     static OTHERS: OnceLock<Vec<u8>> = OnceLock::new();
-    let (step, others) = (tally.done() as usize, OTHERS.get_or_init(texts::telling_bytes));
+    let (step, others) = (tally.done() as usize, OTHERS.get_or_init(texts::other_bytes));
     let mut text = sample().text.clone();
     let n = text.len();
     text[step % n] = others[step / n % others.len()];

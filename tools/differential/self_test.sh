@@ -76,7 +76,7 @@ put_edits() {
 
 if [ -z "$quick" ]; then
   put_edits "$edits" admission.rs edited --only limits --steps 8000
-  put_edits "$here/reader_edits.txt" reader.rs edited_reader --only read --steps 600
+  put_edits "$here/reader_edits.txt" reader.rs edited_reader --only read
 fi
 echo "self test: $found faults found, $missed not"
 [ $missed -eq 0 ]

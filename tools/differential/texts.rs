@@ -311,15 +311,17 @@ pub const DAMAGES: &[Damage] = &[
     ("several", several),
 ];
 
-/// Bytes that damage is likely to tell, then all others: every byte once.
-pub fn telling_bytes() -> Vec<u8> {
-    let first = b"\n 0a-A1f\rg9\t+.\0\x80";
-    first.iter().copied().chain((0..=255).filter(|b| !first.contains(b))).collect()
+/// Bytes whose damage tells most.
+const TELLING: &[u8; 18] = b"\n 0a-A124f\rg9\t+.\0\x80";
+
+/// Every byte once, the telling ones first.
+pub fn other_bytes() -> Vec<u8> {
+    TELLING.iter().copied().chain((0..=255).filter(|b| !TELLING.contains(b))).collect()
 }
 
 fn byte(rng: &mut Rng, job: &Job) -> Vec<Edit> {
     let at = rng.below(job.text.len());
-    let with = if rng.one_in(2) { rng.pick(&telling_bytes()[..16]) } else { rng.bits() as u8 };
+    let with = if rng.one_in(2) { rng.pick(TELLING) } else { rng.bits() as u8 };
     vec![match rng.below(4) {
         0 => (at..at, vec![with]),
         1 => (at..at + 1, Vec::new()),
@@ -401,6 +403,7 @@ fn broken_cell(rng: &mut Rng, job: &Job) -> Vec<Edit> {
     let broken = match part.order.get(i).map(|&column| part.form.columns[column].1) {
         Some(Cell::Number) if !names => NO_NUMBERS,
         Some(Cell::Whole) if !names => NO_WHOLES,
+        Some(Cell::Listed(list)) if list.contains(&"0") => &["2", "4", "-1", "00", "01"],
         _ => NO_WORDS,
     };
     let at = job.cell(&line, i);
