@@ -82,14 +82,14 @@ pub fn samples(m: &Memory, samples: &mut [f64], made: &mut usize) -> u32 {
     unsafe { riftkettle_samples(w.as_ptr(), w.len(), x.as_ptr(), x.len(), samples.as_mut_ptr(), samples.len(), made) }
 }
 
+pub fn read(text: &[u8], words: &mut [u16], numbers: &mut [f64], wants: &mut [u64], count: &mut usize) -> u32 {
+    let (w, x, v) = (words.as_mut_ptr(), numbers.as_mut_ptr(), wants.as_mut_ptr());
+    unsafe { riftkettle_read(text.as_ptr(), text.len(), w, words.len(), x, numbers.len(), v, wants.len(), count) }
+}
+
 pub fn pose(m: &Memory, samples: &[f64], geometry: usize, s: f64, pose: &mut [f64; 3]) -> u32 {
     let (w, x) = (&m.words, &m.numbers);
     let [to_x, to_y, to_heading] = pose;
     let (lent, k) = (samples.as_ptr(), samples.len());
     unsafe { riftkettle_pose(w.as_ptr(), w.len(), x.as_ptr(), x.len(), lent, k, geometry, s, to_x, to_y, to_heading) }
-}
-
-pub fn read(text: &[u8], words: &mut [u16], numbers: &mut [f64], wants: &mut [u64], count: &mut usize) -> u32 {
-    let (w, x, v) = (words.as_mut_ptr(), numbers.as_mut_ptr(), wants.as_mut_ptr());
-    unsafe { riftkettle_read(text.as_ptr(), text.len(), w, words.len(), x, numbers.len(), v, wants.len(), count) }
 }
