@@ -4,8 +4,6 @@
 //
 // Each comparison below is a function for one random input; a new one is such a function and a line in COMPARISONS. The last line
 // says how many results were compared and how many differ. A seed gives the same run everywhere.
-mod reading;
-
 use comparison::admission::{self, spiral_samples};
 use comparison::arguments::{self, exact_counts, exact_root};
 use comparison::generate;
@@ -18,6 +16,8 @@ use comparison::stand_ins as rust;
 use comparison::tally::{Tally, hex, same, same_f32};
 use comparison::texts::SAMPLE_BYTES;
 use std::sync::atomic::{AtomicUsize, Ordering};
+
+mod reading;
 
 /// Name, steps of the short form, steps of the full form, one step.
 type Comparison = (&'static str, u64, u64, fn(&mut Rng, &mut Tally));
@@ -32,11 +32,11 @@ const COMPARISONS: &[Comparison] = &[
     ("samples", 500, 12_000, samples),
     ("pose", 500, 12_000, pose),
     ("foreign", 500, 12_000, foreign_samples),
+    ("limits", 3_000, 120_000, around_limits),
+    ("damage", 3_000, 120_000, damage),
     ("read", 1_000, 50_000, reading::read),
     ("read bytes", 18 * SAMPLE_BYTES, 256 * SAMPLE_BYTES, reading::bytes),
     ("read cuts", reading::CUTS, reading::CUTS, reading::cuts),
-    ("limits", 3_000, 120_000, around_limits),
-    ("damage", 3_000, 120_000, damage),
 ];
 
 // ---- arithmetic

@@ -50,6 +50,11 @@ must_differ() {
   fi
 }
 
+"$build/differential" | tail -n 1
+for fault in root hypot "sine range" sine tan narrow counts bank rows early tail leading 'read count' 'read zeros' 'read short'; do
+  RIFTKETTLE_FAULT=$fault must_differ "fault $fault"
+done
+
 # Puts each edit of a file (old ==> new) into a copy of one of the second texts, which the stub then uses:
 # put_edits EDITS FILE CFG, then the words for the comparison.
 put_edits() {
@@ -69,10 +74,6 @@ put_edits() {
   done < "$edits"
 }
 
-"$build/differential" | tail -n 1
-for fault in root hypot "sine range" sine tan narrow counts bank rows early tail leading 'read count' 'read zeros' 'read short'; do
-  RIFTKETTLE_FAULT=$fault must_differ "fault $fault"
-done
 if [ -z "$quick" ]; then
   put_edits "$edits" admission.rs edited --only limits --steps 8000
   put_edits "$here/reader_edits.txt" reader.rs edited_reader --only read
