@@ -9,8 +9,10 @@ use comparison::generate;
 use comparison::model::*;
 use comparison::oracle::{Line, Oracle};
 use comparison::random::Rng;
+use comparison::reader;
 use comparison::riftkettle as ours;
 use comparison::stand_ins;
+use comparison::texts;
 use std::hint::black_box;
 
 const ROUNDS: usize = 21;
@@ -180,4 +182,25 @@ fn main() {
         );
         println!("| {what} | {a:.0} | {b:.0} | {ratio:.2} | {:.2} |", a / (100.0 * pair[0]));
     }
+    reading(pair[0]);
+}
+
+/// Reading a job of 60,000 bytes with every table well filled, against the second reader.
+fn reading(sine_pair: f64) {
+    let job = texts::of_bytes(60_000);
+    let slices = || (vec![0u16; WORDS], vec![0.0; NUMBERS], vec![0u64; reader::WANTS]);
+    let ((mut w, mut x, mut v), (mut w2, mut x2, mut v2), mut count) = (slices(), slices(), 0);
+    assert_eq!(ours::read(&job.text, &mut w, &mut x, &mut v, &mut count), 0);
+    assert_eq!(reader::read(&job.text, &mut w2, &mut x2, &mut v2), Ok(count));
+    assert!(w == w2 && x == x2 && v == v2);
+    let [a, b, ratio] = compare(
+        1,
+        || {
+            black_box(ours::read(black_box(&job.text), &mut w, &mut x, &mut v, &mut count));
+        },
+        || {
+            let _ = black_box(reader::read(black_box(&job.text), &mut w2, &mut x2, &mut v2));
+        },
+    );
+    println!("| reading a job of 60,000 bytes | {a:.0} | {b:.0} | {ratio:.2} | {:.2} |", a / (100.0 * sine_pair));
 }

@@ -43,7 +43,7 @@ stub() {
 
 choose() {
   if [ -n "$stub" ]; then
-    stub --check-cfg 'cfg(edited)'
+    stub --check-cfg 'cfg(edited, edited_reader)'
     archive=$build/libstub.so
   elif [ -z "$archive" ]; then
     [ -d crates/exports ] || fail "there is no crates/exports, so no library to compare (--stub tests the comparison itself)"

@@ -16,9 +16,11 @@ pub mod limits;
 pub mod model;
 pub mod oracle;
 pub mod random;
+pub mod reader;
 pub mod riftkettle;
 pub mod stand_ins;
 pub mod tally;
+pub mod texts;
 
 // What the published files name of others. None of it has behaviour that is compared.
 mod crg {

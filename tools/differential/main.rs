@@ -14,7 +14,10 @@ use comparison::random::{Rng, nudge};
 use comparison::riftkettle as ours;
 use comparison::stand_ins as rust;
 use comparison::tally::{Tally, hex, same, same_f32};
+use comparison::texts::SAMPLE_BYTES;
 use std::sync::atomic::{AtomicUsize, Ordering};
+
+mod reading;
 
 /// Name, steps of the short form, steps of the full form, one step.
 type Comparison = (&'static str, u64, u64, fn(&mut Rng, &mut Tally));
@@ -31,6 +34,9 @@ const COMPARISONS: &[Comparison] = &[
     ("foreign", 500, 12_000, foreign_samples),
     ("limits", 3_000, 120_000, around_limits),
     ("damage", 3_000, 120_000, damage),
+    ("read", 1_000, 50_000, reading::read),
+    ("read bytes", 18 * SAMPLE_BYTES, 256 * SAMPLE_BYTES, reading::bytes),
+    ("read cuts", reading::CUTS, reading::CUTS, reading::cuts),
 ];
 
 // ---- arithmetic
@@ -281,7 +287,7 @@ fn main() {
     println!("{} form, seed {seed}", if full { "full" } else { "short" });
     let (mut compared, mut differ) = (0, 0);
     for &(name, short_steps, full_steps, step) in COMPARISONS {
-        if only.as_deref().is_some_and(|only| only != name) {
+        if only.as_deref().is_some_and(|only| !name.starts_with(only)) {
             continue;
         }
         let steps = steps_asked.unwrap_or(if full { full_steps } else { short_steps });

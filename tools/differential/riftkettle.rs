@@ -32,6 +32,17 @@ unsafe extern "C" {
         y: *mut f64,
         heading: *mut f64,
     ) -> u32;
+    fn riftkettle_read(
+        text: *const u8,
+        l: usize,
+        words: *mut u16,
+        n: usize,
+        numbers: *mut f64,
+        m: usize,
+        wants: *mut u64,
+        k: usize,
+        count: *mut usize,
+    ) -> u32;
 }
 
 pub fn root(x: f64) -> f64 {
@@ -69,6 +80,11 @@ pub fn admit(words: &[u16], numbers: &[f64]) -> u32 {
 pub fn samples(m: &Memory, samples: &mut [f64], made: &mut usize) -> u32 {
     let (w, x) = (&m.words, &m.numbers);
     unsafe { riftkettle_samples(w.as_ptr(), w.len(), x.as_ptr(), x.len(), samples.as_mut_ptr(), samples.len(), made) }
+}
+
+pub fn read(text: &[u8], words: &mut [u16], numbers: &mut [f64], wants: &mut [u64], count: &mut usize) -> u32 {
+    let (w, x, v) = (words.as_mut_ptr(), numbers.as_mut_ptr(), wants.as_mut_ptr());
+    unsafe { riftkettle_read(text.as_ptr(), text.len(), w, words.len(), x, numbers.len(), v, wants.len(), count) }
 }
 
 pub fn pose(m: &Memory, samples: &[f64], geometry: usize, s: f64, pose: &mut [f64; 3]) -> u32 {

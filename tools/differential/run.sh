@@ -7,7 +7,7 @@
 #   --source   the folder with the published road.rs and coords.rs, or with src/ that holds them (default ../shared/docs/src)
 #   --archive  the library to compare (default: target/staticlib/libexports.a, built by `rt staticlib exports`)
 #   --stub     in place of the library, one that answers by the published Rust: a test of the comparison itself
-#   --seed     another run of random inputs (default 1); --only, one comparison by name; --steps, how
+#   --seed     another run of random inputs (default 1); --only, comparisons by the start of their name; --steps, how
 #              many inputs of each
 #
 # The last line says how many results were compared and how many differ. Status 0: none differ.

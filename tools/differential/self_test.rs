@@ -6,7 +6,9 @@ use comparison::generate;
 use comparison::model::*;
 use comparison::oracle::Oracle;
 use comparison::random::Rng;
+use comparison::reader::{self, TABLES, WANTS};
 use comparison::stand_ins;
+use comparison::texts::{self, SAMPLE_BYTES, SAMPLE_LINES};
 
 /// 12,000 is some 7,640 quarters, and Q is good to 2^-87 or so: what is left is the rounding of a sum near 1.
 const TOLERANCE: f64 = 4.0e-16;
@@ -113,8 +115,79 @@ fn generator(rng: &mut Rng) {
     }
 }
 
+// ---- the second reader and its texts
+
+const M1: &str = "road length\n4024000000000000\n\n\
+    geom s x y hdg length kind k0 k1\n\
+    0000000000000000 0000000000000000 0000000000000000 0000000000000000 4024000000000000 line 0000000000000000 0000000000000000\n\n\
+    section start\n0000000000000000\n\n\
+    want s t\n3ff0000000000000 4000000000000000\n\n";
+
+/// The answer to a text, with the words and numbers as read.
+fn read_text(text: &[u8]) -> (Result<usize, u32>, Memory, [u64; WANTS]) {
+    let (mut m, mut wants) = (Memory { words: vec![9; WORDS], numbers: vec![9.0; NUMBERS] }, [9; WANTS]);
+    let answer = reader::read(text, &mut m.words, &mut m.numbers, &mut wants);
+    (answer, m, wants)
+}
+
+/// M1's job, what 01 and our readings of it say of small changes to it, and jobs of random roads, which are read back.
+fn reading(rng: &mut Rng) {
+    let (answer, m, wants) = read_text(M1.as_bytes());
+    assert_eq!((answer, &wants[..3]), (Ok(1), &[0x3ff0 << 48, 0x4000 << 48, 0][..]));
+    assert_eq!((m.numbers[0], m.numbers[GEOM.at + 4], m.words[0], m.words[5]), (10.0, 10.0, 1, 1));
+    let changed = |old: &str, new: &str| {
+        assert!(M1.contains(old), "{old}");
+        read_text(M1.replacen(old, new, 1).as_bytes()).0
+    };
+    let lane = |lines: &str| changed("want", &format!("lane id section level extent\n{lines}\nwant"));
+    for (answer, expected) in [
+        (changed("4024000000000000\n\ngeom", "4024000000000000\n\n\ngeom"), Err(1)),
+        (changed("4000000000000000\n\n", "4000000000000000\n"), Err(1)),
+        (changed("4000000000000000\n\n", "4000000000000000"), Err(1)),
+        (changed("road length\n4024000000000000\n\n", ""), Err(3)),
+        (changed("road length\n4024000000000000\n\n", "road length\n\n"), Err(3)),
+        (changed("road length\n", "road length\n4024000000000000\n"), Err(2)),
+        (changed("section start", "elev d c b a start\n\nsection start"), Ok(1)),
+        (changed("3ff0000000000000 ", "3FF0000000000000 "), Err(1)),
+        (changed("3ff0000000000000 ", "7ff0000000000001 "), Ok(1)),
+        (lane("1 0 0 width\n-1 0 1 border\n"), Ok(1)),
+        (lane("-1 0 0 width\n1 0 1 border\n"), Err(3)),
+        (lane("1 0 2 width\n"), Err(1)),
+        (lane("-0 0 0 width\n"), Err(1)),
+        (lane("0 0 0 width\n"), Err(3)),
+        (lane("1 -9999 0 width\n"), Err(3)),
+        (lane("1 10000 0 width\n"), Err(1)),
+        (read_text(b"").0, Err(3)),
+        (read_text(b"\n").0, Err(1)),
+    ] {
+        assert_eq!(answer, expected);
+    }
+    let sample = texts::sample();
+    assert!(sample.parts.iter().all(|p| !p.lines.is_empty()) && sample.parts.len() == TABLES.len());
+    assert_eq!(read_text(&sample.text).0, Ok(1));
+    assert_eq!((sample.text.len() as u64, sample.lines().len() as u64), (SAMPLE_BYTES, SAMPLE_LINES));
+    for (bytes, expected) in [(60_000, Ok(16)), (65_535, Ok(16)), (65_536, Ok(16)), (65_537, Err(2))] {
+        let job = texts::of_bytes(bytes);
+        assert_eq!((job.text.len(), read_text(&job.text).0), (bytes, expected));
+        assert!(
+            job.parts.iter().all(|p| p.lines.len() >= p.form.limit / 8),
+            "the job of {bytes} bytes has tables with few lines"
+        );
+    }
+    let mut accepted = 0;
+    for _ in 0..1_000 {
+        let (road, writing) = (generate::admitted(rng).0, texts::Writing::random(rng));
+        let job = texts::Job::of(rng, &road, &[], writing);
+        let (answer, m, _) = read_text(&job.text);
+        assert!(answer == Ok(0) && Road::read(&m.words, &m.numbers) == road || answer == Err(2) && job.text.len() > 65_536);
+        accepted += usize::from(answer.is_ok());
+    }
+    println!("{accepted} of 1000 roads read back from their texts");
+}
+
 fn main() {
     let mut rng = Rng::new(1, "self test");
+    reading(&mut rng);
     stand_ins_are_near(&mut rng);
     admission_runs(&mut rng);
     oracle(&mut rng);

@@ -51,21 +51,32 @@ must_differ() {
 }
 
 "$build/differential" | tail -n 1
-for fault in root hypot "sine range" sine tan narrow counts bank rows early tail leading; do
+for fault in root hypot "sine range" sine tan narrow counts bank rows early tail leading 'read count' 'read zeros' 'read short'; do
   RIFTKETTLE_FAULT=$fault must_differ "fault $fault"
 done
-if [ -z "$quick" ]; then
-  text=$(sed 's/^use crate::model/use comparison::model/' "$here/admission.rs")
+
+# Puts each edit of a file (old ==> new) into a copy of one of the second texts, which the stub then uses:
+# put_edits EDITS FILE CFG, then the words for the comparison.
+put_edits() {
+  local edits=$1 file=$2 cfg=$3 text line old new without
+  shift 3
+  text=$(sed 's/^use crate::/use comparison::/' "$here/$file")
   while IFS= read -r line; do
     case $line in '#'*) continue ;; esac
     old=${line%% ==> *} new=${line##* ==> }
     old=${old//'\n'/$'\n'} new=${new//'\n'/$'\n'}
     without=${text//"$old"/}
-    [ $((${#text} - ${#without})) -eq ${#old} ] || fail "$edits: this stands not once in admission.rs: $old"
-    printf '%s\n' "${text/"$old"/"$new"}" > "$build/edited.rs"
-    stub --cfg edited -A dead_code 2> "$build/self_test.out" || fail "$edits: '$line' does not build: $(cat "$build/self_test.out")"
-    must_differ "edit $line" --only limits --steps 8000
+    [ $((${#text} - ${#without})) -eq ${#old} ] || fail "$edits: this stands not once in $file: $old"
+    printf '%s\n' "${text/"$old"/"$new"}" > "$build/$cfg.rs"
+    stub --cfg "$cfg" -A dead_code -A unused -A unexpected_cfgs 2> "$build/self_test.out" ||
+      fail "$edits: '$line' does not build: $(cat "$build/self_test.out")"
+    must_differ "edit of $file: $line" "$@"
   done < "$edits"
+}
+
+if [ -z "$quick" ]; then
+  put_edits "$edits" admission.rs edited --only limits --steps 8000
+  put_edits "$here/reader_edits.txt" reader.rs edited_reader --only read
 fi
 echo "self test: $found faults found, $missed not"
 [ $missed -eq 0 ]

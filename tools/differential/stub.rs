@@ -183,3 +183,53 @@ fn find_pose(words: &[u16], numbers: &[f64], lent: &[f64], (geometry, s): (usize
     }
     0
 }
+
+// ---- reading
+
+// An edited copy of the second reader, made by self_test.sh.
+#[cfg(not(edited_reader))]
+use comparison::reader;
+#[cfg(edited_reader)]
+#[path = "../../target/differential/edited_reader.rs"]
+mod reader;
+
+#[unsafe(no_mangle)]
+pub unsafe extern "C" fn riftkettle_read(
+    text: *const u8,
+    l: usize,
+    words: *mut u16,
+    n: usize,
+    numbers: *mut f64,
+    m: usize,
+    wants: *mut u64,
+    k: usize,
+    count: *mut usize,
+) -> u32 {
+    let (text, words) = unsafe { (from_raw_parts(text, l), from_raw_parts_mut(words, n)) };
+    let (numbers, wants) = unsafe { (from_raw_parts_mut(numbers, m), from_raw_parts_mut(wants, k)) };
+    let count = unsafe { &mut *count };
+    guarded(|| read_job(text, words, numbers, wants, count))
+}
+
+fn read_job(text: &[u8], words: &mut [u16], numbers: &mut [f64], wants: &mut [u64], count: &mut usize) -> u32 {
+    let before = numbers.to_vec();
+    match reader::read(text, words, numbers, wants) {
+        Ok(lines) => {
+            *count = lines;
+            0
+        }
+        Err(number) => {
+            if fault("read count") {
+                *count = 0;
+            }
+            // Zeros end where the layout does, or a slice that is too short is left alone.
+            if fault("read zeros") && numbers.len() > NUMBERS {
+                numbers[NUMBERS..].copy_from_slice(&before[NUMBERS..]);
+            }
+            if fault("read short") && numbers.len() < NUMBERS {
+                numbers.copy_from_slice(&before);
+            }
+            number
+        }
+    }
+}

@@ -68,6 +68,11 @@ impl Tally {
         *self.outcomes.entry(place).or_default().entry(number).or_default() += 1;
     }
 
+    /// How many steps are done: the number of this one, from 0.
+    pub fn done(&self) -> u64 {
+        self.done
+    }
+
     /// One step done. Progress is shown twice a second on a terminal, else every ten seconds.
     pub fn step(&mut self) {
         self.done += 1;
