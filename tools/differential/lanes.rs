@@ -122,6 +122,24 @@ pub fn active(rng: &mut Rng, tally: &mut Tally) {
     });
 }
 
+// ---- poses
+
+/// A pose without the check of the road: any s.
+pub fn bare_pose(rng: &mut Rng, tally: &mut Tally) {
+    let (road, m) = generate::admitted(rng);
+    let oracle = Oracle::new(&road);
+    let samples = oracle.samples();
+    for (i, g) in road.geoms.iter().enumerate() {
+        let within = g.s + rng.unit() * g.length;
+        for s in [within, beside(rng, g.s), beside(rng, g.s + g.length), any(rng)] {
+            let (y, z) = (ours::bare_pose(&m, &samples, i, s), oracle.pose(i, s));
+            tally.check(y.iter().zip(&z).all(|(a, b)| same(*a, *b)), || {
+                format!("pose of geometry {i} at {}: ours {}, theirs {}: {g:?}", hex(&[s]), hex(&y), hex(&z))
+            });
+        }
+    }
+}
+
 // ---- places on a road
 
 /// Every start along the road, lane lists' too, measured along the road.
@@ -140,13 +158,18 @@ fn starts(road: &Road) -> Vec<f64> {
     all
 }
 
-/// Stations at and beside starts, every start's turn where there are few; then others on the road.
+/// At a start, where it becomes active or not, and beside it.
+fn around(rng: &mut Rng, start: f64) -> [f64; 3] {
+    [start, nudge(start - 1e-9, rng.from_to(0, 6) as i32 - 3), beside(rng, start)]
+}
+
+/// Stations around every start, or around some where there are more than `most`; then others on the road.
 fn stations(rng: &mut Rng, road: &Road, most: usize) -> Vec<f64> {
     let mut all = starts(road);
     while all.len() > most {
         all.swap_remove(rng.below(all.len()));
     }
-    let mut at: Vec<f64> = all.into_iter().map(|x| beside(rng, x)).collect();
+    let mut at: Vec<f64> = all.into_iter().flat_map(|x| around(rng, x)).collect();
     at.push(road.length * rng.unit());
     let end = rng.pick(&[0.0, -0.0, road.length]);
     at.push(beside(rng, end));
@@ -189,7 +212,7 @@ fn asked(road: &Road, s: f64) -> String {
 fn across(rng: &mut Rng, tally: &mut Tally, one: impl Fn(&mut Rng, &mut Tally, (&Road, &Memory, &Oracle), f64, f64)) {
     let (road, m) = generate::across(rng);
     let oracle = Oracle::new(&road);
-    for s in wide_stations(rng, &road, 12) {
+    for s in wide_stations(rng, &road, 8) {
         for t in offsets(rng, &road, &oracle, s) {
             one(rng, tally, (&road, &m, &oracle), s, t);
         }
@@ -229,7 +252,7 @@ pub fn height(rng: &mut Rng, tally: &mut Tally) {
 pub fn lane_heights(rng: &mut Rng, tally: &mut Tally) {
     let (road, m) = generate::across(rng);
     let (oracle, before) = (Oracle::new(&road), m.clone());
-    for s in wide_stations(rng, &road, 24) {
+    for s in wide_stations(rng, &road, 30) {
         let found = ours::section(&m, s);
         let expected = oracle.section_at(s);
         tally.check(found == expected, || format!("section: ours {found}, theirs {expected} {}", asked(&road, s)));
@@ -272,7 +295,7 @@ fn check_borders(tally: &mut Tally, m: &Memory, s: f64, numbers: usize, expected
 pub fn borders(rng: &mut Rng, tally: &mut Tally) {
     let (road, m) = generate::across(rng);
     let (oracle, before) = (Oracle::new(&road), m.clone());
-    for s in stations(rng, &road, 12) {
+    for s in stations(rng, &road, 30) {
         let expected = oracle.borders(oracle.section_at(s), s).concat();
         let n = expected.len();
         let answer = if on_road(&road, s) { Ok(&expected[..]) } else { Err(7) };
@@ -324,7 +347,7 @@ fn near_borders(rng: &mut Rng, oracle: &Oracle, s: f64) -> Vec<f64> {
 pub fn lane_named(rng: &mut Rng, tally: &mut Tally) {
     let (road, m) = generate::across(rng);
     let oracle = Oracle::new(&road);
-    for s in wide_stations(rng, &road, 6) {
+    for s in wide_stations(rng, &road, 5) {
         for t in near_borders(rng, &oracle, s) {
             let expected = match () {
                 () if !on_road(&road, s) => Err(7),

@@ -36,6 +36,7 @@ const COMPARISONS: &[Comparison] = &[
     ("eval", 300_000, 12_000_000, lanes::eval),
     ("slope", 300_000, 12_000_000, lanes::slope),
     ("active", 100_000, 4_000_000, lanes::active),
+    ("bare pose", 200, 12_000, lanes::bare_pose),
     ("shape", 1_000, 100_000, lanes::shape),
     ("cross section", 1_000, 100_000, lanes::cross_section),
     ("height", 1_000, 100_000, lanes::height),
