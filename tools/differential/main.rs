@@ -37,13 +37,13 @@ const COMPARISONS: &[Comparison] = &[
     ("slope", 300_000, 12_000_000, lanes::slope),
     ("active", 100_000, 4_000_000, lanes::active),
     ("bare pose", 200, 12_000, lanes::bare_pose),
-    ("shape", 1_000, 100_000, lanes::shape),
-    ("cross section", 1_000, 100_000, lanes::cross_section),
-    ("height", 1_000, 100_000, lanes::height),
-    ("lane heights", 1_000, 100_000, lanes::lane_heights),
-    ("borders", 1_000, 100_000, lanes::borders),
-    ("lane named", 1_000, 100_000, lanes::lane_named),
-    ("lanes refused", 1_000, 100_000, lanes::lanes_refused),
+    ("shape", 2_000, 100_000, lanes::shape),
+    ("cross section", 2_000, 100_000, lanes::cross_section),
+    ("height", 2_000, 100_000, lanes::height),
+    ("lane heights", 2_000, 100_000, lanes::lane_heights),
+    ("borders", 2_000, 100_000, lanes::borders),
+    ("lane named", 2_000, 100_000, lanes::lane_named),
+    ("lanes refused", 2_000, 100_000, lanes::lanes_refused),
 ];
 
 // ---- arithmetic
