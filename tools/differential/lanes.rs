@@ -242,7 +242,8 @@ pub fn height(rng: &mut Rng, tally: &mut Tally) {
         let toward = toward(rng);
         let (y, z) = (ours::height(m, s, t, toward), oracle.height_toward(s, t, toward));
         tally.number(y, z, || format!("height at t {} toward {toward} {}", hex(&[t]), asked(road, s)));
-        tally.number(ours::height(m, s, t, -1.0), oracle.height(s, t), || format!("height at t {} {}", hex(&[t]), asked(road, s)));
+        let (y, z) = (ours::height(m, s, t, -1.0), oracle.height(s, t));
+        tally.number(y, z, || format!("height at t {} {}", hex(&[t]), asked(road, s)));
     });
 }
 
@@ -263,8 +264,8 @@ pub fn lane_heights(rng: &mut Rng, tally: &mut Tally) {
             let (right, k) = (i >= left, if i < left { i } else { i - left });
             let (y, z) = (ours::lane(&m, section, (s, tangent), right, k), lane.numbers());
             tally.check(y.iter().zip(&z).all(|(a, b)| same(*a, *b)), || {
-                let (y, z) = (hex(&y), hex(&z));
-                format!("lane {} of section {section}, tangent {}: ours {y}, theirs {z} {}", lane.id(), hex(&[tangent]), asked(&road, s))
+                let (id, at, y, z) = (lane.id(), asked(&road, s), hex(&y), hex(&z));
+                format!("lane {id} of section {section}, tangent {}: ours {y}, theirs {z} {at}", hex(&[tangent]))
             });
         }
     }
@@ -287,8 +288,8 @@ fn check_borders(tally: &mut Tally, m: &Memory, s: f64, numbers: usize, expected
     let (number, written, count) = expected.map_or_else(|number| (number, &[][..], 777), |all| (0, all, all.len() / 3));
     let equal = list.iter().zip(written).all(|(a, b)| same(*a, *b)) && still_untouched(&list, written.len());
     tally.check(code == number && lanes == count && equal, || {
-        let (ours, theirs) = (hex(&list[..written.len().min(list.len())]), hex(written));
-        format!("borders, {numbers} numbers lent: ours {code} {lanes} {ours}, theirs {number} {count} {theirs} {}", asked(road, s))
+        let (at, y, z) = (asked(road, s), hex(&list[..written.len().min(list.len())]), hex(written));
+        format!("borders, {numbers} numbers lent: ours {code} {lanes} {y}, theirs {number} {count} {z} {at}")
     });
 }
 
@@ -357,7 +358,8 @@ pub fn lane_named(rng: &mut Rng, tally: &mut Tally) {
             check_name(tally, &m, (s, t), expected, &road);
             if let Ok(name) = expected {
                 let found = oracle.lane_at(oracle.section_at(s), s, t).unwrap_or(0);
-                tally.check(name == found, || format!("lane at t {}: rule {name}, theirs {found} {}", hex(&[t]), asked(&road, s)));
+                let at = || format!("lane at t {}: rule {name}, theirs {found} {}", hex(&[t]), asked(&road, s));
+                tally.check(name == found, at);
             }
         }
     }

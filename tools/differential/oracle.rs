@@ -238,7 +238,8 @@ impl Records {
 
     /// The number of the active record.
     pub fn active(&self, s: f64) -> Option<usize> {
-        road::active(&self.0, s).map(|found| (std::ptr::from_ref(found).addr() - self.0.as_ptr().addr()) / size_of::<road::Cubic>())
+        let place = |found| std::ptr::from_ref::<road::Cubic>(found).addr() - self.0.as_ptr().addr();
+        road::active(&self.0, s).map(|found| place(found) / size_of::<road::Cubic>())
     }
 }
 
