@@ -2,6 +2,7 @@
 use crate::{ROUNDS, compare, lay, median, one_geometry, row, time};
 use comparison::model::*;
 use comparison::oracle::{Line, Oracle, Records};
+use comparison::probes as inside;
 use comparison::random::Rng;
 use comparison::riftkettle as ours;
 use std::hint::black_box;
@@ -43,7 +44,7 @@ pub fn cubics(rng: &mut Rng) {
     let times = compare(
         list.len(),
         || {
-            black_box(black_box(&list).iter().enumerate().map(|(i, c)| ours::eval(c, at(i))).sum::<f64>());
+            black_box(black_box(&list).iter().enumerate().map(|(i, c)| inside::eval(c, at(i))).sum::<f64>());
         },
         || {
             black_box((0..list.len()).map(|i| rust_eval(black_box(&theirs), i, at(i))).sum::<f64>());
@@ -57,7 +58,7 @@ pub fn cubics(rng: &mut Rng) {
         let times = compare(
             places.len(),
             || {
-                black_box(places.iter().filter_map(|&s| ours::active(black_box(&part), s)).sum::<usize>());
+                black_box(places.iter().filter_map(|&s| inside::active(black_box(&part), s)).sum::<usize>());
             },
             || {
                 black_box(places.iter().filter_map(|&s| rust_active(black_box(&theirs), s)).sum::<usize>());
@@ -88,7 +89,7 @@ pub fn poses(stations: &[f64]) {
             stations.len(),
             || {
                 for &s in black_box(stations) {
-                    black_box(ours::bare_pose(&m, &samples, 0, s));
+                    black_box(inside::pose(&m, &samples, 0, s));
                 }
             },
             || {
@@ -129,7 +130,7 @@ pub fn lanes(stations: &[f64]) {
         stations.len(),
         || {
             for &s in black_box(stations) {
-                black_box(ours::lane(&m, 0, (s, 0.0), false, 5));
+                black_box(inside::lane(&m, 0, (s, 0.0), false, 5));
             }
         },
         || {
@@ -143,7 +144,7 @@ pub fn lanes(stations: &[f64]) {
         stations.len(),
         || {
             for &s in black_box(stations) {
-                black_box(ours::lane(&m, 0, (s, 0.0), false, 0));
+                black_box(inside::lane(&m, 0, (s, 0.0), false, 0));
             }
         },
         || {

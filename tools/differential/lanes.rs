@@ -8,6 +8,7 @@ use comparison::generate;
 use comparison::limits;
 use comparison::model::{Cubic, Memory, Road};
 use comparison::oracle::{Oracle, Records};
+use comparison::probes as inside;
 use comparison::random::{Rng, nudge};
 use comparison::riftkettle as ours;
 use comparison::tally::{Tally, hex, same};
@@ -72,12 +73,12 @@ fn show(c: &Cubic) -> String {
 
 pub fn eval(rng: &mut Rng, tally: &mut Tally) {
     let (c, s) = cubic_and_place(rng);
-    tally.number(ours::eval(&c, s), Records::new(&[c]).eval(0, s), || format!("{} at {}", show(&c), hex(&[s])));
+    tally.number(inside::eval(&c, s), Records::new(&[c]).eval(0, s), || format!("{} at {}", show(&c), hex(&[s])));
 }
 
 pub fn slope(rng: &mut Rng, tally: &mut Tally) {
     let (c, s) = cubic_and_place(rng);
-    tally.number(ours::slope(&c, s), Records::new(&[c]).slope(0, s), || format!("{} at {}", show(&c), hex(&[s])));
+    tally.number(inside::slope(&c, s), Records::new(&[c]).slope(0, s), || format!("{} at {}", show(&c), hex(&[s])));
 }
 
 /// Starts around s: within nanometres of it, equal ones, in order or not, any bits.
@@ -116,7 +117,7 @@ pub fn active(rng: &mut Rng, tally: &mut Tally) {
     let mut part: Vec<f64> = list.iter().flat_map(|c| [c.start, c.a, c.b, c.c, c.d]).collect();
     // A record that is not whole does not count.
     part.extend((0..rng.below(5)).map(|_| f64::NEG_INFINITY));
-    let (found, expected) = (ours::active(&part, s), Records::new(&list).active(s));
+    let (found, expected) = (inside::active(&part, s), Records::new(&list).active(s));
     tally.check(found == expected, || {
         format!("active of starts {} at {}: ours {found:?}, theirs {expected:?}", hex(&starts), hex(&[s]))
     });
@@ -132,7 +133,7 @@ pub fn bare_pose(rng: &mut Rng, tally: &mut Tally) {
     for (i, g) in road.geoms.iter().enumerate() {
         let within = g.s + rng.unit() * g.length;
         for s in [within, beside(rng, g.s), beside(rng, g.s + g.length), any(rng)] {
-            let (y, z) = (ours::bare_pose(&m, &samples, i, s), oracle.pose(i, s));
+            let (y, z) = (inside::pose(&m, &samples, i, s), oracle.pose(i, s));
             tally.check(y.iter().zip(&z).all(|(a, b)| same(*a, *b)), || {
                 format!("pose of geometry {i} at {}: ours {}, theirs {}: {g:?}", hex(&[s]), hex(&y), hex(&z))
             });
@@ -221,7 +222,7 @@ fn across(rng: &mut Rng, tally: &mut Tally, one: impl Fn(&mut Rng, &mut Tally, (
 
 pub fn shape(rng: &mut Rng, tally: &mut Tally) {
     across(rng, tally, |_, tally, (road, m, oracle), s, t| {
-        tally.number(ours::shape(m, s, t), oracle.shape_at(s, t), || format!("shape at t {} {}", hex(&[t]), asked(road, s)));
+        tally.number(inside::shape(m, s, t), oracle.shape_at(s, t), || format!("shape at t {} {}", hex(&[t]), asked(road, s)));
     });
 }
 
@@ -232,7 +233,7 @@ fn toward(rng: &mut Rng) -> f64 {
 pub fn cross_section(rng: &mut Rng, tally: &mut Tally) {
     across(rng, tally, |rng, tally, (road, m, oracle), s, t| {
         let toward = toward(rng);
-        let (y, z) = (ours::cross(m, s, t, toward), oracle.cross_section(s, t, toward));
+        let (y, z) = (inside::cross(m, s, t, toward), oracle.cross_section(s, t, toward));
         tally.number(y, z, || format!("cross section at t {} toward {toward} {}", hex(&[t]), asked(road, s)));
     });
 }
@@ -240,9 +241,9 @@ pub fn cross_section(rng: &mut Rng, tally: &mut Tally) {
 pub fn height(rng: &mut Rng, tally: &mut Tally) {
     across(rng, tally, |rng, tally, (road, m, oracle), s, t| {
         let toward = toward(rng);
-        let (y, z) = (ours::height(m, s, t, toward), oracle.height_toward(s, t, toward));
+        let (y, z) = (inside::height(m, s, t, toward), oracle.height_toward(s, t, toward));
         tally.number(y, z, || format!("height at t {} toward {toward} {}", hex(&[t]), asked(road, s)));
-        let (y, z) = (ours::height(m, s, t, -1.0), oracle.height(s, t));
+        let (y, z) = (inside::height(m, s, t, -1.0), oracle.height(s, t));
         tally.number(y, z, || format!("height at t {} {}", hex(&[t]), asked(road, s)));
     });
 }
@@ -254,7 +255,7 @@ pub fn lane_heights(rng: &mut Rng, tally: &mut Tally) {
     let (road, m) = generate::across(rng);
     let (oracle, before) = (Oracle::new(&road), m.clone());
     for s in wide_stations(rng, &road, 30) {
-        let found = ours::section(&m, s);
+        let found = inside::section(&m, s);
         let expected = oracle.section_at(s);
         tally.check(found == expected, || format!("section: ours {found}, theirs {expected} {}", asked(&road, s)));
         let section = if rng.one_in(8) { rng.below(road.sections.len()) } else { expected };
@@ -262,7 +263,7 @@ pub fn lane_heights(rng: &mut Rng, tally: &mut Tally) {
         let left = road.sections[section].left.len();
         for (i, lane) in oracle.across_by(section, s, tangent).iter().enumerate() {
             let (right, k) = (i >= left, if i < left { i } else { i - left });
-            let (y, z) = (ours::lane(&m, section, (s, tangent), right, k), lane.numbers());
+            let (y, z) = (inside::lane(&m, section, (s, tangent), right, k), lane.numbers());
             tally.check(y.iter().zip(&z).all(|(a, b)| same(*a, *b)), || {
                 let (id, at, y, z) = (lane.id(), asked(&road, s), hex(&y), hex(&z));
                 format!("lane {id} of section {section}, tangent {}: ours {y}, theirs {z} {at}", hex(&[tangent]))
@@ -271,7 +272,7 @@ pub fn lane_heights(rng: &mut Rng, tally: &mut Tally) {
     }
     let n = road.sections.len();
     let section = if rng.one_in(4) { rng.pick(&[n, 16, usize::MAX]) } else { rng.below(n) };
-    let counts = [0, rng.pick(&[1, 2, u32::MAX])].map(|side| ours::lanes(&m, section, side));
+    let counts = [0, rng.pick(&[1, 2, u32::MAX])].map(|side| inside::lanes(&m, section, side));
     let expected = road.sections.get(section).map_or([0; 2], |x| [x.left.len(), x.right.len()]);
     tally.check(counts == expected, || format!("lanes of section {section}: ours {counts:?}, theirs {expected:?}: {road:?}"));
     tally.check(same_memory(&m, &before), || "a function inside changed the road".into());

@@ -4,6 +4,8 @@
 //
 // Each comparison below is a function for one random input; a new one is such a function and a line in COMPARISONS. The last line
 // says how many results were compared and how many differ. A seed gives the same run everywhere.
+mod lanes;
+
 use comparison::admission::{self, spiral_samples};
 use comparison::arguments::{self, exact_counts, exact_root};
 use comparison::generate;
@@ -15,8 +17,6 @@ use comparison::riftkettle as ours;
 use comparison::stand_ins as rust;
 use comparison::tally::{Tally, hex, same, same_f32};
 use std::sync::atomic::{AtomicUsize, Ordering};
-
-mod lanes;
 
 /// Name, steps of the short form, steps of the full form, one step.
 type Comparison = (&'static str, u64, u64, fn(&mut Rng, &mut Tally));
@@ -31,8 +31,6 @@ const COMPARISONS: &[Comparison] = &[
     ("samples", 500, 12_000, samples),
     ("pose", 500, 12_000, pose),
     ("foreign", 500, 12_000, foreign_samples),
-    ("limits", 3_000, 120_000, around_limits),
-    ("damage", 3_000, 120_000, damage),
     ("eval", 300_000, 12_000_000, lanes::eval),
     ("slope", 300_000, 12_000_000, lanes::slope),
     ("active", 100_000, 4_000_000, lanes::active),
@@ -44,6 +42,8 @@ const COMPARISONS: &[Comparison] = &[
     ("borders", 2_000, 100_000, lanes::borders),
     ("lane named", 2_000, 100_000, lanes::lane_named),
     ("lanes refused", 2_000, 100_000, lanes::lanes_refused),
+    ("limits", 3_000, 120_000, around_limits),
+    ("damage", 3_000, 120_000, damage),
 ];
 
 // ---- arithmetic
