@@ -15,6 +15,7 @@ pub mod generate;
 pub mod limits;
 pub mod model;
 pub mod oracle;
+pub mod probes;
 pub mod random;
 pub mod reader;
 pub mod riftkettle;

@@ -4,6 +4,8 @@
 //
 // Each comparison below is a function for one random input; a new one is such a function and a line in COMPARISONS. The last line
 // says how many results were compared and how many differ. A seed gives the same run everywhere.
+mod lanes;
+
 use comparison::admission::{self, spiral_samples};
 use comparison::arguments::{self, exact_counts, exact_root};
 use comparison::generate;
@@ -32,6 +34,17 @@ const COMPARISONS: &[Comparison] = &[
     ("samples", 500, 12_000, samples),
     ("pose", 500, 12_000, pose),
     ("foreign", 500, 12_000, foreign_samples),
+    ("eval", 300_000, 12_000_000, lanes::eval),
+    ("slope", 300_000, 12_000_000, lanes::slope),
+    ("active", 100_000, 4_000_000, lanes::active),
+    ("bare pose", 200, 12_000, lanes::bare_pose),
+    ("shape", 2_000, 100_000, lanes::shape),
+    ("cross section", 2_000, 100_000, lanes::cross_section),
+    ("height", 2_000, 100_000, lanes::height),
+    ("lane heights", 2_000, 100_000, lanes::lane_heights),
+    ("borders", 2_000, 100_000, lanes::borders),
+    ("lane named", 2_000, 100_000, lanes::lane_named),
+    ("lanes refused", 2_000, 100_000, lanes::lanes_refused),
     ("limits", 3_000, 120_000, around_limits),
     ("damage", 3_000, 120_000, damage),
     ("read", 1_000, 50_000, reading::read),

@@ -41,7 +41,7 @@ const CHANGES: &[Change] = &[
     change(
         "                    *outer - sign * b.width * phi.tan() + own_outer,",
         1,
-        "                    *outer - sign * b.width * crate::stand_ins::tan(phi) + own_outer,",
+        "                    *outer - sign * b.width * phi.tangent() + own_outer,",
     ),
     change(
         "        let (sin_phi, cos_phi) = phi.sin_cos();",
@@ -76,7 +76,9 @@ const CHANGES: &[Change] = &[
         1,
         "                |a| crate::stand_ins::kept_height(&a, t),",
     ),
-    // No change of behaviour: the samples are read from outside the file, and `locate` counts its moves.
+    // No change of behaviour: `side_heights` also takes a tangent in place of the angle, the samples are read from outside the
+    // file, and `locate` counts its moves.
+    change("    phi: f64,", 1, "    phi: impl crate::stand_ins::Tangent + 'a,"),
     change("    samples: Vec<(f64, f64, f64, f64)>,", 1, "    pub(crate) samples: Vec<(f64, f64, f64, f64)>,"),
     change("            (s, t) = (next, t + dt);", 1, "            (s, t) = (next, t + dt); crate::stand_ins::count_move();"),
 ];

@@ -10,6 +10,17 @@ unsafe extern "C" {
     fn riftkettle_narrow(x: f64) -> f32;
     fn riftkettle_counts(v: f64, count: *mut i64) -> u32;
     fn riftkettle_admit(words: *const u16, n: usize, numbers: *const f64, m: usize) -> u32;
+    fn riftkettle_borders(
+        words: *const u16,
+        n: usize,
+        numbers: *const f64,
+        m: usize,
+        s: f64,
+        list: *mut f64,
+        k: usize,
+        lanes: *mut usize,
+    ) -> u32;
+    fn riftkettle_lane_named(words: *const u16, n: usize, numbers: *const f64, m: usize, s: f64, t: f64, id: *mut i32) -> u32;
     fn riftkettle_samples(
         words: *const u16,
         n: usize,
@@ -75,6 +86,16 @@ pub fn counts(v: f64, count: &mut i64) -> u32 {
 
 pub fn admit(words: &[u16], numbers: &[f64]) -> u32 {
     unsafe { riftkettle_admit(words.as_ptr(), words.len(), numbers.as_ptr(), numbers.len()) }
+}
+
+pub fn borders(m: &Memory, s: f64, list: &mut [f64], lanes: &mut usize) -> u32 {
+    let (w, x) = (&m.words, &m.numbers);
+    unsafe { riftkettle_borders(w.as_ptr(), w.len(), x.as_ptr(), x.len(), s, list.as_mut_ptr(), list.len(), lanes) }
+}
+
+pub fn lane_named(m: &Memory, s: f64, t: f64, id: &mut i32) -> u32 {
+    let (w, x) = (&m.words, &m.numbers);
+    unsafe { riftkettle_lane_named(w.as_ptr(), w.len(), x.as_ptr(), x.len(), s, t, id) }
 }
 
 pub fn samples(m: &Memory, samples: &mut [f64], made: &mut usize) -> u32 {

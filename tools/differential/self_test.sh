@@ -13,6 +13,7 @@ build=target/differential
 
 source=../shared/docs/src
 archive=
+probes=
 stub=yes
 quick=
 edits=$here/edits.txt
@@ -49,6 +50,11 @@ must_differ() {
     found=$((found + 1))
   fi
 }
+
+while IFS=: read -r fault only; do
+  case $fault in '#'*) continue ;; esac
+  RIFTKETTLE_FAULT=$fault must_differ "fault $fault in $only" --only "$only"
+done < "$here/lane_faults.txt"
 
 "$build/differential" | tail -n 1
 for fault in root hypot "sine range" sine tan narrow counts bank rows early tail leading 'read count' 'read zeros' 'read short'; do

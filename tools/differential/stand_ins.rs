@@ -79,6 +79,26 @@ pub fn tan(h: f64) -> f64 {
     sin / cos
 }
 
+/// What `side_heights` turns a level lane back by: the tangent of a bank, or one that is given.
+pub(crate) trait Tangent: Copy {
+    fn tangent(self) -> f64;
+}
+
+impl Tangent for f64 {
+    fn tangent(self) -> f64 {
+        tan(self)
+    }
+}
+
+#[derive(Clone, Copy)]
+pub(crate) struct Given(pub f64);
+
+impl Tangent for Given {
+    fn tangent(self) -> f64 {
+        self.0
+    }
+}
+
 /// A lane's height at t with the fraction across the lane kept to 0..1, and 0 across a lane of width 0.
 pub(crate) fn kept_height(lane: &Across, t: f64) -> f64 {
     let width = lane.outer_t - lane.inner_t;
