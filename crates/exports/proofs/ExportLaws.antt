@@ -1,8 +1,17 @@
--- Codes and what is left behind pointers, of an answer whose case is known.
-use Prim.Native.Nat.{ℕ}
-use mathlib.Core.Path.{_≡_, sym, _∙_, ap}
+-- Codes and what is left behind pointers, of an answer whose case is known; and that no lane's id is 0.
+use Prim.Native.Nat.{ℕ, suc}
+use native.Mathlib.Omega.{arith}
+use mathlib.Core.Path.{_≡_, refl, sym, _∙_, ap}
+use mathlib.Core.Bool.{true, false}
+use lib.IntN.{ℤ, pos, negsuc}
+use lib.Ieee.{Float}
 use Rattle.arithmetic.specs.Answer.{Answer, value, refused}
-use Rattle.exports.specs.Exports.{codeOf, leftBy}
+use Rattle.records.specs.declared.scan.Found.{Found}
+use Rattle.records.specs.declared.scan.Found.the-variants as found
+use Rattle.records.specs.Roads.{Road}
+use Rattle.lanes.specs.declared.across.LaneName.the-variants.{Nothing}
+use Rattle.lanes.specs.Naming.{namedOn, nameBy, laneNamed}
+use Rattle.exports.specs.Exports.{codeOf, leftBy, idOf}
 
 -- the answer of a result whose case is known
 pub told : {K A : Type 0} (f : K → Answer A) {k l : K} {a : Answer A} → f k ≡ a → k ≡ l → f l ≡ a
@@ -20,3 +29,15 @@ module _ {A : Type 0} where
 
   pub left-refused : {B : Type 0} (f : A → B) (before : B) {n : ℕ} {a : Answer A} → refused n ≡ a → before ≡ leftBy f a before
   left-refused f before e = ap (λ (a : Answer A). leftBy f a before) e
+
+-- ---- the id 0
+
+unnamed-by : (left right : Found) → idOf (nameBy left right) ≡ pos 0 → nameBy left right ≡ Nothing
+unnamed-by left (found.At k) e = let z : _≡_ {A = ℕ} 0 1 = cc in absurd (omega arith)
+unnamed-by (found.At k) found.Nothing e = let z : suc k ≡ 0 = cc in absurd (omega arith)
+unnamed-by found.Nothing found.Nothing e = refl
+
+-- it says that no lane is named
+pub zero-unnamed : (road : Road) (i : ℕ) (s t : Float) → idOf (laneNamed road i s t) ≡ pos 0 → laneNamed road i s t ≡ Nothing
+unfolding laneNamed
+zero-unnamed road i s t e = unnamed-by (namedOn road i s t false) (namedOn road i s t true) e
