@@ -124,8 +124,8 @@ pub const TEXT: usize = 65_536;
 /// Two places for each want: the bits of s and of t.
 pub const WANTS: usize = 32;
 
-/// Reads a job: the number of wants, or the number of the refusal. A refused reading leaves zeros in all three slices, an accepted
-/// one zeros past the last line of each table.
+/// Reads a job: the number of wants, or the number of the refusal. A refused reading leaves zeros in all three slices, an
+/// accepted one zeros past the last line of each table.
 pub fn read(text: &[u8], words: &mut [u16], numbers: &mut [f64], wants: &mut [u64]) -> Result<usize, u32> {
     clear(words, numbers, wants);
     let answer = accept(text, words, numbers, wants);

@@ -111,8 +111,8 @@ pub fn bytes(_: &mut Rng, tally: &mut Tally) {
 /// Every cut, then six ways for each line.
 pub const CUTS: u64 = SAMPLE_BYTES + 1 + 6 * SAMPLE_LINES;
 
-/// The sample job cut after every byte; then each of its lines dropped, doubled, swapped with each of the next three, and an empty
-/// line put before it.
+/// The sample job cut after every byte; then each of its lines dropped, doubled, swapped with each of the next three, and an
+/// empty line put before it.
 pub fn cuts(_: &mut Rng, tally: &mut Tally) {
     let (step, text, lines) = (tally.done() as usize, &sample().text, sample().lines());
     let whole = [WORDS, NUMBERS, WANTS];

@@ -201,8 +201,8 @@ fn read_text(text: &[u8]) -> (Result<usize, u32>, Memory, [u64; WANTS]) {
     (answer, m, wants)
 }
 
-/// M1's job, what 01 and our readings of it say of small changes to it, and jobs of random roads, which are read back.
-fn reading(rng: &mut Rng) {
+/// M1's job, and what 01 and our readings of it say of small changes to it.
+fn reading() {
     let (answer, m, wants) = read_text(M1.as_bytes());
     assert_eq!((answer, &wants[..3]), (Ok(1), &[0x3ff0 << 48, 0x4000 << 48, 0][..]));
     assert_eq!((m.numbers[0], m.numbers[GEOM.at + 4], m.words[0], m.words[5]), (10.0, 10.0, 1, 1));
@@ -233,6 +233,10 @@ fn reading(rng: &mut Rng) {
     ] {
         assert_eq!(answer, expected);
     }
+}
+
+/// The sample job, jobs of given lengths, and jobs of random roads, which are read back.
+fn made_texts(rng: &mut Rng) {
     let sample = texts::sample();
     assert!(sample.parts.iter().all(|p| !p.lines.is_empty()) && sample.parts.len() == TABLES.len());
     assert_eq!(read_text(&sample.text).0, Ok(1));
@@ -258,7 +262,8 @@ fn reading(rng: &mut Rng) {
 
 fn main() {
     let mut rng = Rng::new(1, "self test");
-    reading(&mut rng);
+    reading();
+    made_texts(&mut rng);
     stand_ins_are_near(&mut rng);
     admission_runs(&mut rng);
     oracle(&mut rng);

@@ -78,19 +78,7 @@ pub fn tables(road: &Road, wants: &[[f64; 2]], strips: [usize; 4]) -> [Vec<Cells
     for (table, list) in along {
         list.iter().for_each(|c| add(table, cubic(c).collect()));
     }
-    for (i, section) in road.sections.iter().enumerate() {
-        add(Name::Section, vec![digits(section.start)]);
-        let left = (1..).zip(&section.left);
-        let right = (1..).map(|id: i32| -id).zip(&section.right);
-        for (id, lane) in left.chain(right) {
-            let of_lane = || [i.to_string(), id.to_string()].into_iter();
-            let words = [if lane.border { "border" } else { "width" }.into(), u8::from(lane.level).to_string()];
-            add(Name::Lane, of_lane().chain(words).collect());
-            lane.extents.iter().for_each(|c| add(Name::Extent, of_lane().chain(cubic(c)).collect()));
-            let heights = lane.heights.iter().map(|h| [h.start, h.inner, h.outer].map(digits));
-            heights.for_each(|h| add(Name::Height, of_lane().chain(h).collect()));
-        }
-    }
+    lane_tables(road, &mut add);
     for (i, profile) in road.profiles.iter().enumerate() {
         add(Name::Profile, vec![digits(profile.s)]);
         profile.shapes.iter().for_each(|c| add(Name::Shape, [i.to_string()].into_iter().chain(cubic(c)).collect()));
@@ -104,6 +92,22 @@ pub fn tables(road: &Road, wants: &[[f64; 2]], strips: [usize; 4]) -> [Vec<Cells
     }
     wants.iter().for_each(|w| add(Name::Want, w.map(digits).into()));
     tables
+}
+
+fn lane_tables(road: &Road, add: &mut impl FnMut(Name, Cells)) {
+    for (i, section) in road.sections.iter().enumerate() {
+        add(Name::Section, vec![digits(section.start)]);
+        let left = (1..).zip(&section.left);
+        let right = (1..).map(|id: i32| -id).zip(&section.right);
+        for (id, lane) in left.chain(right) {
+            let of_lane = || [i.to_string(), id.to_string()].into_iter();
+            let words = [if lane.border { "border" } else { "width" }.into(), u8::from(lane.level).to_string()];
+            add(Name::Lane, of_lane().chain(words).collect());
+            lane.extents.iter().for_each(|c| add(Name::Extent, of_lane().chain(cubic(c)).collect()));
+            let heights = lane.heights.iter().map(|h| [h.start, h.inner, h.outer].map(digits));
+            heights.for_each(|h| add(Name::Height, of_lane().chain(h).collect()));
+        }
+    }
 }
 
 impl Job {

@@ -24,8 +24,11 @@ pub fn all(list: &mut List) {
     whole_numbers(list, &mixed);
     listed_words(list, &mixed);
     cells(list, &mixed);
-    parents(list, &mixed);
+    lane_ids(list, &mixed);
+    lane_lists(list, &mixed);
+    shapes(list, &mixed);
     strips(list, &mixed);
+    strip_cubics(list, &mixed);
     wants(list, &mixed);
     slices(list, &mixed);
     order_of_rows(list, &mixed);
@@ -310,7 +313,9 @@ fn cells(list: &mut List, d: &Draft) {
 
 // ---- parents and children
 
-fn parents(list: &mut List, d: &Draft) {
+const PARENTS: &str = "lines of a child table follow their parents' order; a parent that does not exist is 3";
+
+fn lane_ids(list: &mut List, d: &Draft) {
     let bare = [Extent, Height].into_iter().fold(d.clone(), |d, table| d.change(table, Vec::clear));
     let lanes = |lines: &[&str]| bare.with(Lane, lines).text();
     let rule = "per section ids 1,2.. left then -1,-2.. right";
@@ -334,7 +339,9 @@ fn parents(list: &mut List, d: &Draft) {
     ] {
         list.case(rule, lanes(lines), answer);
     }
-    let rule = "lines of a child table follow their parents' order; a parent that does not exist is 3";
+}
+
+fn lane_lists(list: &mut List, d: &Draft) {
     for (lines, answer) in [
         (&["0 -1 z z z z z"][..], 0),
         (&["1 -1 z z z z z"], 0),
@@ -350,12 +357,15 @@ fn parents(list: &mut List, d: &Draft) {
         (&["2 1 z z z z z"], 3),
         (&["-1 1 z z z z z"], 3),
     ] {
-        list.case(rule, d.with(Extent, lines).text(), answer);
+        list.case(PARENTS, d.with(Extent, lines).text(), answer);
         let heights: Vec<String> = lines.iter().map(|line| line.replacen(" z z", "", 1)).collect();
         // Two heights of one lane are 0.001 apart.
         let twice = answer == 0 && lines.windows(2).any(|w| w[0] == w[1]);
-        list.case(rule, d.with(Height, &heights).text(), if twice { 3 } else { answer });
+        list.case(PARENTS, d.with(Height, &heights).text(), if twice { 3 } else { answer });
     }
+}
+
+fn shapes(list: &mut List, d: &Draft) {
     for (lines, answer) in [
         (&["0 z z z z z", "1 z z z z z"][..], 0),
         (&["0 z z z z z", "0 z z z z z", "1 z z z z z"], 0),
@@ -366,26 +376,31 @@ fn parents(list: &mut List, d: &Draft) {
         (&["0 z z z z z", "2 z z z z z"], 3),
         (&["-1 z z z z z", "0 z z z z z", "1 z z z z z"], 3),
     ] {
-        list.case(rule, d.with(Shape, lines).text(), answer);
+        list.case(PARENTS, d.with(Shape, lines).text(), answer);
     }
 }
 
-/// "left/right, 0 inner/1 outer, 0/1; each pair once"; "term width or 0..3, a strip's in that order".
+/// "left/right, 0 inner/1 outer, 0/1; each pair once".
 fn strips(list: &mut List, d: &Draft) {
-    let of = |strips: &[&str], cubics: &[&str]| d.with(Strip, strips).with(Cubic, cubics).text();
+    let of = |strips: &[&str]| d.change(Cubic, Vec::clear).with(Strip, strips).text();
     let all = ["left 0 0", "left 1 1", "right 0 1", "right 1 0"];
-    list.case("strips: all four", of(&all, &[]), 0);
+    list.case("strips: all four", of(&all), 0);
     for first in 0..4 {
         for second in (0..4).filter(|&i| i != first) {
             let rest: Vec<usize> = (0..4).filter(|&i| i != first && i != second).collect();
             let order = [first, second, rest[0], rest[1]].map(|i| all[i]);
-            list.case("strips: the order of pairs is free", of(&order, &[]), 0);
+            list.case("strips: the order of pairs is free", of(&order), 0);
         }
-        list.case("strips: one alone", of(&all[first..=first], &[]), 0);
-        list.case("each pair once", of(&[all[first], all[first]], &[]), 3);
+        list.case("strips: one alone", of(&all[first..=first]), 0);
+        list.case("each pair once", of(&[all[first], all[first]]), 3);
         let other = all[first].replace(" 0", " 2").replace(" 1", " 0").replace(" 2", " 1");
-        list.case("each pair once: one of another place", of(&[all[first], &other], &[]), 0);
+        list.case("each pair once: one of another place", of(&[all[first], &other]), 0);
     }
+}
+
+/// "term width or 0..3, a strip's in that order".
+fn strip_cubics(list: &mut List, d: &Draft) {
+    let of = |strips: &[&str], cubics: &[&str]| d.with(Strip, strips).with(Cubic, cubics).text();
     let two = ["right 0 0", "left 1 0"];
     let rule = "cubics follow their strips' order, a strip's terms in theirs";
     for (cubics, answer) in [

@@ -7,7 +7,7 @@ use crate::texts;
 pub struct Draft {
     /// The tables that are written, in this order.
     pub tables: Vec<Name>,
-    /// Of each table, by its place in 01: the columns in the order in which they are written, and the lines by 01's order of them.
+    /// Of each table, by its place in 01: the columns in the order in which they are written, and the lines by 01's order.
     pub columns: Vec<Vec<usize>>,
     pub lines: Vec<Vec<Vec<String>>>,
 }

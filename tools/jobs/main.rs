@@ -5,8 +5,8 @@
 //     /tmp/make_jobs > crates/job_cases/stdin 2> crates/job_cases/stdout
 //
 // The list is the same at every run. A line is 36 bytes: a letter, a space, 16 digits (a), a space, 16 digits (b), LF. Digits are
-// lowercase hexadecimal. The list writes one text after the other; a text is made of bytes given and of pieces of an earlier text,
-// the base.
+// lowercase hexadecimal. The list writes one text after the other; a text is made of bytes given and of pieces of an earlier
+// text, the base.
 //
 //     t  a, b   append the eight bytes of a and the eight of b
 //     x  a, b   append the last a bytes of b, at most eight
@@ -15,8 +15,8 @@
 //     l  a, b   the next case lends a words and b numbers
 //     r  a, b   case b: a wants are lent, the text is read; then the text is empty
 //
-// Each answer is written beside its case, from document 01, and checked here against tools/differential/reader.rs, the second text
-// of 01's job text.
+// Each answer is written beside its case, from document 01, and checked here against tools/differential/reader.rs, the second
+// text of 01's job text.
 #[allow(dead_code)]
 #[path = "../differential/admission.rs"]
 mod admission;
