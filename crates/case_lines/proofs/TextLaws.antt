@@ -2,14 +2,15 @@
 use Prim.Native.Nat.{ℕ, _+_, _-_, _<_, _≤_, min}
 use mathlib.Core.Path.{_≡_, refl, sym, ap, _∙_}
 use mathlib.Core.Bool.{Bool, true, false}
-use mathlib.Core.List.{List}
+use mathlib.Core.List.{List, [], _++_}
 use native.Mathlib.Omega.{arith}
 use native.Mathlib.Numerals.{add-one}
-use borrow.Author.Tests.{leb-true, leb-false}
+use borrow.Author.Tests.{leb-true, leb-false, eq-eqb, ne-eqb}
 use lib.Dec.{leb}
 use lib.ListN.{length, getD, set, take, drop, length-drop, drop-of-length-le}
 use lib.Seq.{paste, paste-suc, take-all, take-nil}
-use Rattle.case_lines.specs.Texts.{fitting, appended, heldThen, partOf, bytesOf}
+use Rattle.case_lines.specs.Texts.{fitting, appended, heldThen, partOf, bytesOf, pieceOf}
+use Rattle.case_lines.specs.declared.lines.Line.{Line}
 
 pub paste-more : (d : List ℕ) (at : ℕ) (s : List ℕ) (j : ℕ) → at + j < length d → j < length s → set (paste d at s j) (at + j) (getD s j 0) ≡ paste d at s (j + 1)
 paste-more d at s j h k = rw add-one (paste-suc d at s j 0 h k)
@@ -72,3 +73,23 @@ rest-is w k i l p q =
     let m = length-drop i (bytesOf w) in
     let x : length (drop i (bytesOf w)) ≤ 8 - i = omega arith in
     rw (p, ← q) (take-all (8 - i) (drop i (bytesOf w)) x)
+
+-- the piece of a line, by its letter
+module _ (line : Line) (base : List ℕ) where
+  pub both-piece : line .letter ≡ 116 → bytesOf (line .a) ++ bytesOf (line .b) ≡ pieceOf line base
+  unfolding pieceOf
+  both-piece h = rw (eq-eqb (line .letter) 116 h)
+
+  module _ (t : line .letter ≡ 116 → ⊥) where
+    pub word-piece : line .letter ≡ 120 → drop (8 - line .a) (bytesOf (line .b)) ≡ pieceOf line base
+    unfolding pieceOf
+    word-piece h = rw (ne-eqb (line .letter) 116 t, eq-eqb (line .letter) 120 h)
+
+    module _ (x : line .letter ≡ 120 → ⊥) where
+      pub part-piece : line .letter ≡ 99 → partOf base (line .a) (line .b) ≡ pieceOf line base
+      unfolding pieceOf
+      part-piece h = rw (ne-eqb (line .letter) 116 t, ne-eqb (line .letter) 120 x, eq-eqb (line .letter) 99 h)
+
+      pub no-piece : (line .letter ≡ 99 → ⊥) → [] ≡ pieceOf line base
+      unfolding pieceOf
+      no-piece h = rw (ne-eqb (line .letter) 116 t, ne-eqb (line .letter) 120 x, ne-eqb (line .letter) 99 h)

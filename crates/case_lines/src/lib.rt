@@ -9,5 +9,5 @@ pub use lines::line_at;
 pub use sums::sum_numbers;
 pub use sums::sum_patterns;
 pub use sums::sum_words;
-pub use texts::append_part;
-pub use texts::append_word;
+pub use texts::append;
+pub use texts::extend;
