@@ -49,7 +49,11 @@ fn line_within(list: &[u8], at: usize) -> Line
     if list[at + 1] != b' ' {
         return broken();
     }
-    step(list[at], word_at(list, at + 2, b' '), word_at(list, at + 19, b'\n'))
+    step(
+        list[at],
+        word_at(list, at + 2, b' '),
+        word_at(list, at + 19, b'\n'),
+    )
 }
 
 // The line that begins at a place; broken where the list ends before it does.

@@ -42,13 +42,7 @@ pub fn append(text: &mut [u8], held: usize, piece: &[u8]) -> usize
 }
 
 // The bytes from `first` up to `last` of another slice, those of them that there are.
-fn append_part(
-    text: &mut [u8],
-    held: usize,
-    from: &[u8],
-    first: usize,
-    last: usize,
-) -> usize
+fn append_part(text: &mut [u8], held: usize, from: &[u8], first: usize, last: usize) -> usize
     ensures { λ r. ⌜ r ≡ heldThen (now (text .entry)) held (partOf (now (from .entry)) first last) ⌝ }
     ensures { λ _. ⌜ now (text .exit) ≡ appended (now (text .entry)) held (partOf (now (from .entry)) first last) ⌝ }
 {

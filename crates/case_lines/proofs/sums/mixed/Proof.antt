@@ -21,7 +21,7 @@ wrapping-add-u64-requires-2 : tie.Need-wrapping-add-u64-requires-2
 wrapping-add-u64-requires-2 c κs = search needs
 
 returns : tie.Need-returns
-returns c = 
+returns c =
     let a = c .before .before .args in
     mix-is (a .sum) (a .element) (c .before .wrapping-add-u64 .result) _ (c .before .wrapping-add-u64 .ensures) (c .wrapping-add-u642 .ensures)
 
