@@ -4,13 +4,14 @@ use mathlib.Core.Logic.{inl, inr}
 use Prim.Native.Nat.{ℕ, _+_, _-_, _*_, _%_, _^_, _≤_, _<_}
 use native.Mathlib.Nat.{le-refl, le-trans, le-of-eq, zero-mul}
 use native.Mathlib.Omega.{arith}
-use mathlib.Core.Bool.{Bool, true, false, not, _||_}
+use mathlib.Core.Bool.{Bool, true, false, not, _||_, cond}
 use lib.Dec.{T, leb, leb→le, nleb→lt, lit≤}
 use lib.Ieee.{Float, nan, inf, fin, Format, binary64, prec, low, hid, add, sub, neg, lt, le, eq, fits, isNan, toBits, ofBits}
 use lib.Ieee.Scale.{finite}
 use Rattle.float_laws.proofs.Value.{mag, pl, mi, Real, mag-is, one-side, lt→units, nlt→units, neg-real, neg-pl, neg-mi}
 use Rattle.float_laws.proofs.Interval.{nil, nil-real, nil-pl, nil-mi, finite-between}
 use Rattle.float_laws.proofs.Size.{within-of-le}
+use Rattle.float_laws.proofs.Zero.{sub-zero}
 use Rattle.float_laws.proofs.Whole.{Whole, Nearest, nearest-is, reach-plus, reach-minus, nearest-magic, twice-hid, magic, unit, one, is-zero, not-zero}
 use Rattle.arithmetic.specs.Floor.{floorOf, quarterOf}
 use Rattle.arithmetic.proofs.FloorLaws.{nearby, stepped, stays, falls, less-one, floor-by, floor-zero, floor-large, floor-other, quarter-whole}
@@ -201,3 +202,21 @@ module _ (x : Float) (fit : T (fits binary64 x)) (a : T (le (neg limit) x)) (b :
       let s = not-zero binary64 x real (no e) in
       let w = falls binary64 x magic 6755399441055744 real s i (lit≤ tt) (yes h) in
       (w, ap (λ (b : ℕ). (b % 4 + 3) % 4) (i .bits) ∙ quarter-falls k ∙ sym (quarter-whole binary64 n _ _ (less-one binary64 x magic 6755399441055744 real s i (lit≤ tt))) ∙ ap quarterOf w)
+
+  -- both in one: what is taken off n, and what is added mod 4, is 1 and 3 where n lies above x
+  pub below-other : eq x nil ≡ false
+      → (sub binary64 (nearby binary64 x magic) (cond (lt x (nearby binary64 x magic)) one nil) ≡ floorOf binary64 x)
+      × ((toBits binary64 (add binary64 x magic) % 4 + cond (lt x (nearby binary64 x magic)) 3 0) % 4 ≡ quarterOf (floorOf binary64 x))
+  below-other e = go (lt x n) refl
+    where
+      n : Float
+      n = nearby binary64 x magic
+
+      go : (b : Bool) → lt x n ≡ b → (sub binary64 n (cond b one nil) ≡ floorOf binary64 x) × ((toBits binary64 (add binary64 x magic) % 4 + cond b 3 0) % 4 ≡ quarterOf (floorOf binary64 x))
+      go true h = below-falls e h
+      go false h =
+          let s = below-stays e h in
+          (sub-zero binary64 n (sum-is .is .value) ∙ s .0, same (toBits binary64 (add binary64 x magic)) ∙ s .1)
+        where
+          same : (b : ℕ) → (b % 4 + 0) % 4 ≡ b % 4
+          same b = omega arith
