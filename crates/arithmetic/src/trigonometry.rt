@@ -51,16 +51,16 @@ fn cosine_kernel(r: f64) -> f64
     1.0 + z * q
 }
 
-// The pair that the quarter makes of the two kernels' values. The cosine is the sine a quarter on. A table and no branch, since no quarter is more likely.
+// The pair that the quarter makes of the two kernels' values. The cosine is the sine a quarter on. A table and no branches, which the machine would guess wrong.
 fn by_quarter(quarter: u64, s: f64, c: f64) -> SinCos
     requires { ⌜ quarter < 4 ⌝ }
     ensures { λ r. ⌜ (r .sin ≡ sineBy quarter s c) × (r .cos ≡ cosineBy quarter s c) ⌝ }
 {
-    let turned = [s, c, -s, -c, s];
+    let turned = [s, c, -s, -c];
     let k = quarter as usize;
     SinCos {
         sin: turned[k],
-        cos: turned[k + 1],
+        cos: turned[(k + 1) % 4],
     }
 }
 

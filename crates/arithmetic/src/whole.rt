@@ -12,19 +12,11 @@ pub(crate) struct WholePart {
     pub quarter: u64,
 }
 
-// What is taken off n where it lies above x. A factor of the sum and no branch: of random angles every second one would be guessed wrong.
+// What is to be taken off n where it lies above x. A difference and no branch: for every second angle the machine would guess the branch wrong.
 fn excess(x: f64, n: f64) -> f64
     ensures { λ r. ⌜ r ≡ cond (lt x n) (ofBits binary64 0x3ff0_0000_0000_0000) (ofBits binary64 0) ⌝ }
 {
     if x < n { 1.0 } else { 0.0 }
-}
-
-// The same mod 4, as what is added.
-fn backward(x: f64, n: f64) -> u64
-    ensures { λ r. ⌜ r ≡ cond (lt x n) 3 0 ⌝ }
-    ensures small { λ r. ⌜ r < 4 ⌝ }
-{
-    if x < n { 3 } else { 0 }
 }
 
 // For |x| up to 2^50; the low bits of the sum are the whole number's.
@@ -38,9 +30,10 @@ pub(crate) fn below(x: f64) -> WholePart
     }
     let y = x + 6755399441055744.0;
     let n = y - 6755399441055744.0;
+    let over = excess(x, n);
     WholePart {
-        n: n - excess(x, n),
-        quarter: (f64::to_bits(y) % 4 + backward(x, n)) % 4,
+        n: n - over,
+        quarter: f64::to_bits(y - over) % 4,
     }
 }
 

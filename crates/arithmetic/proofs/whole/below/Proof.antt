@@ -1,12 +1,13 @@
 -- `below` meets its contract: one law of FloorCases for zero, and one for all else.
 use native.Mathlib.Omega.{arith}
-use Prim.Native.Nat.{ℕ, _+_, _%_}
-use mathlib.Core.Path.{_∙_, ap}
+use Prim.Native.Nat.{_%_}
+use mathlib.Core.Path.{_∙_, ap, sym, subst}
+use mathlib.Core.Bool.{not}
 use lib.Dec.{T}
-use lib.Ieee.{Float, binary64, fits, ofBits, toBits, add, sub}
+use lib.Ieee.{Float, binary64, fits, isNan, ofBits, toBits, add, sub}
 use Rattle.float_laws.proofs.Whole.{magic}
 use Rattle.arithmetic.proofs.FloorLaws.{nearby}
-use Rattle.arithmetic.proofs.FloorCases.{sum-no-nan, below-zero, below-other}
+use Rattle.arithmetic.proofs.FloorCases.{below-zero, less-no-nan, below-other}
 use borrow.Author.Needs.{needs}
 use Rattle.arithmetic.proofs.whole.below.Statement.{statement}
 use Rattle.arithmetic.proofs.whole.below.Tie as tie
@@ -24,21 +25,19 @@ returns c = let a = c .before in (below-zero (a .args .x) (fit1 c) (a .pre .0) (
 excess-requires : tie.Need-excess-requires
 excess-requires c κs = search needs
 
-float-to-bits-t7 : tie.Need-float-to-bits-t7
-float-to-bits-t7 c = let a = c .before .before in sum-no-nan (a .args .x) (fit2 (c .before)) (a .pre .0) (a .pre .1)
-
-backward-requires : tie.Need-backward-requires
-backward-requires c κs = search needs
-
-add-t10 : tie.Need-add-t10
-add-t10 c = omega (arith, c .backward .ensures .1)
+float-to-bits-t8 : tie.Need-float-to-bits-t8
+unfolding ofBits
+float-to-bits-t8 c =
+    let a = c .before .before in
+    subst (λ (e : Float). T (not (isNan (sub binary64 (add binary64 (a .args .x) magic) e)))) (sym (c .excess .ensures)) (less-no-nan (a .args .x) (fit2 (c .before)) (a .pre .0) (a .pre .1))
 
 returns-2 : tie.Need-returns-2
 unfolding ofBits
 returns-2 c =
-    let a = c .before .before .before in
-    let p = below-other (a .args .x) (fit2 (c .before .before)) (a .pre .0) (a .pre .1) (c .before .before .if1 .left) in
-    ((ap (λ (e : Float). sub binary64 (nearby binary64 (a .args .x) magic) e) (c .before .excess .ensures) ∙ p .0, ap (λ (k : ℕ). (toBits binary64 (add binary64 (a .args .x) magic) % 4 + k) % 4) (c .backward .ensures .0) ∙ p .1), omega arith)
+    let a = c .before .before in
+    let p = below-other (a .args .x) (fit2 (c .before)) (a .pre .0) (a .pre .1) (c .before .if1 .left) in
+    let e = c .excess .ensures in
+    ((ap (λ (o : Float). sub binary64 (nearby binary64 (a .args .x) magic) o) e ∙ p .0, ap (λ (o : Float). toBits binary64 (sub binary64 (add binary64 (a .args .x) magic) o) % 4) e ∙ p .1), omega arith)
 
 pub below-spec : {M : Type 1} → statement M
-below-spec = tie.close (tie.spec returns excess-requires float-to-bits-t7 backward-requires add-t10 returns-2)
+below-spec = tie.close (tie.spec returns excess-requires float-to-bits-t8 returns-2)
