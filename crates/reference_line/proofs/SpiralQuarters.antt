@@ -184,7 +184,7 @@ module _ (len : Float) (k : ℕ) (fit : T (fits binary64 len)) (few : k ≤ 2000
       let x = len ⊖ quarters i in
       let r : Real f x = record { finite = l; fits = sub-fits f len (quarters i) } in
       let e = is-le f quarter x (pl f quarter) (mi f quarter) 1 (pl f len + mi f (quarters i)) (mi f len + pl f (quarters i)) 1 (pow-pos 0) (pow-pos 0) (self-Is f quarter (q .value)) (sub-Is f len (quarters i) len-real (s .value)) tt l
-          (room (pl f quarter) (mi f quarter) (pl f len) (mi f len) (pl f (quarters i)) (mi f (quarters i)) i k (2 ^ (low f - 2)) (q .plus) (q .minus) (u .1) (s .plus) (s .minus) (mul-le-mul-right (2 ^ (low f - 2)) h) (u .0)) in
+      (room (pl f quarter) (mi f quarter) (pl f len) (mi f len) (pl f (quarters i)) (mi f (quarters i)) i k (2 ^ (low f - 2)) (q .plus) (q .minus) (u .1) (s .plus) (s .minus) (mul-le-mul-right (2 ^ (low f - 2)) h) (u .0)) in
       let b = le→units f quarter x (q .value) r e in
       ap (λ (t : Bool). cond t x quarter) (not-under (lt x quarter) (λ t. let a = lt→units f x quarter r (q .value) t in omega arith))
     where

@@ -148,8 +148,9 @@ pub fn next_sample(g: GeomRec, k0: f64, k1: f64, p: Sample) -> Sample
     ensures { λ r. ⌜ r ≡ nextSample g k0 k1 p ⌝ }
 {
     let step = step_at(g.length, p.distance);
-    let middle = arithmetic::sin_cos(heading_at(g, k0, k1, p.distance + step / 2.0));
+    // before the sine and cosine, so that the next step need not wait for them
     let u = p.distance + step;
+    let middle = arithmetic::sin_cos(heading_at(g, k0, k1, p.distance + step / 2.0));
     Sample {
         distance: u,
         x: p.x + middle.cos * step,
