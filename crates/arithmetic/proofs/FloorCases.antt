@@ -2,16 +2,17 @@
 use mathlib.Core.Path.{_≡_, refl, sym, ap, _∙_, subst}
 use mathlib.Core.Logic.{inl, inr}
 use Prim.Native.Nat.{ℕ, _+_, _-_, _*_, _%_, _^_, _≤_, _<_}
-use native.Mathlib.Nat.{le-refl, le-trans, le-of-eq, zero-mul}
+use native.Mathlib.Nat.{le-refl, le-trans, le-of-eq, zero-mul, lt-of-mul-lt-mul-right}
 use native.Mathlib.Omega.{arith}
-use mathlib.Core.Bool.{Bool, true, false, not, _||_}
+use mathlib.Core.Bool.{Bool, true, false, not, _||_, cond}
 use lib.Dec.{T, leb, leb→le, nleb→lt, lit≤}
 use lib.Ieee.{Float, nan, inf, fin, Format, binary64, prec, low, hid, add, sub, neg, lt, le, eq, fits, isNan, toBits, ofBits}
 use lib.Ieee.Scale.{finite}
-use Rattle.float_laws.proofs.Value.{mag, pl, mi, Real, mag-is, one-side, lt→units, nlt→units, neg-real, neg-pl, neg-mi}
+use Rattle.float_laws.proofs.Value.{mag, pl, mi, Real, mag-is, mi-le, one-side, lt→units, nlt→units, neg-real, neg-pl, neg-mi}
 use Rattle.float_laws.proofs.Interval.{nil, nil-real, nil-pl, nil-mi, finite-between}
 use Rattle.float_laws.proofs.Size.{within-of-le}
-use Rattle.float_laws.proofs.Whole.{Whole, Nearest, nearest-is, reach-plus, reach-minus, nearest-magic, twice-hid, magic, unit, one, is-zero, not-zero}
+use Rattle.float_laws.proofs.Zero.{sub-zero}
+use Rattle.float_laws.proofs.Whole.{Whole, Nearest, nearest-is, reach-plus, reach-minus, nearest-magic, whole-bits, one-whole, steps-sub, twice-hid, magic, unit, one, is-zero, not-zero}
 use Rattle.arithmetic.specs.Floor.{floorOf, quarterOf}
 use Rattle.arithmetic.proofs.FloorLaws.{nearby, stepped, stays, falls, less-one, floor-by, floor-zero, floor-large, floor-other, quarter-whole}
 
@@ -167,15 +168,16 @@ real-no-nan f nan r = r .finite
 real-no-nan f (inf s) r = tt
 real-no-nan f (fin s m e) r = tt
 
+unit-is : unit ≡ 2 ^ low binary64
+unfolding unit
+unit-is = refl
+
 module _ (x : Float) (fit : T (fits binary64 x)) (a : T (le (neg limit) x)) (b : T (le x limit)) where
   real : Real binary64 x
   real = record { finite = finite-between (neg limit) x limit (neg-real binary64 limit limit-real .finite) (limit-real .finite) a b; fits = fit }
 
   sum-is : Nearest binary64 x magic 6755399441055744
   sum-is = nearest-magic x real (le-trans (within-of-le binary64 x limit real limit-real a b .le) (le-of-eq limit-pl))
-
-  pub sum-no-nan : T (not (isNan (add binary64 x magic)))
-  sum-no-nan = real-no-nan binary64 (add binary64 x magic) (sum-is .sum .value)
 
   pub below-zero : eq x nil ≡ true → (x ≡ floorOf binary64 x) × (0 ≡ quarterOf (floorOf binary64 x))
   below-zero e =
@@ -201,3 +203,62 @@ module _ (x : Float) (fit : T (fits binary64 x)) (a : T (le (neg limit) x)) (b :
       let s = not-zero binary64 x real (no e) in
       let w = falls binary64 x magic 6755399441055744 real s i (lit≤ tt) (yes h) in
       (w, ap (λ (b : ℕ). (b % 4 + 3) % 4) (i .bits) ∙ quarter-falls k ∙ sym (quarter-whole binary64 n _ _ (less-one binary64 x magic 6755399441055744 real s i (lit≤ tt))) ∙ ap quarterOf w)
+
+  -- ---- what is taken off, of n and of the sum, is 1 or 0
+  abbrev over : Float
+  over = cond (lt x (nearby binary64 x magic)) one nil
+
+  -- the sum less 1, where n lies above x
+  fallen : lt x (nearby binary64 x magic) ≡ true → Whole binary64 (sub binary64 (add binary64 x magic) one) (sum-is .k - 1) 0 × (hid binary64 ≤ sum-is .k - 1)
+  fallen h =
+      let i = sum-is in
+      let k = i .k in
+      let n = nearby binary64 x magic in
+      let m = le-trans (mi-le binary64 x) (le-trans (within-of-le binary64 x limit real limit-real a b .le) (le-of-eq (limit-pl ∙ ap (λ (u : ℕ). 1125899906842624 * u) unit-is))) in
+      let l = reaches k (2 ^ low binary64) (pl binary64 n) (mi binary64 n) (pl binary64 x) (mi binary64 x) (i .is .plus) (i .is .minus) (lt→units binary64 x n real (i .is .value) (yes h)) m in
+      let u = i .most in
+      let s = steps-sub binary64 (low binary64) (add binary64 x magic) one k 0 1 0 (i .sum) (one-whole binary64) (le-refl (low binary64)) (omega arith) (omega arith) in
+      (subst (λ (v : ℕ). Whole binary64 (sub binary64 (add binary64 x magic) one) (k - 1) v) (let z : 0 + 1 - (k + 0) ≡ 0 = omega arith in z) (subst (λ (v : ℕ). Whole binary64 (sub binary64 (add binary64 x magic) one) v (0 + 1 - (k + 0))) (let z : k + 0 - (0 + 1) ≡ k - 1 = omega arith in z) s), l)
+    where
+      -- n lies above x, which is not below -2 ^ 50
+      reaches : (k U pn mn px mx : ℕ) → pn ≡ (k - 6755399441055744) * U → mn ≡ (6755399441055744 - k) * U → px + mn < pn + mx → mx ≤ 1125899906842624 * U → 4503599627370496 ≤ k - 1
+      reaches k U pn mn px mx e g l m = go (leb 6755399441055744 k) (leb→le 6755399441055744 k) (nleb→lt 6755399441055744 k)
+        where
+          go : (b : Bool) → (T b → 6755399441055744 ≤ k) → (T (not b) → k < 6755399441055744) → 4503599627370496 ≤ k - 1
+          go true p q = let p' = p tt in omega arith
+          go false p q =
+              let q' = q tt in
+              let z : k - 6755399441055744 ≡ 0 = omega arith in
+              let none : pn ≡ 0 = e ∙ ap (λ (v : ℕ). v * U) z ∙ zero-mul U in
+              let d = lt-of-mul-lt-mul-right U (let o : (6755399441055744 - k) * U < 1125899906842624 * U = omega arith in o) in
+              omega arith
+
+  pub less-no-nan : T (not (isNan (sub binary64 (add binary64 x magic) over)))
+  less-no-nan = go (lt x (nearby binary64 x magic)) refl
+    where
+      go : (b : Bool) → lt x (nearby binary64 x magic) ≡ b → T (not (isNan (sub binary64 (add binary64 x magic) (cond b one nil))))
+      go true h = real-no-nan binary64 _ (fallen h .0 .value)
+      go false h = let s = sum-is .sum .value in subst (λ (y : Float). T (not (isNan y))) (sym (sub-zero binary64 (add binary64 x magic) s)) (real-no-nan binary64 _ s)
+
+  pub below-other : eq x nil ≡ false
+      → (sub binary64 (nearby binary64 x magic) over ≡ floorOf binary64 x) × (toBits binary64 (sub binary64 (add binary64 x magic) over) % 4 ≡ quarterOf (floorOf binary64 x))
+  below-other e = go (lt x n) refl
+    where
+      n : Float
+      n = nearby binary64 x magic
+
+      y : Float
+      y = add binary64 x magic
+
+      go : (b : Bool) → lt x n ≡ b → (sub binary64 n (cond b one nil) ≡ floorOf binary64 x) × (toBits binary64 (sub binary64 y (cond b one nil)) % 4 ≡ quarterOf (floorOf binary64 x))
+      go true h =
+          let s = below-falls e h in
+          let f = fallen h in
+          let k = sum-is .k in
+          (s .0, ap (λ (b : ℕ). b % 4) (whole-bits binary64 (sub binary64 y one) (k - 1) (f .0) (f .1) (omega (arith, sum-is .most))) ∙ one-less k (f .1) ∙ ap (λ (b : ℕ). (b % 4 + 3) % 4) (sym (sum-is .bits)) ∙ s .1)
+        where
+          one-less : (k : ℕ) → 4503599627370496 ≤ k - 1 → (1074 * 4503599627370496 + (k - 1)) % 4 ≡ ((1074 * 4503599627370496 + k) % 4 + 3) % 4
+          one-less k h = omega arith
+      go false h =
+          let s = below-stays e h in
+          (sub-zero binary64 n (sum-is .is .value) ∙ s .0, ap (λ (v : Float). toBits binary64 v % 4) (sub-zero binary64 y (sum-is .sum .value)) ∙ s .1)

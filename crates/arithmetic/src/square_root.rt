@@ -4,6 +4,7 @@
 // left even. The root then has 54 digits, one more than an f64 keeps, worked out one by one. A last digit of 1 is never a tie:
 // the number under the root is even, so an odd root is not the whole of it and the exact root lies above the half-way point.
 ghost use mathlib.Core.Path.{_≡_};
+ghost use mathlib.Core.Logic.{_⊎_};
 ghost use Prim.Native.Nat.{ℕ, _+_, _-_, _*_, _/_, _%_, _<_, _≤_, _^_};
 ghost use lib.Ieee.{binary64};
 ghost use Rattle.arithmetic.specs.Root.{rootOf, hypotOf};
@@ -16,6 +17,13 @@ struct Partial {
     rem: u64,
 }
 
+// The next digit: 1 where the trial can be taken off. A number and no branch, which would be guessed wrong at every second digit.
+fn next_digit(trial: u64, rem: u64) -> u64
+    ensures { λ r. ⌜ ((r ≡ 1) × (trial ≤ rem)) ⊎ ((r ≡ 0) × (rem < trial)) ⌝ }
+{
+    if trial <= rem { 1 } else { 0 }
+}
+
 // One digit more: two digits of the number under the root come down.
 fn digit(s: Partial, two: u64) -> Partial
     requires { ⌜ (s .root < 2 ^ 54) × (s .rem ≤ 2 * s .root) × (two < 4) ⌝ }
@@ -24,16 +32,10 @@ fn digit(s: Partial, two: u64) -> Partial
 {
     let rem = s.rem * 4 + two;
     let trial = s.root * 4 + 1;
-    if trial <= rem {
-        Partial {
-            root: s.root * 2 + 1,
-            rem: rem - trial,
-        }
-    } else {
-        Partial {
-            root: s.root * 2,
-            rem,
-        }
+    let d = next_digit(trial, rem);
+    Partial {
+        root: s.root * 2 + d,
+        rem: rem - trial * d,
     }
 }
 

@@ -1,6 +1,7 @@
 // The floor of an f64, by a sum: x + c, for a c that brings it among the values which an f64 counts in steps of 1, is rounded to a whole number.
 ghost use mathlib.Core.Path.{_≡_};
 ghost use mathlib.Core.Bool.{cond};
+ghost use Prim.Native.Nat.{_<_};
 ghost use lib.Dec.{T};
 ghost use lib.Ieee.{binary64, ofBits, neg, sub, le, lt};
 ghost use Rattle.arithmetic.specs.Floor.{floorOf, quarterOf};
@@ -11,24 +12,29 @@ pub(crate) struct WholePart {
     pub quarter: u64,
 }
 
+// What is to be taken off n where it lies above x. A difference and no branch: for every second angle the machine would guess the branch wrong.
+fn excess(x: f64, n: f64) -> f64
+    ensures { λ r. ⌜ r ≡ cond (lt x n) (ofBits binary64 0x3ff0_0000_0000_0000) (ofBits binary64 0) ⌝ }
+{
+    if x < n { 1.0 } else { 0.0 }
+}
+
 // For |x| up to 2^50; the low bits of the sum are the whole number's.
 pub(crate) fn below(x: f64) -> WholePart
     requires { ⌜ T (le (neg (ofBits binary64 0x4310_0000_0000_0000)) x) × T (le x (ofBits binary64 0x4310_0000_0000_0000)) ⌝ }
     ensures { λ r. ⌜ (r .n ≡ floorOf binary64 x) × (r .quarter ≡ quarterOf (floorOf binary64 x)) ⌝ }
+    ensures small { λ r. ⌜ r .quarter < 4 ⌝ }
 {
     if x == 0.0 {
         return WholePart { n: x, quarter: 0 };
     }
     let y = x + 6755399441055744.0;
     let n = y - 6755399441055744.0;
-    let quarter = f64::to_bits(y) % 4;
-    if x < n {
-        return WholePart {
-            n: n - 1.0,
-            quarter: (quarter + 3) % 4,
-        };
+    let over = excess(x, n);
+    WholePart {
+        n: n - over,
+        quarter: f64::to_bits(y - over) % 4,
     }
-    WholePart { n, quarter }
 }
 
 // n, or one less where n lies above x.

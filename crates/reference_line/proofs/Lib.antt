@@ -1,3 +1,4 @@
 pub mod SpiralLaws
 pub mod SpiralFirst
+pub mod SpiralQuarters
 pub mod PoseLaws

@@ -1,2 +1,3 @@
 pub mod Spiral
 pub mod Poses
+pub mod Quarters

@@ -5,8 +5,11 @@ use records::GeomRec;
 use records::GeomShape;
 ghost use mathlib.Core.Path.{_≡_};
 ghost use Prim.Native.Nat.{_<_, _≤_};
-ghost use lib.Dec.{leb};
+ghost use lib.Dec.{T, leb};
+ghost use lib.Ieee.{le};
+ghost use Rattle.float_laws.specs.Binary64.{f64};
 ghost use Rattle.records.specs.Roads.{roadOf};
+ghost use Rattle.reference_line.specs.Quarters.{QuartersBelow};
 ghost use Rattle.reference_line.specs.Spiral.{stepAt, spiralSteps, sampleCount, samplesBefore, samplesNeeded, firstSample, nextSample, turnRate, headingAt};
 
 // The length of the step from u on.
@@ -17,14 +20,36 @@ fn step_at(length: f64, u: f64) -> f64
     if left < 0.25 { left } else { 0.25 }
 }
 
+// About how many steps of 0.25 fit below x: the low bits of a sum which is rounded to a whole number, 4 x less 1.
+fn estimate(x: f64) -> usize
+    requires { ⌜ T (le (f64 0x3ff0_0000_0000_0000) x) × T (le x (f64 0x40c3_8800_0000_0000)) ⌝ }
+    ensures { λ r. ⌜ r < 65536 ⌝ }
+{
+    (f64::to_bits(x * 4.0 + 4503599627370495.0) % 65536) as usize
+}
+
+// Steps of 0.25 that end below x, at most 2,000 and all but one or two of them. The test is what makes sure of them.
+fn quarters_below(x: f64) -> usize
+    ensures { λ r. ⌜ QuartersBelow x r ⌝ }
+{
+    let inside = (1.0 <= x) & (x <= 10000.0);
+    if inside {
+        let n = least(estimate(x), 2000);
+        if n as f64 * 0.25 < x {
+            return n;
+        }
+    }
+    0
+}
+
 // The steps of a spiral. More than 2,001 are not counted: row 5 refuses over 2,000 samples.
 fn spiral_steps(length: f64) -> usize
     ensures { λ r. ⌜ r ≡ spiralSteps length ⌝ }
     ensures small { λ r. ⌜ r ≤ 2001 ⌝ }
 {
     let last = length - 1e-9;
-    let mut u = 0.0;
-    let mut n = 0;
+    let mut n = quarters_below(last);
+    let mut u = n as f64 * 0.25;
     while n < 2001 {
         if u < last {
             u = u + step_at(length, u);
@@ -123,8 +148,9 @@ pub fn next_sample(g: GeomRec, k0: f64, k1: f64, p: Sample) -> Sample
     ensures { λ r. ⌜ r ≡ nextSample g k0 k1 p ⌝ }
 {
     let step = step_at(g.length, p.distance);
-    let middle = arithmetic::sin_cos(heading_at(g, k0, k1, p.distance + step / 2.0));
+    // before the sine and cosine, so that the next step need not wait for them
     let u = p.distance + step;
+    let middle = arithmetic::sin_cos(heading_at(g, k0, k1, p.distance + step / 2.0));
     Sample {
         distance: u,
         x: p.x + middle.cos * step,

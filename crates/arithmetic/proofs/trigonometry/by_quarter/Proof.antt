@@ -1,38 +1,40 @@
--- Each way out is one case of the quadrant rule.
-use borrow.Author.Tests.{eq-eqb, ne-eqb}
+-- The table's entries are the definition's cases, quarter by quarter.
+use Prim.Native.Nat.{ℕ, zero, suc, _+_, _%_, _<_}
+use native.Mathlib.Omega.{arith}
+use mathlib.Core.Path.{_≡_, refl}
+use mathlib.Core.List.{[], _∷_}
+use lib.ListN.{getD}
+use lib.Ieee.{Float, nan, neg}
 use Rattle.arithmetic.specs.Sine.{sineBy, cosineBy}
+use borrow.Author.Needs.{needs}
 use Rattle.arithmetic.proofs.trigonometry.by_quarter.Statement.{statement}
 use Rattle.arithmetic.proofs.trigonometry.by_quarter.Tie as tie
 
+turned : (k : ℕ) (s c : Float) → k < 4 → (getD (s ∷ c ∷ neg s ∷ neg c ∷ []) k nan ≡ sineBy k s c) × (getD (s ∷ c ∷ neg s ∷ neg c ∷ []) ((k + 1) % 4) nan ≡ cosineBy k s c)
+unfolding sineBy cosineBy
+turned zero s c h = (refl, refl)
+turned (suc zero) s c h = (refl, refl)
+turned (suc (suc zero)) s c h = (refl, refl)
+turned (suc (suc (suc zero))) s c h = (refl, refl)
+turned (suc (suc (suc (suc k)))) s c h = absurd (omega arith)
+
+mul-t8 : tie.Need-mul-t8
+mul-t8 c = search needs
+
+array-read-t6 : tie.Need-array-read-t6
+array-read-t6 c = search needs
+
+add-t11 : tie.Need-add-t11
+add-t11 c = search needs
+
+mul-t13 : tie.Need-mul-t13
+mul-t13 c = search needs
+
+array-read-t7 : tie.Need-array-read-t7
+array-read-t7 c = search needs
+
 returns : tie.Need-returns
-unfolding sineBy cosineBy
-returns c = let k = c .before .args .quarter in let a = eq-eqb k 0 (c .if1 .taken) in (rw a, rw a)
-
-returns-2 : tie.Need-returns-2
-unfolding sineBy cosineBy
-returns-2 c =
-    let k = c .before .before .args .quarter in
-    let a = ne-eqb k 0 (c .before .if1 .left) in
-    let b = eq-eqb k 1 (c .if2 .taken) in
-    (rw (a, b), rw (a, b))
-
-returns-3 : tie.Need-returns-3
-unfolding sineBy cosineBy
-returns-3 c =
-    let k = c .before .before .before .args .quarter in
-    let a = ne-eqb k 0 (c .before .before .if1 .left) in
-    let b = ne-eqb k 1 (c .before .if2 .left) in
-    let d = eq-eqb k 2 (c .if3 .taken) in
-    (rw (a, b, d), rw (a, b, d))
-
-returns-4 : tie.Need-returns-4
-unfolding sineBy cosineBy
-returns-4 c =
-    let k = c .before .before .before .args .quarter in
-    let a = ne-eqb k 0 (c .before .before .if1 .left) in
-    let b = ne-eqb k 1 (c .before .if2 .left) in
-    let d = ne-eqb k 2 (c .if3 .left) in
-    (rw (a, b, d), rw (a, b, d))
+returns c = turned (c .args .quarter) (c .args .s) (c .args .c) (c .pre)
 
 pub by-quarter-spec : {M : Type 1} → statement M
-by-quarter-spec = tie.close (tie.spec returns returns-2 returns-3 returns-4)
+by-quarter-spec = tie.close (tie.spec mul-t8 array-read-t6 add-t11 mul-t13 array-read-t7 returns)

@@ -25,7 +25,7 @@ cosine-kernel-requires : tie.Need-cosine-kernel-requires
 cosine-kernel-requires c κs = search needs
 
 by-quarter-requires : tie.Need-by-quarter-requires
-by-quarter-requires c κs = search needs
+by-quarter-requires c κs = c .before .before .below .ensures .1
 
 pair-is : (h n s c x y : Float) (k : ℕ) → inRange h ≡ true → n ≡ turns h → k ≡ quarterOf (turns h) → s ≡ sineKernel (rest h n) → c ≡ cosineKernel (rest h n)
     → (x ≡ sineBy k s c) × (y ≡ cosineBy k s c) → (x ≡ sineOf h) × (y ≡ cosineOf h)
@@ -38,7 +38,7 @@ returns c =
     let z = c .before .before .before in
     let n = z .below in
     pair-is (z .before .args .h) (n .result .n) (c .before .before .sine-kernel .result) (c .before .cosine-kernel .result) (c .by-quarter .result .sin) (c .by-quarter .result .cos) (n .result .quarter)
-    (z .before .pre) (n .ensures .0) (n .ensures .1) (c .before .before .sine-kernel .ensures) (c .before .cosine-kernel .ensures) (c .by-quarter .ensures)
+    (z .before .pre) (n .ensures .0 .0) (n .ensures .0 .1) (c .before .before .sine-kernel .ensures) (c .before .cosine-kernel .ensures) (c .by-quarter .ensures)
 
 pub reduced-spec : {M : Type 1} → statement M
 reduced-spec = tie.close (tie.spec below-requires sine-kernel-requires cosine-kernel-requires by-quarter-requires returns)

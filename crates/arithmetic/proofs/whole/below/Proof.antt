@@ -1,7 +1,13 @@
--- `below` meets its contract: one law of FloorCases for each way through it.
+-- `below` meets its contract: one law of FloorCases for zero, and one for all else.
+use native.Mathlib.Omega.{arith}
+use Prim.Native.Nat.{_%_}
+use mathlib.Core.Path.{_∙_, ap, sym, subst}
+use mathlib.Core.Bool.{not}
 use lib.Dec.{T}
-use lib.Ieee.{binary64, fits, ofBits}
-use Rattle.arithmetic.proofs.FloorCases.{sum-no-nan, below-zero, below-stays, below-falls}
+use lib.Ieee.{Float, binary64, fits, isNan, ofBits, toBits, add, sub}
+use Rattle.float_laws.proofs.Whole.{magic}
+use Rattle.arithmetic.proofs.FloorLaws.{nearby}
+use Rattle.arithmetic.proofs.FloorCases.{below-zero, less-no-nan, below-other}
 use borrow.Author.Needs.{needs}
 use Rattle.arithmetic.proofs.whole.below.Statement.{statement}
 use Rattle.arithmetic.proofs.whole.below.Tie as tie
@@ -14,21 +20,24 @@ fit2 c = search needs
 
 returns : tie.Need-returns
 unfolding ofBits
-returns c = let a = c .before in below-zero (a .args .x) (fit1 c) (a .pre .0) (a .pre .1) (c .if1 .taken)
+returns c = let a = c .before in (below-zero (a .args .x) (fit1 c) (a .pre .0) (a .pre .1) (c .if1 .taken), omega arith)
 
-float-to-bits-quarter : tie.Need-float-to-bits-quarter
-float-to-bits-quarter c = let a = c .before in sum-no-nan (a .args .x) (fit2 c) (a .pre .0) (a .pre .1)
+excess-requires : tie.Need-excess-requires
+excess-requires c κs = search needs
 
-add-t8 : tie.Need-add-t8
-add-t8 c = search needs
+float-to-bits-t8 : tie.Need-float-to-bits-t8
+unfolding ofBits
+float-to-bits-t8 c =
+    let a = c .before .before in
+    subst (λ (e : Float). T (not (isNan (sub binary64 (add binary64 (a .args .x) magic) e)))) (sym (c .excess .ensures)) (less-no-nan (a .args .x) (fit2 (c .before)) (a .pre .0) (a .pre .1))
 
 returns-2 : tie.Need-returns-2
 unfolding ofBits
-returns-2 c = let a = c .before .before in below-falls (a .args .x) (fit2 (c .before)) (a .pre .0) (a .pre .1) (c .before .if1 .left) (c .if2 .taken)
-
-returns-3 : tie.Need-returns-3
-unfolding ofBits
-returns-3 c = let a = c .before .before in below-stays (a .args .x) (fit2 (c .before)) (a .pre .0) (a .pre .1) (c .before .if1 .left) (c .if2 .left)
+returns-2 c =
+    let a = c .before .before in
+    let p = below-other (a .args .x) (fit2 (c .before)) (a .pre .0) (a .pre .1) (c .before .if1 .left) in
+    let e = c .excess .ensures in
+    ((ap (λ (o : Float). sub binary64 (nearby binary64 (a .args .x) magic) o) e ∙ p .0, ap (λ (o : Float). toBits binary64 (sub binary64 (add binary64 (a .args .x) magic) o) % 4) e ∙ p .1), omega arith)
 
 pub below-spec : {M : Type 1} → statement M
-below-spec = tie.close (tie.spec returns float-to-bits-quarter add-t8 returns-2 returns-3)
+below-spec = tie.close (tie.spec returns excess-requires float-to-bits-t8 returns-2)

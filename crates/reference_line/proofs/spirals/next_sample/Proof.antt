@@ -19,9 +19,9 @@ heading-at-requires-2 c κs = search needs
 returns : tie.Need-returns
 unfolding nextSample
 returns c =
-    let near = c .before .before .before .before .before .before in
+    let near = c .before .before .before .before .before in
     let pair = near .sin-cos .ensures in
-    rw (c .heading-at2 .ensures, pair .0, pair .1, near .before .heading-at .ensures, near .before .before .before .step-at .ensures)
+    rw (c .heading-at2 .ensures, pair .0, pair .1, near .before .heading-at .ensures, near .before .before .before .before .step-at .ensures)
 
 pub next-sample-spec : {M : Type 1} → statement M
 next-sample-spec = tie.close (tie.spec step-at-requires heading-at-requires sin-cos-requires heading-at-requires-2 returns)

@@ -1,0 +1,16 @@
+-- What the count of a spiral's steps starts from. All steps but the last are 0.25, and such steps are exact, so a place n / 4 that lies below the end is the n-th without counting.
+use Prim.Native.Nat.{ℕ, _≤_}
+use mathlib.Core.Path.{_≡_}
+use mathlib.Core.Logic.{_⊎_}
+use lib.Dec.{T}
+use lib.IntN.{pos}
+use lib.Ieee.{Float, binary64, ofInt, lt, le}
+use Rattle.float_laws.specs.Binary64.{_⊗_, f64}
+
+-- where n steps of 0.25 end
+abbrev pub quarters : ℕ → Float
+quarters n = ofInt binary64 (pos n) ⊗ f64 0x3fd0_0000_0000_0000
+
+-- no steps, or n that end below x, which is at most 10,000
+abbrev pub QuartersBelow : Float → ℕ → Type 0
+QuartersBelow x n = (n ≤ 2000) × ((n ≡ 0) ⊎ (T (lt (quarters n) x) × T (le x (f64 0x40c3_8800_0000_0000))))
