@@ -49,7 +49,8 @@ static void geometry(int i, uint16_t kind, const double columns[7]) {
 
 /* The first l bytes of the job text. */
 static uint32_t read_job(size_t l, size_t *count) {
-  return riftkettle_read((const uint8_t *)job, l, words, RIFTKETTLE_WORDS, numbers, RIFTKETTLE_NUMBERS, wants, RIFTKETTLE_WANTS, count);
+  return riftkettle_read((const uint8_t *)job, l, words, RIFTKETTLE_WORDS, numbers, RIFTKETTLE_NUMBERS, wants, RIFTKETTLE_WANTS,
+                         count);
 }
 
 static void lanes_of_job(void) {
