@@ -1,7 +1,7 @@
 -- The count of a spiral's steps may start from k / 4, where that lies below the end: the steps up to there are 0.25 each and their sums are exact.
 -- In units of 2 ^ -1074 the place is k * 2 ^ 1072. By induction on the steps made; the length's order in units says that each is a whole one.
 use Prim.Native.Nat.{ℕ, zero, suc, _+_, _-_, _*_, _^_, _≤_, _<_}
-use native.Mathlib.Nat.{le-refl, le-trans, le-of-eq, le-of-lt, lt-of-le-of-lt, lt-of-lt-of-le, mul-le-mul-right, zero-mul, one-mul, mul-pos}
+use native.Mathlib.Nat.{le-refl, le-trans, le-of-eq, le-of-lt, lt-of-le-of-lt, lt-of-lt-of-le, mul-le-mul-right, zero-mul, mul-pos}
 use native.Mathlib.Numerals.{add-one}
 use native.Mathlib.Omega.{arith}
 use mathlib.Core.Path.{_≡_, refl, sym, ap, _∙_, subst}
@@ -13,13 +13,13 @@ use borrow.Author.Tests.{le-leb}
 use lib.Pow.{pow-pos}
 use lib.IntN.{pos, negsuc}
 use lib.Ieee.{Float, nan, inf, fin, Format, binary32, binary64, prec, emax, low, round, ofInt, ofBits, add, sub, mul, lt, le, eq, fits, isNan, inFloat}
-use lib.Ieee.Bits.{is-true, is-false}
+use lib.Ieee.Bits.{is-true}
 use lib.Ieee.Fits.{round-fits, sub-fits, and-l, and-r}
-use lib.Ieee.Scale.{finite, overflow}
+use lib.Ieee.Scale.{finite}
 use Rattle.float_laws.specs.Binary64.{_⊕_, _⊖_, f64, zero64}
 use Rattle.float_laws.proofs.Units.{rnd, rnd-exact, rnd-zero, rnd-le}
 use Rattle.float_laws.proofs.Value.{sign, mag, pl, mi, Real, mag-is, one-side, mag-of, under, le→units, lt→units, units→lt}
-use Rattle.float_laws.proofs.Operation.{Is, sub-Is, mul-Is, round-has}
+use Rattle.float_laws.proofs.Operation.{sub-Is, mul-Is, round-has}
 use Rattle.float_laws.proofs.Exact.{fixed, self-Is, is-le}
 use Rattle.float_laws.proofs.Size.{add-fin}
 use Rattle.float_laws.proofs.Same.{same-value, sign-plus}
