@@ -1,0 +1,4 @@
+pub mod LineLaws
+pub mod Nans
+pub mod SumLaws
+pub mod TextLaws
