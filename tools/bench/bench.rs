@@ -13,6 +13,8 @@ use comparison::riftkettle as ours;
 use comparison::stand_ins;
 use std::hint::black_box;
 
+mod lanes;
+
 const ROUNDS: usize = 21;
 const ROUND_NANOS: f64 = 5e6;
 
@@ -144,6 +146,9 @@ fn main() {
     let narrow = |x| f64::from(ours::narrow(x));
     row("narrowing", compare(places.len(), || over(&places, narrow), || over(&places, |x| f64::from(rust_narrow(x)))));
 
+    lanes::cubics(&mut rng);
+    lanes::poses(&stations);
+
     poses("pose on a line; ours admits the road (2 records) each time", Shape::Line, 400.0, &stations);
     poses("pose on an arc; likewise", Shape::Arc(0.01), 400.0, &stations);
     poses("pose on a 400 m spiral; likewise", Shape::Spiral(0.0, 0.02), 400.0, &stations);
@@ -161,6 +166,8 @@ fn main() {
         },
     );
     row("samples of a 400 m spiral (1,601); ours admits the road first", times);
+
+    lanes::lanes(&stations);
 
     println!(
         "\n| What | ours, ns | a second text in Rust, ns | ratio | ours, in 100 sine pairs of ours |\n|---|---|---|---|---|"

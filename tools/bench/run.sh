@@ -2,7 +2,7 @@
 # Times the library against the Rust with document 01's stand-ins, same inputs, one run, both built for release; prints the tables
 # of docs/PERFORMANCE.md.
 #
-#     tools/bench/run.sh [--source DIR] [--archive FILE | --stub]
+#     tools/bench/run.sh [--source DIR] [--archive FILE --probes FILE | --stub]
 #
 # The options are those of tools/differential/run.sh.
 set -euo pipefail
@@ -11,11 +11,13 @@ build=target/differential
 
 source=../shared/docs/src
 archive=
+probes=
 stub=
 while [ $# -gt 0 ]; do
   case $1 in
     --source) source=$2; shift 2 ;;
     --archive) archive=$2; shift 2 ;;
+    --probes) probes=$2; shift 2 ;;
     --stub) stub=yes; shift ;;
     *) echo "run.sh: what is '$1'? See the first lines of tools/bench/run.sh" >&2; exit 2 ;;
   esac

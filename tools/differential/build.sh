@@ -1,10 +1,12 @@
-# What the scripts of differential and bench share: sourced, from the repository's root, with $build, $archive and $stub set.
+# What the scripts of differential and bench share: sourced, from the repository's root, with $build, $archive, $probes and $stub
+# set.
 #
 #     published DIR      checks the published files and puts patched copies into $build/source
 #     library            builds the Rust that all programs share, with the patched copies in it
-#     choose             sets $archive: the one named, the stub's, or that of crate `exports`, built if need be
+#     choose             sets $archive and $probes: those named, the stub's, or those of the crates `exports` and `probes`, built
+#                        if need be
 #     stub [WORDS]       builds the stub in place of the library; WORDS go to rustc
-#     program NAME FILE  builds a program over the shared Rust and $archive
+#     program NAME FILE  builds a program over the shared Rust, $archive and $probes
 
 ROAD=d42cac4382bda1c9374d782228313742b776bc52efd9f3eda3b5097e977b837b
 COORDS=00e45f842bf808a4aaa26003661a51b39faf8b4eb2ca601f58802e85668b5e0a
@@ -41,21 +43,29 @@ stub() {
   rustc "${RUST[@]}" --crate-name stub --crate-type cdylib -o "$build/libstub.so" "$SHARED/stub.rs" "${USES[@]}" "$@"
 }
 
+# Builds the archive of a crate and prints its place.
+built() {
+  [ -d "crates/$1" ] || fail "there is no crates/$1, so no library to compare (--stub tests the comparison itself)"
+  rt staticlib "$1" >&2 || fail "rt staticlib $1 failed"
+  echo "target/staticlib/lib$1.a"
+}
+
 choose() {
   if [ -n "$stub" ]; then
     stub --check-cfg 'cfg(edited)'
     archive=$build/libstub.so
-  elif [ -z "$archive" ]; then
-    [ -d crates/exports ] || fail "there is no crates/exports, so no library to compare (--stub tests the comparison itself)"
-    rt staticlib exports >&2 || fail "rt staticlib exports failed"
-    archive=target/staticlib/libexports.a
+    probes=$archive
   fi
+  if [ -z "$archive" ]; then archive=$(built exports); fi
+  if [ -z "$probes" ]; then probes=$(built probes); fi
   [ -f "$archive" ] || fail "no library $archive"
+  [ -f "$probes" ] || fail "no library $probes"
   archive=$(realpath "$archive")
-  echo "library: $archive" >&2
+  probes=$(realpath "$probes")
+  echo "library: $archive, and $probes" >&2
 }
 
 program() {
   rustc "${RUST[@]}" --crate-name "$1" -o "$build/$1" "$2" "${USES[@]}" \
-    -C link-arg="$archive" -C link-arg=-Wl,-rpath,"$PWD/$build"
+    -C link-arg="$archive" -C link-arg="$probes" -C link-arg=-Wl,-rpath,"$PWD/$build"
 }

@@ -34,6 +34,52 @@ pub fn draft(rng: &mut Rng) -> Road {
     }
 }
 
+/// A road for what lies across it: admitted, with its memory. Its reference line is one line; most have lanes of both kinds that
+/// lie one beyond the other, with heights and level ones among them, and profiles or strips or both.
+pub fn across(rng: &mut Rng) -> (Road, Memory) {
+    loop {
+        let length = length(rng);
+        let (crossed, shaped, outward) = (rng.one_in(2), rng.one_in(2), !rng.one_in(3));
+        let geom = Geom { s: 0.0, x: 0.0, y: 0.0, hdg: 0.0, length, shape: Shape::Line };
+        let mut road = Road {
+            length,
+            geoms: vec![geom],
+            offset: road_list(rng, 64, length, 8.0),
+            tshift: if crossed { road_list(rng, 64, length, 8.0) } else { Vec::new() },
+            sections: sections(rng, length),
+            profiles: if shaped { profiles(rng, length) } else { Vec::new() },
+            strips: if crossed { strips(rng, length) } else { Default::default() },
+            ..Road::default()
+        };
+        if outward {
+            road.sections.iter_mut().for_each(|section| spread(rng, section));
+        }
+        let style = Style::random(rng);
+        if let Some(memory) = road.lay(rng, style) {
+            if admission::admit(&memory.words, &memory.numbers) == 0 {
+                return (road, memory);
+            }
+        }
+    }
+}
+
+/// Makes most lanes wide, and most borders lie beyond the inner neighbour's.
+fn spread(rng: &mut Rng, section: &mut Section) {
+    for (side, sign) in [(&mut section.left, 1.0), (&mut section.right, -1.0)] {
+        for (k, lane) in side.iter_mut().enumerate() {
+            let outward = if lane.border { sign } else { 1.0 };
+            for c in &mut lane.extents {
+                if lane.border && rng.one_in(2) {
+                    let a = sign * rng.between(0.8, 1.2) * 5.0 * (k + 1) as f64;
+                    *c = Cubic { start: c.start, a, ..Cubic::default() };
+                } else if c.a * outward < 0.0 && !rng.one_in(8) {
+                    shrink(c, -1.0);
+                }
+            }
+        }
+    }
+}
+
 // ---- numbers
 
 fn length(rng: &mut Rng) -> f64 {

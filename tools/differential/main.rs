@@ -16,6 +16,8 @@ use comparison::stand_ins as rust;
 use comparison::tally::{Tally, hex, same, same_f32};
 use std::sync::atomic::{AtomicUsize, Ordering};
 
+mod lanes;
+
 /// Name, steps of the short form, steps of the full form, one step.
 type Comparison = (&'static str, u64, u64, fn(&mut Rng, &mut Tally));
 
@@ -31,6 +33,17 @@ const COMPARISONS: &[Comparison] = &[
     ("foreign", 500, 12_000, foreign_samples),
     ("limits", 3_000, 120_000, around_limits),
     ("damage", 3_000, 120_000, damage),
+    ("eval", 300_000, 12_000_000, lanes::eval),
+    ("slope", 300_000, 12_000_000, lanes::slope),
+    ("active", 100_000, 4_000_000, lanes::active),
+    ("bare pose", 200, 12_000, lanes::bare_pose),
+    ("shape", 1_000, 100_000, lanes::shape),
+    ("cross section", 1_000, 100_000, lanes::cross_section),
+    ("height", 1_000, 100_000, lanes::height),
+    ("lane heights", 1_000, 100_000, lanes::lane_heights),
+    ("borders", 1_000, 100_000, lanes::borders),
+    ("lane named", 1_000, 100_000, lanes::lane_named),
+    ("lanes refused", 1_000, 100_000, lanes::lanes_refused),
 ];
 
 // ---- arithmetic

@@ -125,6 +125,23 @@ impl Oracle {
         sides(section).into_iter().flat_map(side).map(|b| [b.inner, b.outer, b.width]).collect()
     }
 
+    /// Writes the borders at s, three numbers a lane, and answers how many lanes there are. For the benchmark: no memory is made.
+    pub fn list_borders(&self, s: f64, list: &mut [f64]) -> usize {
+        let (section, base) = (self.0.section_at(s).expect("a road has a section"), self.0.base(s));
+        let side = |(lanes, sign)| road::side_borders(lanes, sign, base, s - section.start);
+        let mut lanes = 0;
+        for (b, to) in sides(section).into_iter().flat_map(side).zip(list.chunks_exact_mut(3)) {
+            to.copy_from_slice(&[b.inner, b.outer, b.width]);
+            lanes += 1;
+        }
+        lanes
+    }
+
+    /// The lane of that id across the road, as `lane_surface` finds it.
+    pub fn lane(&self, section: usize, id: i32, s: f64) -> Option<[f64; 4]> {
+        self.0.across(&self.0.sections[section], s).find(|a| a.od_id == id).map(|a| Across(a).numbers())
+    }
+
     /// The heights of each lane at its inner and outer border, with a tangent that is given in place of the bank's.
     pub fn heights(&self, section: usize, s: f64, tangent: f64) -> Vec<[f64; 2]> {
         let (section, base, lateral) = (&self.0.sections[section], self.0.base(s), &self.0.lateral);
@@ -221,7 +238,7 @@ impl Records {
 
     /// The number of the active record.
     pub fn active(&self, s: f64) -> Option<usize> {
-        road::active(&self.0, s).map(|found| self.0.iter().position(|r| std::ptr::eq(r, found)).expect("of this list"))
+        road::active(&self.0, s).map(|found| (std::ptr::from_ref(found).addr() - self.0.as_ptr().addr()) / size_of::<road::Cubic>())
     }
 }
 

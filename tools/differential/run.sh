@@ -1,11 +1,12 @@
 #!/usr/bin/env bash
 # Compares the library with the published Rust, bit for bit. One command, from any folder:
 #
-#     tools/differential/run.sh [full] [--source DIR] [--archive FILE | --stub] [--seed N] [--only NAME] [--steps N]
+#     tools/differential/run.sh [full] [--source DIR] [--archive FILE --probes FILE | --stub] [--seed N] [--only NAME] [--steps N]
 #
 #   full       the full form (minutes); without it the short one (seconds)
 #   --source   the folder with the published road.rs and coords.rs, or with src/ that holds them (default ../shared/docs/src)
 #   --archive  the library to compare (default: target/staticlib/libexports.a, built by `rt staticlib exports`)
+#   --probes   the functions inside it (default: target/staticlib/libprobes.a, built by `rt staticlib probes`)
 #   --stub     in place of the library, one that answers by the published Rust: a test of the comparison itself
 #   --seed     another run of random inputs (default 1); --only, one comparison by name; --steps, how
 #              many inputs of each
@@ -18,6 +19,7 @@ build=target/differential
 
 source=../shared/docs/src
 archive=
+probes=
 stub=
 pass=()
 while [ $# -gt 0 ]; do
@@ -25,6 +27,7 @@ while [ $# -gt 0 ]; do
     full) pass+=(full); shift ;;
     --source) source=$2; shift 2 ;;
     --archive) archive=$2; shift 2 ;;
+    --probes) probes=$2; shift 2 ;;
     --stub) stub=yes; shift ;;
     --seed | --only | --steps) pass+=("$1" "$2"); shift 2 ;;
     *) echo "run.sh: what is '$1'? See the first lines of $here/run.sh" >&2; exit 2 ;;

@@ -4,7 +4,7 @@ use comparison::admission::{admit, spiral_samples};
 use comparison::arguments::{exact_counts, exact_root};
 use comparison::generate;
 use comparison::model::*;
-use comparison::oracle::Oracle;
+use comparison::oracle::{Oracle, Records};
 use comparison::random::Rng;
 use comparison::stand_ins;
 
@@ -74,6 +74,77 @@ fn oracle(rng: &mut Rng) {
     }
 }
 
+/// 01's M2 to M7 by the published Rust.
+fn marked(rng: &mut Rng) {
+    let cubic = |start, a| Cubic { start, a, ..Cubic::default() };
+    let m2 = Records::new(&[Cubic { start: 2.0, a: 1.0, b: 2.0, c: 3.0, d: 4.0 }]);
+    assert_eq!((m2.eval(0, 3.0), m2.slope(0, 3.0)), (10.0, 20.0));
+    let m3 = Records::new(&[cubic(5.0, 1.0)]);
+    assert_eq!((m3.active(5.0 - 5e-10), m3.active(4.5)), (Some(0), None));
+    let lane = |border, a| Lane { border, extents: vec![cubic(0.0, a)], ..Lane::default() };
+    let geom = Geom { s: 0.0, x: 0.0, y: 0.0, hdg: 0.0, length: 10.0, shape: Shape::Line };
+    let with = |left: &[Lane], right: &[Lane]| Road {
+        length: 10.0,
+        geoms: vec![geom],
+        offset: vec![cubic(0.0, 1.0)],
+        sections: vec![Section { start: 0.0, left: left.to_vec(), right: right.to_vec() }],
+        ..Road::default()
+    };
+    let outers = |o: &Oracle| o.borders(0, 5.0).iter().map(|b| b[1]).collect::<Vec<f64>>();
+    let m4 = Oracle::new(&with(&[lane(false, 3.0), lane(false, -2.0), lane(false, 2.0)], &[]));
+    assert_eq!(outers(&m4), [4.0, 4.0, 6.0]);
+    assert_eq!([1.0, 4.0, 5.0, 70.0].map(|t| m4.lane_at(0, 5.0, t)), [None, Some(1), Some(3), Some(3)]);
+    let m5 = Oracle::new(&with(&[], &[lane(true, -2.0), lane(true, 0.0)]));
+    assert_eq!(outers(&m5), [-2.0, -2.0]);
+    let heights = vec![Height { start: 0.0, inner: 0.0, outer: 1.0 }, Height { start: 10.0, inner: 2.0, outer: 3.0 }];
+    let m7 = Oracle::new(&with(&[Lane { heights, ..lane(false, 3.0) }], &[]));
+    assert_eq!([5.0, 12.0].map(|s| m7.heights(0, s, 0.0)[0]), [[1.0, 2.0], [2.0, 3.0]]);
+    // The tangent that is given takes the place of the bank's, and the bank's own gives what the Rust puts together.
+    let mut tilted = 0;
+    for _ in 0..2_000 {
+        let road = generate::admitted(rng).0;
+        let (o, bank) = (Oracle::new(&road), Records::new(&road.bank));
+        let s = rng.between(0.0, road.length);
+        let phi = bank.active(s).map_or(0.0, |i| bank.eval(i, s));
+        let section = o.section_at(s);
+        let (given, own) = (o.across_by(section, s, stand_ins::tan(phi)), o.across(section, s));
+        assert!(given.iter().map(|a| (a.id(), a.numbers())).eq(own.iter().map(|a| (a.id(), a.numbers()))));
+        let flat = o.across_by(section, s, 0.0);
+        tilted += usize::from(flat.iter().zip(&own).any(|(a, b)| a.numbers() != b.numbers()));
+    }
+    assert!(tilted >= 20, "too few roads with a level lane on a bank: {tilted}");
+}
+
+/// Of the roads for what lies across: how many have each feature, at a station of theirs.
+fn across(rng: &mut Rng) {
+    let features: &[(&str, fn(&Road, &[[f64; 3]]) -> bool)] = &[
+        ("12 lanes", |_, b| b.len() == 12),
+        ("widths alone", |r, b| b.len() > 1 && r.lanes().all(|l| !l.border)),
+        ("widths and borders", |r, _| r.lanes().any(|l| l.border) && r.lanes().any(|l| !l.border)),
+        ("three lanes wide", |_, b| b.iter().filter(|b| b[2] > 0.0).count() >= 3),
+        ("wide beyond narrow", |_, b| b.windows(2).any(|w| w[0][2] == 0.0 && w[1][2] > 0.0 && w[0][1] == w[1][0])),
+        ("level inside others", |r, _| r.sections.iter().any(|s| s.left.iter().rev().skip(1).any(|l| l.level))),
+        ("lane heights", |r, _| r.lanes().any(|l| l.heights.len() > 1)),
+        ("profiles", |r, _| r.profiles.len() > 1),
+        ("outer strips", |r, _| r.strips[1].is_some() || r.strips[3].is_some()),
+        ("strips and profiles", |r, _| r.strips.iter().any(Option::is_some) && !r.profiles.is_empty()),
+        ("records before 0", |r, _| r.lanes().any(|l| l.extents.iter().any(|c| c.start < 0.0))),
+        ("no record at 0", |r, _| r.lanes().any(|l| l.extents.first().is_some_and(|c| c.start > 0.0))),
+    ];
+    let mut with = vec![0; features.len()];
+    for _ in 0..2_000 {
+        let road = generate::across(rng).0;
+        let (o, s) = (Oracle::new(&road), rng.between(0.0, road.length));
+        let borders = o.borders(o.section_at(s), s);
+        features.iter().zip(&mut with).for_each(|((_, has), n)| *n += usize::from(has(&road, &borders)));
+    }
+    println!("2000 roads for what lies across");
+    for ((name, _), n) in features.iter().zip(with) {
+        println!("    {name:<20} {n}");
+        assert!(n >= 20, "too few roads with: {name}");
+    }
+}
+
 /// Of the generated roads: admitted, the same after memory and back, and how many have each feature.
 fn generator(rng: &mut Rng) {
     let features: &[(&str, fn(&Road) -> bool)] = &[
@@ -118,6 +189,8 @@ fn main() {
     stand_ins_are_near(&mut rng);
     admission_runs(&mut rng);
     oracle(&mut rng);
+    marked(&mut rng);
+    across(&mut rng);
     generator(&mut rng);
     println!("self test: passed");
 }

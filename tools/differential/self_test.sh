@@ -13,6 +13,7 @@ build=target/differential
 
 source=../shared/docs/src
 archive=
+probes=
 stub=yes
 quick=
 edits=$here/edits.txt
@@ -54,6 +55,44 @@ must_differ() {
 for fault in root hypot "sine range" sine tan narrow counts bank rows early tail leading; do
   RIFTKETTLE_FAULT=$fault must_differ "fault $fault"
 done
+# Faults of stub_lanes.rs, each with the comparison that must find it.
+while IFS=: read -r fault only; do
+  RIFTKETTLE_FAULT=$fault must_differ "fault $fault in $only" --only "$only"
+done << 'FAULTS'
+horner:eval
+slope:slope
+first active:active
+leading active:active
+nanometre:active
+active at:active
+between:shape
+extrapolate:shape
+before shapes:shape
+before profiles:shape
+ridge:cross section
+no width:cross section
+relative:cross section
+first active:height
+toward:lane heights
+level:lane heights
+level group:lane heights
+extrapolate:lane heights
+into:lane heights
+negative width:lane heights
+first active:borders
+no border:borders
+into:borders
+negative width:borders
+row 11 first:borders
+room for 12:borders
+list early:borders
+list tail:borders
+strict:lane named
+beyond:lane named
+zero wide:lane named
+row 8 first:lane named
+negative width:lane named
+FAULTS
 if [ -z "$quick" ]; then
   text=$(sed 's/^use crate::model/use comparison::model/' "$here/admission.rs")
   while IFS= read -r line; do

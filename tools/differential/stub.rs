@@ -10,6 +10,8 @@ use std::panic::{AssertUnwindSafe, catch_unwind};
 use std::slice::{from_raw_parts, from_raw_parts_mut};
 use std::sync::OnceLock;
 
+mod stub_lanes;
+
 // An edited copy of the second admission, made by self_test.sh.
 #[cfg(edited)]
 #[path = "../../target/differential/edited.rs"]
