@@ -103,9 +103,10 @@ impl List {
         self.fill('s', 0, &rust.samples(), 4, count);
     }
 
+    /// Numbers of the lent slice from a place on, as many as there are up to a count.
     pub fn lent(&mut self, place: usize, count: usize) {
-        let shown = self.lent[place..place + count].to_vec();
-        self.ask('e', place as u64, count as u64, &[], &shown);
+        let shown: Vec<f64> = self.lent[place..].iter().copied().take(count).collect();
+        self.ask('e', place as u64, shown.len() as u64, &[], &shown);
     }
 
     pub fn pose(&mut self, rust: &Oracle, geometry: usize, s: f64) {

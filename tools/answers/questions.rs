@@ -1,4 +1,5 @@
 // What is asked of each road: most stations lie where a record starts, at it or some nanometres beside it.
+use crate::roads::With;
 use crate::{List, roads};
 use comparison::model::*;
 use comparison::oracle::{Oracle, Records};
@@ -97,9 +98,10 @@ fn shift(road: &Road, s: f64) -> f64 {
 fn offset(rng: &mut Rng, road: &Road, rust: &Oracle, s: f64) -> f64 {
     let mut places = rust.borders(rust.section_at(s), s).concat();
     places.extend(road.profiles.iter().flat_map(|p| &p.shapes).map(|c| c.start));
-    places.extend([rust.base(s), shift(road, s), 80.0, -80.0]);
-    let t = match rng.below(4) {
+    places.extend([rust.base(s), 80.0, -80.0]);
+    let t = match rng.below(6) {
         0 => rng.between(-30.0, 30.0),
+        1 => beside(rng, &[shift(road, s)]),
         _ => beside(rng, &places),
     };
     t.clamp(-80.0, 80.0)
@@ -125,10 +127,10 @@ fn lane_questions(list: &mut List, rng: &mut Rng, road: &Road, rust: &Oracle, s:
 }
 
 pub fn lanes(list: &mut List, rng: &mut Rng) {
-    for _ in 0..46 {
-        let road = roads::lanes(list, rng);
+    for i in 0..36 {
+        let road = roads::lanes(list, rng, [With::Strips, With::Profiles, With::Anything][i % 3]);
         let (rust, starts) = (Oracle::new(&road), starts(&road));
-        for _ in 0..10 {
+        for _ in 0..13 {
             let s = station(rng, &road, &starts);
             lane_questions(list, rng, &road, &rust, s);
         }

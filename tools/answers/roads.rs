@@ -2,6 +2,7 @@
 use crate::List;
 use comparison::generate;
 use comparison::model::*;
+use comparison::oracle::Oracle;
 use comparison::random::Rng;
 
 /// The places of memory that a road names, and what it puts there.
@@ -21,14 +22,13 @@ fn laid(rng: &mut Rng, road: &Road) -> Option<Laid> {
 }
 
 /// The first of the drafts that is admitted and takes at most so many lines; it is put into the list.
-fn put(list: &mut List, rng: &mut Rng, most: usize, draft: impl Fn(&mut Rng) -> Road) -> Road {
+fn put(list: &mut List, rng: &mut Rng, most: usize, draft: impl Fn(&mut Rng) -> Option<Road>) -> Road {
     loop {
-        let road = draft(rng);
-        if let Some(laid) = laid(rng, &road) {
-            if list.changes(&laid) <= most && admitted(rng, &road) {
-                list.put(&road, &laid);
-                return road;
-            }
+        let Some(road) = draft(rng) else { continue };
+        let Some(laid) = laid(rng, &road) else { continue };
+        if list.changes(&laid) <= most && admitted(rng, &road) {
+            list.put(&road, &laid);
+            return road;
         }
     }
 }
@@ -38,28 +38,70 @@ fn admitted(rng: &mut Rng, road: &Road) -> bool {
     memory.is_some_and(|m| comparison::admission::admit(&m.words, &m.numbers) == 0)
 }
 
-/// A road with a reference line only, of a few geometries; every third has a spiral of many samples.
+/// A road with a reference line only, of a few geometries; half of them have spirals, some an arc at the limits of curvature.
 pub fn line(list: &mut List, rng: &mut Rng) -> Road {
-    let many = rng.one_in(3);
+    let spiral = rng.one_in(2);
     put(list, rng, 90, |rng| {
-        let Road { length, geoms, .. } = generate::draft(rng);
-        let sections = vec![Section::default()];
-        let road = Road { length, geoms, sections, ..Road::default() };
-        if (road.spirals() > 0) == many || rng.one_in(2) { road } else { Road::default() }
+        let Road { length, mut geoms, .. } = generate::draft(rng);
+        if rng.one_in(3) {
+            let last = geoms.len() - 1;
+            geoms[last].shape = Shape::Arc(rng.pick(&[1e-9, -1e-9, 0.00001, -0.00001, 1.0, -1.0]));
+        }
+        let road = Road { length, geoms, sections: vec![Section::default()], ..Road::default() };
+        ((road.spirals() > 0) == spiral).then_some(road)
     })
 }
 
-/// A road with lanes of every kind, and with profiles, strips and a bank.
-pub fn lanes(list: &mut List, rng: &mut Rng) -> Road {
-    put(list, rng, 130, |rng| {
-        let mut road = if rng.one_in(3) { generate::draft(rng) } else { generate::across(rng).0 };
+/// What a road with lanes has beside them.
+#[derive(Clone, Copy)]
+pub enum With {
+    Strips,
+    Profiles,
+    Anything,
+}
+
+/// A road with lanes of every kind and a bank.
+pub fn lanes(list: &mut List, rng: &mut Rng, with: With) -> Road {
+    put(list, rng, 190, |rng| {
+        let mut road = if rng.one_in(4) { generate::draft(rng) } else { generate::across(rng).0 };
         road.geoms = vec![Geom { s: 0.0, x: 0.0, y: 0.0, hdg: 0.0, length: road.length, shape: Shape::Line }];
         road.elev.clear();
         if road.bank.is_empty() {
             road.bank = bank(rng, road.length);
         }
-        if road.lanes().count() > 1 { road } else { Road::default() }
+        shorten(rng, &mut road);
+        let fits = match with {
+            With::Strips => road.strips.iter().flatten().count() > 1,
+            With::Profiles => !road.profiles.is_empty(),
+            With::Anything => true,
+        };
+        (fits && wide(&road)).then_some(road)
     })
+}
+
+/// Keeps the last records of each list, which leaves their reaches as they are, and the inner lanes of each side.
+fn shorten(rng: &mut Rng, road: &mut Road) {
+    fn last<T>(list: &mut Vec<T>, most: usize) {
+        list.drain(..list.len().saturating_sub(most));
+    }
+    let strips = road.strips.iter_mut().flatten().flat_map(|strip| &mut strip.lists);
+    [&mut road.bank, &mut road.offset, &mut road.tshift].into_iter().chain(strips).for_each(|l| last(l, rng.from_to(1, 2)));
+    last(&mut road.profiles, 3);
+    road.profiles.iter_mut().for_each(|p| last(&mut p.shapes, rng.from_to(1, 3)));
+    for side in road.sections.iter_mut().flat_map(|section| [&mut section.left, &mut section.right]) {
+        side.truncate(rng.from_to(2, 4));
+        for lane in side {
+            last(&mut lane.extents, rng.from_to(1, 3));
+            last(&mut lane.heights, 3);
+        }
+    }
+}
+
+/// At least two lanes, and half of those in the middle of the road have a width.
+fn wide(road: &Road) -> bool {
+    let (rust, s) = (Oracle::new(road), 0.5 * road.length);
+    let lanes = rust.borders(rust.section_at(s), s);
+    lanes.len() > 1 && lanes.len() <= 2 * lanes.iter().filter(|b| b[2] > 0.0).count()
 }
 
 /// One or two records of a bank.

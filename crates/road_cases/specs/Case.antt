@@ -3,7 +3,7 @@ use Prim.Native.Nat.{ℕ, _+_, _^_, _/_, _%_}
 use mathlib.Core.Bool.{cond}
 use mathlib.Core.List.{List}
 use lib.Dec.{eqb}
-use lib.ListN.{length, getD}
+use lib.ListN.{getD}
 use lib.Ieee.{Float, binary64, ofBits, ofInt, toBits, eq, neg, nan}
 use Rattle.float_laws.specs.Binary64.{f64, zero64}
 use Rattle.arithmetic.specs.Answer.{Answer, value, refused}

@@ -27,10 +27,39 @@ fn show(letter: u8, a: u64, b: u64, n: u64, words: &[u16], numbers: &[f64], lent
 }
 
 // How many samples or lanes were written, and the slice's first n numbers.
-fn show_filled(letter: u8, s: u64, n: u64, words: &[u16], numbers: &[f64], lent: &mut [f64]) {
+fn show_filled(
+    letter: u8,
+    s: u64,
+    n: u64,
+    words: &[u16],
+    numbers: &[f64],
+    lent: &mut [f64],
+) -> bool {
     io::print_hex(STDOUT_FILENO, fill(letter, s, words, numbers, lent), 16);
     io::write_all(STDOUT_FILENO, b" ");
     show(b'e', 0, 0, n, words, numbers, lent);
+    true
+}
+
+// How many numbers the answer to a letter has; none where the letter is unknown.
+fn count(letter: u8, b: u64) -> u64 {
+    match letter {
+        b'e' => b,
+        b'p' => 3,
+        b'h' => 4,
+        b't' => 2,
+        b'l' => 1,
+        _ => 0,
+    }
+}
+
+fn show_known(letter: u8, a: u64, b: u64, words: &[u16], numbers: &[f64], lent: &[f64]) -> bool {
+    let n = count(letter, b);
+    if n == 0 {
+        return false;
+    }
+    show(letter, a, b, n, words, numbers, lent);
+    true
 }
 
 // A change or a question; false where the letter, a place or a value is unknown.
@@ -43,18 +72,12 @@ fn apply(
     lent: &mut [f64],
 ) -> bool {
     match letter {
-        b'w' => return put_word(words, a, b),
-        b'n' => return put_number(numbers, a, b),
+        b'w' => put_word(words, a, b),
+        b'n' => put_number(numbers, a, b),
         b's' => show_filled(letter, a, b, words, numbers, lent),
         b'b' => show_filled(letter, a, b, words, numbers, lent),
-        b'e' => show(letter, a, b, b, words, numbers, lent),
-        b'p' => show(letter, a, b, 3, words, numbers, lent),
-        b'h' => show(letter, a, b, 4, words, numbers, lent),
-        b't' => show(letter, a, b, 2, words, numbers, lent),
-        b'l' => show(letter, a, b, 1, words, numbers, lent),
-        _ => return false,
+        _ => show_known(letter, a, b, words, numbers, lent),
     }
-    true
 }
 
 // Every whole line of a text. One that breaks the form has the letter 0, which is unknown too.
