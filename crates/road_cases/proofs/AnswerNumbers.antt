@@ -1,0 +1,18 @@
+-- The number of an answer, from the case of the enum that was found and what the call ensures of it.
+use Prim.Native.Nat.{ℕ}
+use mathlib.Core.Path.{_≡_, ap, sym, _∙_}
+use lib.Ieee.{Float}
+use Rattle.arithmetic.specs.Answer.{Answer}
+use Rattle.lanes.specs.declared.across.LaneName.{LaneName}
+use Rattle.lane_calls.specs.LaneCalls.{nameAnswer}
+use Rattle.lane_calls.specs.declared.asking.Named.{Named}
+use Rattle.road_cases.specs.Case.{countWord, nameNumber}
+
+-- an enum of a count or a refusal, through the definition of its answer
+module _ {E : Type 0} (of : E → Answer ℕ) {v u : E} {a : Answer ℕ} (q : of v ≡ a) (p : v ≡ u) where
+  pub word-of : {n : ℕ} → n ≡ countWord (of u) → n ≡ countWord a
+  word-of e = e ∙ ap (λ (x : E). countWord (of x)) (sym p) ∙ ap countWord q
+
+module _ {v u : Named} {a : Answer LaneName} (q : nameAnswer v ≡ a) (p : v ≡ u) where
+  pub name-of : {x : Float} → x ≡ nameNumber (nameAnswer u) → x ≡ nameNumber a
+  name-of e = e ∙ ap (λ (y : Named). nameNumber (nameAnswer y)) (sym p) ∙ ap nameNumber q

@@ -1,0 +1,2 @@
+pub mod AnswerNumbers
+pub mod Nans

@@ -1,0 +1,125 @@
+// What the crates answer, number by number.
+ghost use mathlib.Core.Path.{_≡_};
+ghost use lib.ListN.{length};
+ghost use Rattle.records.specs.Roads.{roadOf};
+ghost use Rattle.reference_line.specs.Poses.{poseOf};
+ghost use Rattle.admission.specs.Samples.{sampledOf, sampledList};
+ghost use Rattle.lane_calls.specs.LaneCalls.{bordersOf, bordersList, namedOf};
+ghost use Rattle.road_cases.specs.Case.{posePart, acrossPart, laneAcross, towardOf, countWord, nameNumber, answerOf, filledOf, filledList};
+use admission::Sampled;
+use hexadecimal::of_bits;
+use lane_calls::Bordered;
+use lane_calls::Named;
+
+// x, y and heading of a pose.
+fn pose_part(
+    words: &[u16],
+    numbers: &[f64],
+    samples: &[f64],
+    geometry: u64,
+    s: f64,
+    part: u64,
+) -> f64
+    ensures { λ r. ⌜ r ≡ posePart (poseOf (roadOf (now (words .entry)) (now (numbers .entry))) (now (samples .entry)) geometry s) part ⌝ }
+{
+    let p = reference_line::pose(words, numbers, samples, geometry as usize, s);
+    match part {
+        0 => p.x,
+        1 => p.y,
+        _ => p.heading,
+    }
+}
+
+// The two borders of a lane and its height at each.
+fn across_part(words: &[u16], numbers: &[f64], s: f64, lane: u64, part: u64) -> f64
+    ensures { λ r. ⌜ r ≡ acrossPart (laneAcross (roadOf (now (words .entry)) (now (numbers .entry))) s lane) part ⌝ }
+{
+    let bank = records::value(records::superelevations(words, numbers), s);
+    let a = lanes::lane_across(
+        words,
+        numbers,
+        records::section_at(words, numbers, s),
+        s,
+        arithmetic::tan(bank),
+        lane % 2 == 1,
+        (lane / 2) as usize,
+    );
+    match part {
+        0 => a.inner_t,
+        1 => a.outer_t,
+        2 => a.inner_height,
+        _ => a.outer_height,
+    }
+}
+
+// The side that a part asks for: left, then right.
+fn toward(part: u64) -> f64
+    ensures { λ r. ⌜ r ≡ towardOf part ⌝ }
+{
+    if part == 0 { 1.0 } else { -1.0 }
+}
+
+// The id of the lane at t, 0 for none.
+fn name(words: &[u16], numbers: &[f64], s: f64, t: f64) -> f64
+    ensures { λ r. ⌜ r ≡ nameNumber (namedOf (now (words .entry)) (now (numbers .entry)) s t) ⌝ }
+{
+    match lane_calls::lane_named(words, numbers, s, t) {
+        Named::Lane(id) => id as f64,
+        Named::Nothing => 0.0,
+        Named::Refused(_) => 0.0 / 0.0,
+    }
+}
+
+// The part of an answer that a letter asks for; lent holds the samples, or what was last written into it.
+pub(crate) fn answer(
+    letter: u8,
+    a: u64,
+    b: u64,
+    part: u64,
+    words: &[u16],
+    numbers: &[f64],
+    lent: &[f64],
+) -> f64
+    ensures { λ r. ⌜ r ≡ answerOf letter a b part (now (words .entry)) (now (numbers .entry)) (now (lent .entry)) ⌝ }
+{
+    let x = of_bits(a);
+    let y = of_bits(b);
+    match letter {
+        b'p' => pose_part(words, numbers, lent, a, y, part),
+        b'h' => across_part(words, numbers, x, b, part),
+        b't' => lateral::height_toward(words, numbers, x, y, toward(part)),
+        b'l' => name(words, numbers, x, y),
+        _ => records::number(lent, std::num::wrapping_add_u64(a, part) as usize),
+    }
+}
+
+fn samples_word(words: &[u16], numbers: &[f64], lent: &mut [f64]) -> u64
+    ensures { λ r. ⌜ r ≡ countWord (sampledOf (now (words .entry)) (now (numbers .entry)) (length (now (lent .entry)))) ⌝ }
+    ensures { λ r. ⌜ now (lent .exit) ≡ sampledList (now (words .entry)) (now (numbers .entry)) (now (lent .entry)) ⌝ }
+{
+    match admission::samples(words, numbers, lent) {
+        Sampled::Made(n) => std::num::wrapping_add_u64(n as u64, 0x8000_0000_0000_0000),
+        Sampled::Refused(why) => arithmetic::number(why) as u64,
+    }
+}
+
+fn borders_word(words: &[u16], numbers: &[f64], s: f64, lent: &mut [f64]) -> u64
+    ensures { λ r. ⌜ r ≡ countWord (bordersOf (now (words .entry)) (now (numbers .entry)) s (length (now (lent .entry)))) ⌝ }
+    ensures { λ r. ⌜ now (lent .exit) ≡ bordersList (now (words .entry)) (now (numbers .entry)) s (now (lent .entry)) ⌝ }
+{
+    match lane_calls::borders(words, numbers, s, lent) {
+        Bordered::Lanes(n) => std::num::wrapping_add_u64(n as u64, 0x8000_0000_0000_0000),
+        Bordered::Refused(why) => arithmetic::number(why) as u64,
+    }
+}
+
+// Writes the borders at s for the letter b, the samples for any other, and answers how many.
+pub(crate) fn fill(letter: u8, s: u64, words: &[u16], numbers: &[f64], lent: &mut [f64]) -> u64
+    ensures { λ r. ⌜ r ≡ countWord (filledOf letter s (now (words .entry)) (now (numbers .entry)) (length (now (lent .entry)))) ⌝ }
+    ensures { λ r. ⌜ now (lent .exit) ≡ filledList letter s (now (words .entry)) (now (numbers .entry)) (now (lent .entry)) ⌝ }
+{
+    if letter == b'b' {
+        return borders_word(words, numbers, of_bits(s), lent);
+    }
+    samples_word(words, numbers, lent)
+}

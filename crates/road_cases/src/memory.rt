@@ -1,0 +1,49 @@
+// The road in memory, the slice that calls write into, and the text of the list.
+ghost use mathlib.Core.Path.{_≡_};
+ghost use lib.ListN.{length};
+
+// Puts a word at a place of the road; false where there is no such place or the value is no word.
+pub(crate) fn put_word(words: &mut [u16], place: u64, value: u64) -> bool {
+    if words.len() as u64 <= place {
+        return false;
+    }
+    if 65536 <= value {
+        return false;
+    }
+    words[place as usize] = value as u16;
+    true
+}
+
+// Puts the f64 of a pattern at a place of the road; false where there is no such place.
+pub(crate) fn put_number(numbers: &mut [f64], place: u64, bits: u64) -> bool {
+    if numbers.len() as u64 <= place {
+        return false;
+    }
+    numbers[place as usize] = hexadecimal::of_bits(bits);
+    true
+}
+
+pub(crate) fn word_space() -> [u16; 1347]
+    ensures { λ r. ⌜ 1347 ≡ length r ⌝ }
+{
+    [0; 1347]
+}
+
+pub(crate) fn number_space() -> [f64; 7937]
+    ensures { λ r. ⌜ 7937 ≡ length r ⌝ }
+{
+    [0.0; 7937]
+}
+
+pub(crate) fn lent_space() -> [f64; 8000]
+    ensures { λ r. ⌜ 8000 ≡ length r ⌝ }
+{
+    [0.0; 8000]
+}
+
+// Room for 12,800 lines.
+pub(crate) fn text_space() -> [u8; 460800]
+    ensures { λ r. ⌜ 460800 ≡ length r ⌝ }
+{
+    [0; 460800]
+}
