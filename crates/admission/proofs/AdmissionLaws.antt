@@ -8,14 +8,14 @@ use lib.Dec.{leb}
 use lib.Ieee.{Float}
 use lib.ListN.{length, drop}
 use borrow.Author.Tests.{not-true, not-false, le-leb, lt-leb, leb-true}
-use Rattle.arithmetic.specs.Answer.{Answer, value, refused, Row, checked}
-use Rattle.arithmetic.specs.Refusal.{numberOf}
-use Rattle.arithmetic.specs.declared.refusals.Refusal.{Refusal}
+use Rattle.refusals.specs.Answer.{Answer, value, refused, Row, checked}
+use Rattle.refusals.specs.Refusal.{numberOf}
+use Rattle.refusals.specs.declared.refusals.Refusal.{Refusal}
 use Rattle.records.specs.Roads.{roadOf}
 use Rattle.structure.specs.Structure.{structured}
 use Rattle.structure.specs.Order.{ordered}
-use Rattle.limits.specs.Limits.{limited}
-use Rattle.reference_line.specs.Spiral.{samplesNeeded, samplesOf}
+use Rattle.bounds.specs.Limits.{limited}
+use Rattle.spirals.specs.Spiral.{samplesNeeded, samplesOf}
 use Rattle.admission.specs.declared.admitting.Verdict.{Verdict}
 use Rattle.admission.specs.declared.admitting.Verdict.the-variants.{Admitted, Refused}
 use Rattle.admission.specs.Admission.{roadRows, admissionOf, admitted, answerOf}

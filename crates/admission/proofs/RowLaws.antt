@@ -4,8 +4,8 @@ use native.Mathlib.Omega.{arith}
 use mathlib.Core.Path.{_≡_, refl}
 use mathlib.Core.Bool.{Bool, true, false, cond, _&&_}
 use mathlib.Core.List.{List, [], _∷_, _++_}
-use Rattle.arithmetic.specs.Answer.{Answer, value, refused, Row, checked}
-use Rattle.arithmetic.specs.Refusal.{numberOf}
+use Rattle.refusals.specs.Answer.{Answer, value, refused, Row, checked}
+use Rattle.refusals.specs.Refusal.{numberOf}
 use Rattle.admission.specs.Admission.{pass}
 
 module _ {A : Type 0} where

@@ -11,9 +11,9 @@ use lib.Ieee.{Float}
 use Rattle.records.specs.declared.points.GeomRec.{GeomRec}
 use Rattle.records.specs.declared.points.GeomShape.the-variants.{Line, Arc, Spiral}
 use Rattle.records.specs.Roads.{Road, geomAt}
-use Rattle.reference_line.specs.declared.line.Sample.{Sample}
-use Rattle.reference_line.specs.Spiral.{spiralSteps, sampleCount, samplesBefore, samplesNeeded, firstSample, nextSample, samplesAfter, geomSamples, samplesUpTo, flat, samplesOf}
-use Rattle.reference_line.proofs.SpiralLaws.{count-spiral, before-next, before-mono, samples-are, up-to-next, length-up-to, length-flat, flat-append, length-samples-of}
+use Rattle.spirals.specs.declared.line.Sample.{Sample}
+use Rattle.spirals.specs.Spiral.{spiralSteps, sampleCount, samplesBefore, samplesNeeded, firstSample, nextSample, samplesAfter, geomSamples, samplesUpTo, flat, samplesOf}
+use Rattle.spirals.proofs.SpiralLaws.{count-spiral, before-next, before-mono, samples-are, up-to-next, length-up-to, length-flat, flat-append, length-samples-of}
 
 pub sets-append : {A : Type 0} (vs ws l : List A) (i : ℕ) → sets l i (vs ++ ws) ≡ sets (sets l i vs) (i + length vs) ws
 sets-append [] ws l i = ap (λ (k : ℕ). sets l k ws) (sym (add-zero i))

@@ -4,14 +4,14 @@ use mathlib.Core.List.{List, [], _∷_}
 use Prim.Native.Nat.{ℕ}
 use lib.Dec.{leb}
 use lib.Ieee.{Float}
-use Rattle.arithmetic.specs.Answer.{Answer, value, refused, Row, row, checked}
-use Rattle.arithmetic.specs.Refusal.{numberOf}
-use Rattle.arithmetic.specs.declared.refusals.Refusal.the-variants.{Structure, Range, SampleBudget}
+use Rattle.refusals.specs.Answer.{Answer, value, refused, Row, row, checked}
+use Rattle.refusals.specs.Refusal.{numberOf}
+use Rattle.refusals.specs.declared.refusals.Refusal.the-variants.{Structure, Range, SampleBudget}
 use Rattle.records.specs.Roads.{roadOf}
 use Rattle.structure.specs.Structure.{structured}
 use Rattle.structure.specs.Order.{ordered}
-use Rattle.limits.specs.Limits.{limited}
-use Rattle.reference_line.specs.Spiral.{samplesNeeded}
+use Rattle.bounds.specs.Limits.{limited}
+use Rattle.spirals.specs.Spiral.{samplesNeeded}
 use Rattle.admission.specs.declared.admitting.Verdict.{Verdict}
 use Rattle.admission.specs.declared.admitting.Verdict.the-variants.{Admitted, Refused}
 

@@ -4,11 +4,11 @@ use mathlib.Core.List.{List, [], _∷_, _++_}
 use lib.ListN.{length, drop}
 use lib.Dec.{leb}
 use lib.Ieee.{Float}
-use Rattle.arithmetic.specs.Answer.{Answer, value, refused, Row, row, checked}
-use Rattle.arithmetic.specs.Refusal.{numberOf}
-use Rattle.arithmetic.specs.declared.refusals.Refusal.the-variants.{SampleSpace}
+use Rattle.refusals.specs.Answer.{Answer, value, refused, Row, row, checked}
+use Rattle.refusals.specs.Refusal.{numberOf}
+use Rattle.refusals.specs.declared.refusals.Refusal.the-variants.{SampleSpace}
 use Rattle.records.specs.Roads.{roadOf}
-use Rattle.reference_line.specs.Spiral.{samplesNeeded, samplesOf}
+use Rattle.spirals.specs.Spiral.{samplesNeeded, samplesOf}
 use Rattle.admission.specs.declared.sampling.Sampled.{Sampled}
 use Rattle.admission.specs.declared.sampling.Sampled.the-variants.{Made, Refused}
 use Rattle.admission.specs.Admission.{roadRows}

@@ -1,5 +1,5 @@
 // Whether a lent road is admitted.
-use arithmetic::Refusal;
+use refusals::Refusal;
 ghost use mathlib.Core.Path.{_≡_};
 ghost use Rattle.admission.specs.Admission.{admissionOf, answerOf};
 
@@ -15,13 +15,13 @@ pub fn admit(words: &[u16], numbers: &[f64]) -> Verdict
     if !structure::structured(words, numbers) {
         return Verdict::Refused(Refusal::Structure);
     }
-    if !structure::ordered(words, numbers) {
+    if !ordering::ordered(words, numbers) {
         return Verdict::Refused(Refusal::Structure);
     }
     if !limits::limited(words, numbers) {
         return Verdict::Refused(Refusal::Range);
     }
-    if !reference_line::samples_fit(words, numbers) {
+    if !spirals::samples_fit(words, numbers) {
         return Verdict::Refused(Refusal::SampleBudget);
     }
     Verdict::Admitted

@@ -1,18 +1,18 @@
 // The samples of a road's spirals, written into a lent slice, four f64 each: distance, x, y, heading.
 use crate::admitting::Verdict;
 use crate::admitting::admit;
-use arithmetic::Refusal;
 use records::GeomRec;
 use records::GeomShape;
-use reference_line::Sample;
+use refusals::Refusal;
+use spirals::Sample;
 ghost use mathlib.Core.Path.{_≡_};
 ghost use mathlib.Core.List.{[], _∷_, _++_};
 ghost use Prim.Native.Nat.{_+_, _*_, _≤_};
 ghost use lib.ListN.{length, drop};
 ghost use lib.Seq.{sets};
-ghost use Rattle.arithmetic.specs.Answer.{value, checked};
+ghost use Rattle.refusals.specs.Answer.{value, checked};
 ghost use Rattle.records.specs.Roads.{roadOf};
-ghost use Rattle.reference_line.specs.Spiral.{sampleCount, samplesNeeded, samplesAfter, samplesOf, geomSamples, flat};
+ghost use Rattle.spirals.specs.Spiral.{sampleCount, samplesNeeded, samplesAfter, samplesOf, geomSamples, flat};
 ghost use Rattle.admission.specs.Samples.{answerOf, needed, sampleRow, sampledOf, writtenBy, sampledList};
 
 pub enum Sampled {
@@ -40,7 +40,7 @@ fn write_steps(g: GeomRec, k0: f64, k1: f64, p: Sample, samples: &mut [f64], at:
     let mut last = p;
     let mut i = 0;
     while i < n {
-        last = reference_line::next_sample(g, k0, k1, last);
+        last = spirals::next_sample(g, k0, k1, last);
         put(samples, at + i * 4, last);
         i += 1;
     }
@@ -54,7 +54,7 @@ fn write_geom(g: GeomRec, samples: &mut [f64], at: usize, n: usize)
     let shape = g.shape;
     match shape {
         GeomShape::Spiral(k0, k1) => {
-            let first = reference_line::first_sample(g);
+            let first = spirals::first_sample(g);
             put(samples, at, first);
             write_steps(g, k0, k1, first, samples, at + 4, n - 1);
         }
@@ -72,8 +72,8 @@ fn write_all(words: &[u16], numbers: &[f64], samples: &mut [f64])
     let mut at = 0;
     let mut i = 0;
     while i < n {
-        let g = records::geom(words, numbers, i);
-        let count = reference_line::sample_count(g);
+        let g = geometry::geom(words, numbers, i);
+        let count = spirals::sample_count(g);
         write_geom(g, samples, at, count);
         at += count * 4;
         i += 1;
@@ -85,7 +85,7 @@ fn make(words: &[u16], numbers: &[f64], samples: &mut [f64]) -> Sampled
     ensures { λ r. ⌜ answerOf r ≡ checked (sampleRow (now (words .entry)) (now (numbers .entry)) (length (now (samples .entry))) ∷ []) (value (needed (now (words .entry)) (now (numbers .entry)))) ⌝ }
     ensures { λ r. ⌜ now (samples .exit) ≡ writtenBy (now (words .entry)) (now (numbers .entry)) (answerOf r) (now (samples .entry)) ⌝ }
 {
-    let n = reference_line::samples_needed(words, numbers);
+    let n = spirals::samples_needed(words, numbers);
     if samples.len() / 4 < n {
         return Sampled::Refused(Refusal::SampleSpace);
     }

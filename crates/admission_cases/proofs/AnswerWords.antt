@@ -4,9 +4,9 @@ use mathlib.Core.Path.{_≡_, ap, sym, _∙_}
 use mathlib.Core.List.{List}
 use borrow.Author.Tests.{eq-eqb, ne-eqb}
 use lib.Ieee.{Float}
-use Rattle.arithmetic.specs.Answer.{Answer}
-use Rattle.arithmetic.specs.Refusal.{numberOf}
-use Rattle.arithmetic.specs.declared.refusals.Refusal.{Refusal}
+use Rattle.refusals.specs.Answer.{Answer}
+use Rattle.refusals.specs.Refusal.{numberOf}
+use Rattle.refusals.specs.declared.refusals.Refusal.{Refusal}
 use Rattle.admission.specs.Admission.{admissionOf}
 use Rattle.admission.specs.Admission as admission
 use Rattle.admission.specs.Samples.{sampledOf}

@@ -4,7 +4,7 @@ use mathlib.Core.Bool.{cond}
 use mathlib.Core.List.{List}
 use lib.Dec.{eqb}
 use lib.Ieee.{Float}
-use Rattle.arithmetic.specs.Answer.{Answer, value, refused}
+use Rattle.refusals.specs.Answer.{Answer, value, refused}
 use Rattle.admission.specs.Admission.{admissionOf}
 use Rattle.admission.specs.Samples.{sampledOf}
 

@@ -12,7 +12,7 @@ pub(crate) fn admission_answer(words: &[u16], numbers: &[f64]) -> u64
 {
     match admission::admit(words, numbers) {
         Verdict::Admitted => 0,
-        Verdict::Refused(why) => arithmetic::number(why) as u64,
+        Verdict::Refused(why) => refusals::number(why) as u64,
     }
 }
 
@@ -21,6 +21,6 @@ pub(crate) fn samples_answer(words: &[u16], numbers: &[f64], samples: &mut [f64]
 {
     match admission::samples(words, numbers, samples) {
         Sampled::Made(n) => std::num::wrapping_add_u64(n as u64, 0x8000_0000_0000_0000),
-        Sampled::Refused(why) => arithmetic::number(why) as u64,
+        Sampled::Refused(why) => refusals::number(why) as u64,
     }
 }

@@ -8,12 +8,4 @@ pub mod RootLaws
 pub mod NarrowBits
 pub mod NarrowCases
 pub mod NarrowLaws
-pub mod FloorLaws
-pub mod FloorCases
-pub mod QuotientTable
-pub mod Reduction
-pub mod SineKernel
-pub mod SineLaws
-pub mod SineExamples
-pub mod CountLaws
 pub mod UnitLaws

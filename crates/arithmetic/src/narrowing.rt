@@ -1,11 +1,11 @@
 // An f64 narrowed to an f32, by integer work on the bit pattern: the digits that an f32 has no room for are dropped, to the nearest and half to even.
 //
 // By the exponent's field of the f64: to 872 the value is under half the smallest f32; to 896 it is a subnormal f32, with fewer digits the smaller it is; to 1150 it is a normal one, with 24 digits of the 53; beyond, it is too large.
+use crate::bits::power;
 ghost use mathlib.Core.Path.{_≡_};
-ghost use Prim.Native.Nat.{_<_, _≤_, _^_};
+ghost use Prim.Native.Nat.{_<_, _^_};
 ghost use lib.Ieee.Nearest.{closest};
 ghost use Rattle.arithmetic.specs.Narrow.{narrowed, NarrowsTo};
-use crate::bits::power;
 
 // m / 2^drop to the nearest whole number, half to even: 5 / 2 gives 2, 7 / 2 gives 4. The remainder is doubled to be compared with the half.
 fn nearest_of(m: u64, drop: u64) -> u64

@@ -3,13 +3,13 @@
 // x is m * 2^j of the smallest f64, 2^-1074. Leading zeros move m's leading digit to bit 52, for a subnormal x too, and one digit more makes the power of two that is
 // left even. The root then has 54 digits, one more than an f64 keeps, worked out one by one. A last digit of 1 is never a tie:
 // the number under the root is even, so an odd root is not the whole of it and the exact root lies above the half-way point.
+use crate::bits::power;
 ghost use mathlib.Core.Path.{_≡_};
 ghost use mathlib.Core.Logic.{_⊎_};
-ghost use Prim.Native.Nat.{ℕ, _+_, _-_, _*_, _/_, _%_, _<_, _≤_, _^_};
+ghost use Prim.Native.Nat.{_+_, _-_, _*_, _/_, _%_, _<_, _≤_, _^_};
 ghost use lib.Ieee.{binary64};
 ghost use Rattle.arithmetic.specs.Root.{rootOf, hypotOf};
 ghost use Rattle.arithmetic.specs.RootSteps.{RootOf, RootsTo};
-use crate::bits::power;
 
 // The digits of a root so far, and what is left of the number under it.
 struct Partial {

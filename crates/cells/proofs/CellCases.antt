@@ -6,7 +6,7 @@ use mathlib.Core.List.{List}
 use native.Mathlib.Omega.{arith}
 use borrow.Author.Tests.{lt-ltb, le-ltb, eq-eqb, ne-eqb}
 use lib.Ieee.{Float, nan, inf, fin, isNan}
-use Rattle.cells.specs.Schema.{countOf, placeOf}
+use Rattle.schema.specs.Schema.{countOf, placeOf}
 use Rattle.cells.specs.Cells.{byteAt, nameAt, naturalAt, hexAt, wholeAt, listedAt, cellAt}
 use Rattle.cells.specs.declared.names.Span.{Span}
 use Rattle.cells.specs.declared.values.Cell.{Cell}

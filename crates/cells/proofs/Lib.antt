@@ -1,4 +1,3 @@
 pub mod Inside
-pub mod Places
 pub mod Digits
 pub mod CellCases

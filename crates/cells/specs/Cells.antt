@@ -6,7 +6,7 @@ use mathlib.Core.Bool.{cond}
 use mathlib.Core.List.{List}
 use lib.ListN.{getD}
 use lib.Dec.{leb, ltb, eqb}
-use Rattle.cells.specs.Schema.{countOf, placeOf}
+use Rattle.schema.specs.Schema.{countOf, placeOf}
 use Rattle.cells.specs.declared.names.Span.{Span}
 use Rattle.cells.specs.declared.values.Cell.{Cell}
 use Rattle.cells.specs.declared.values.Cell.the-variants.{Value, Broken}

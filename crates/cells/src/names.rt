@@ -1,7 +1,7 @@
 // A word of the text as one number.
+use crate::bytes::byte_at;
 ghost use mathlib.Core.Path.{_≡_};
 ghost use Rattle.cells.specs.Cells.{nameAt};
-use crate::bytes::byte_at;
 
 // A number that was read, and the place after it.
 pub struct Span {

@@ -1,13 +1,13 @@
 // The cells of a line: an f64, a whole number, one of a list's words.
-ghost use mathlib.Core.Path.{_≡_};
-ghost use Prim.Native.Nat.{_<_};
-ghost use Rattle.cells.specs.Cells.{naturalAt, hexAt, wholeAt, listedAt, cellAt};
 use crate::bytes::byte_at;
 use crate::bytes::digit;
 use crate::names::Span;
 use crate::names::name_at;
-use crate::schema::count_of;
-use crate::schema::place_of;
+use schema::count_of;
+use schema::place_of;
+ghost use mathlib.Core.Path.{_≡_};
+ghost use Prim.Native.Nat.{_<_};
+ghost use Rattle.cells.specs.Cells.{naturalAt, hexAt, wholeAt, listedAt, cellAt};
 
 // A cell as one number: an f64's bit pattern, a whole number and 10,000, or a word's place in its list.
 pub enum Cell {

@@ -1,9 +1,9 @@
 -- Document 01, "What a call gives back", as a C function gives it: 0 and the values behind its pointers, or the number of the refusal, and what is behind them stays.
 use Prim.Native.Nat.{ℕ}
 use lib.IntN.{ℤ, pos}
-use Rattle.arithmetic.specs.Answer.{Answer, value, refused}
-use Rattle.lanes.specs.declared.across.LaneName.{LaneName}
-use Rattle.lanes.specs.declared.across.LaneName.the-variants.{Id, Nothing}
+use Rattle.refusals.specs.Answer.{Answer, value, refused}
+use Rattle.lane_names.specs.declared.names.LaneName.{LaneName}
+use Rattle.lane_names.specs.declared.names.LaneName.the-variants.{Id, Nothing}
 
 -- what the function returns
 abbrev pub codeOf : {A : Type 0} → Answer A → ℕ

@@ -19,7 +19,7 @@ pub extern "C" fn riftkettle_admit(words: &[u16], numbers: &[f64]) -> u32
 {
     match admission::admit(words, numbers) {
         Verdict::Admitted => 0,
-        Verdict::Refused(r) => arithmetic::number(r),
+        Verdict::Refused(r) => refusals::number(r),
     }
 }
 
@@ -40,7 +40,7 @@ pub extern "C" fn riftkettle_samples(
             *made = n;
             0
         }
-        Sampled::Refused(r) => arithmetic::number(r),
+        Sampled::Refused(r) => refusals::number(r),
     }
 }
 
@@ -68,7 +68,7 @@ pub extern "C" fn riftkettle_pose(
             *heading = p.heading;
             0
         }
-        Posed::Refused(r) => arithmetic::number(r),
+        Posed::Refused(r) => refusals::number(r),
     }
 }
 
@@ -90,7 +90,7 @@ pub extern "C" fn riftkettle_borders(
             *lanes = n;
             0
         }
-        Bordered::Refused(r) => arithmetic::number(r),
+        Bordered::Refused(r) => refusals::number(r),
     }
 }
 
@@ -115,6 +115,6 @@ pub extern "C" fn riftkettle_lane_named(
             *id = 0;
             0
         }
-        Named::Refused(r) => arithmetic::number(r),
+        Named::Refused(r) => refusals::number(r),
     }
 }

@@ -14,10 +14,10 @@ use Rattle.float_laws.proofs.Size.{Within, within-of-le, le-of-within, within-m
 use Rattle.records.specs.Active.{reached}
 use Rattle.records.specs.Roads.{Road, roadOf, absent, sectionOf, sectionIndex, profileAt, stripAt}
 use Rattle.records.proofs.RoadLaws.{strip-past}
-use Rattle.structure.proofs.OrderLaws.{Ordered, ordered-is}
+use Rattle.ordering.proofs.OrderLaws.{Ordered, ordered-is}
 use Rattle.structure.proofs.StructureLaws.{structured-is}
-use Rattle.limits.specs.Bounds.{inRange}
-use Rattle.limits.specs.Limits.{onRoad, limited}
+use Rattle.ranges.specs.Bounds.{inRange}
+use Rattle.bounds.specs.Limits.{onRoad, limited}
 use Rattle.limit_laws.proofs.Fitting.{Fits64, Fitting, RoadFits, road-fits}
 use Rattle.limit_laws.proofs.ActiveRecord.{Active, index-active}
 use Rattle.limit_laws.proofs.LimitParts.{and-fst, and-snd, true-T}
@@ -25,7 +25,7 @@ use Rattle.limit_laws.proofs.CubicBounds.{far, reached-real, reached-grows}
 use Rattle.limit_laws.proofs.RoadBounds.{OnRoad, InSection, Across, station-within, section-start-in, section-start-within, extent-within, into-section}
 use Rattle.admission.specs.Admission.{admitted}
 use Rattle.admission.proofs.AdmissionLaws.{admitted-structured, admitted-ordered, admitted-limited}
-use Rattle.lateral.proofs.StationBounds.{far as station-far}
+use Rattle.lateral_laws.proofs.StationBounds.{far as station-far}
 use Rattle.lanes.specs.Borders.{sideOf}
 use Rattle.lanes.proofs.BorderLaws.{eighty}
 

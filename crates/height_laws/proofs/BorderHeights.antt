@@ -13,19 +13,19 @@ use Rattle.float_laws.specs.Binary64.{_⊕_, _⊖_, _⊗_, f64, zero64}
 use Rattle.float_laws.proofs.Value.{pl, mi}
 use Rattle.float_laws.proofs.Size.{Within, within-mono, within-const, sub-within, mul-within}
 use Rattle.float_laws.proofs.Whole.{Whole}
-use Rattle.arithmetic.specs.Sine.{one}
-use Rattle.records.specs.declared.scan.Found.{Found}
-use Rattle.records.specs.declared.scan.Found.the-variants.{At, Nothing}
-use Rattle.records.specs.Cubics.{cubicAt, evalAt}
+use Rattle.trigonometry.specs.Sine.{one}
+use Rattle.records.specs.declared.points.Found.{Found}
+use Rattle.records.specs.declared.points.Found.the-variants.{At, Nothing}
+use Rattle.cubics.specs.Cubics.{cubicAt, evalAt}
 use Rattle.records.specs.Active.{activeIn, valueIn}
 use Rattle.records.specs.Roads.{Road, Lane, noLane, laneOf, sectionIndex}
 use Rattle.records.proofs.CubicLaws.{value-at}
 use Rattle.limit_laws.proofs.RoadBounds.{OnRoad, offset-within, width-within, border-within}
 use Rattle.lateral.specs.declared.heights.Pair.{Pair}
 use Rattle.lateral.specs.Lateral.{notBelowZero, heightToward}
-use Rattle.lateral.proofs.LateralBounds.{two-wide, height-most}
+use Rattle.lateral_laws.proofs.LateralBounds.{two-wide, height-most}
 use Rattle.lanes.specs.Borders.{signOf, borderWidth, widthOf, baseAt, sideOf, bordersAt, bordersOf}
-use Rattle.lanes.specs.Heights.{levelUpTo, levelHeights, tiltedHeights, ownHeights, heightsFrom, heightAfter, heightsAt}
+use Rattle.lane_heights.specs.Heights.{levelUpTo, levelHeights, tiltedHeights, ownHeights, heightsFrom, heightAfter, heightsAt}
 use Rattle.lanes.specs.declared.across.LaneBorders.{LaneBorders}
 use Rattle.lanes.proofs.Outward.{Ahead}
 use Rattle.lanes.proofs.BorderLaws.{eight, thirtySix, eighty, ExtentWithin, inner-within, outer-border-within, outer-ahead}

@@ -9,20 +9,21 @@ use lib.ListN.{length, getD}
 use lib.Ieee.{Float, binary64, le, neg, ofBits, fits}
 use Rattle.float_laws.specs.Binary64.{_⊖_}
 use Rattle.float_laws.proofs.Size.{Within, within-mono, within-const}
-use Rattle.arithmetic.specs.Sine.{one, tanOf}
-use Rattle.arithmetic.proofs.SineKernel.{point-75, point-76}
-use Rattle.arithmetic.proofs.SineLaws.{tan-within}
+use Rattle.trigonometry.specs.Sine.{one, tanOf}
+use Rattle.trigonometry.proofs.SineKernel.{point-75, point-76}
+use Rattle.sine_laws.proofs.SineLaws.{tan-within}
 use Rattle.records.specs.Active.{valueIn}
 use Rattle.records.specs.Roads.{Road, roadOf, noLane, sectionOf, sectionIndex}
-use Rattle.limits.specs.Bounds.{inRange}
-use Rattle.limits.specs.Limits.{onRoad}
+use Rattle.ranges.specs.Bounds.{inRange}
+use Rattle.bounds.specs.Limits.{onRoad}
 use Rattle.limit_laws.proofs.Fitting.{Fits64, Fitting}
 use Rattle.limit_laws.proofs.RoadBounds.{OnRoad, superelevation-within}
 use Rattle.admission.specs.Admission.{admitted}
 use Rattle.lateral.specs.Lateral.{shapeOf, crossHeight, heightToward, heightOf}
-use Rattle.lateral.proofs.LateralBounds.{two-wide, forty-wide, height-most}
+use Rattle.lateral_laws.proofs.LateralBounds.{two-wide, forty-wide, height-most}
 use Rattle.lanes.specs.Borders.{sideOf}
-use Rattle.lanes.specs.Heights.{heightAfter, heightsAt, acrossAt, heightWithin, heightAcross}
+use Rattle.lane_heights.specs.Heights.{heightAfter, heightsAt, acrossAt}
+use Rattle.heights_across.specs.HeightAcross.{heightWithin, heightAcross}
 use Rattle.lanes.proofs.Outward.{Ahead}
 use Rattle.lanes.proofs.BorderLaws.{eighty}
 use Rattle.height_laws.proofs.AdmittedRoad.{Admits, admits, on-road, across-of, within-across}

@@ -16,12 +16,12 @@ use Rattle.float_laws.proofs.Interval.{in-of-le}
 use Rattle.float_laws.proofs.Size.{Within, within-of-le, le-of-within, sub-within}
 use Rattle.float_laws.proofs.Whole.{Whole, not-zero}
 use Rattle.float_laws.proofs.Interpolate.{interpolate-within}
-use Rattle.arithmetic.specs.Sine.{one}
+use Rattle.trigonometry.specs.Sine.{one}
 use Rattle.limit_laws.proofs.Fitting.{Fits64}
 use Rattle.lateral.specs.Lateral.{blend}
-use Rattle.lateral.proofs.Fractions.{Fraction}
-use Rattle.lanes.specs.declared.across.Across.{Across}
-use Rattle.lanes.specs.Heights.{fractionAt, kept, heightAcross, heightWithin}
+use Rattle.lateral_laws.proofs.Fractions.{Fraction}
+use Rattle.lane_heights.specs.declared.across.Across.{Across}
+use Rattle.heights_across.specs.HeightAcross.{fractionAt, kept, heightAcross, heightWithin}
 use Rattle.lanes.proofs.Outward.{Ahead}
 use Rattle.lanes.proofs.BorderLaws.{eighty}
 use Rattle.height_laws.proofs.BorderHeights.{border-most}

@@ -18,7 +18,7 @@ use Rattle.float_laws.proofs.Interval.{le→parts, div-Is'}
 use Rattle.float_laws.proofs.Size.{is-bounded}
 use Rattle.float_laws.proofs.Same.{sign-minus}
 use Rattle.float_laws.proofs.Order.{sub-mono}
-use Rattle.lateral.proofs.Fractions.{Fraction}
+use Rattle.lateral_laws.proofs.Fractions.{Fraction}
 
 -- ---- a number
 

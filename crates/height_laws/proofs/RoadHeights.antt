@@ -15,13 +15,13 @@ use Rattle.records.specs.declared.points.HeightDef.{HeightDef}
 use Rattle.records.specs.Active.{valueIn}
 use Rattle.records.specs.Roads.{Road, Strip, StripDef, absent, present, columnOf, laneOf, profileAt, stripAt, heightDefAt, sectionIndex}
 use Rattle.records.proofs.CubicLaws.{value-at}
-use Rattle.limits.specs.Limits.{sectionExtent}
+use Rattle.bounds.specs.Limits.{sectionExtent}
 use Rattle.limit_laws.proofs.LimitParts.{limited-parts, laneCount, lane-parts, height-parts}
 use Rattle.limit_laws.proofs.RoadBounds.{OnRoad, Across, sized-within, station-within, tshift-within, profile-start-in, shape-within, shape-constant-within, strip-height-within, height-inner-within, height-outer-within}
 use Rattle.lateral.specs.Lateral.{stripHeight, shapeOf, crossHeight, heightToward, heightOf}
-use Rattle.lateral.proofs.StationBounds.{far, largest}
-use Rattle.lateral.proofs.StripBounds.{StripWithin, cross-within}
-use Rattle.lateral.proofs.LateralBounds.{two-wide, wider-two, height-within, ProfilesAt, profile-within, forty, forty-wide, wider-forty, shape-within as profiles-within, shift-within, height-most, toward-most}
+use Rattle.lateral_laws.proofs.StationBounds.{far, largest}
+use Rattle.lateral_laws.proofs.StripBounds.{StripWithin, cross-within}
+use Rattle.lateral_laws.proofs.LateralBounds.{two-wide, wider-two, height-within, ProfilesAt, profile-within, forty, forty-wide, wider-forty, shape-within as profiles-within, shift-within, height-most, toward-most}
 use Rattle.lanes.proofs.BorderLaws.{eighty}
 use Rattle.height_laws.proofs.AdmittedRoad.{Admits, within-across, s-near, section-there, into, into-near}
 

@@ -4,7 +4,7 @@ use mathlib.Core.Path.{_≡_, ap, _∙_}
 use mathlib.Core.List.{List, _++_}
 use lib.ListN.{length, drop}
 use lib.Ieee.{Float}
-use Rattle.arithmetic.specs.Answer.{Answer}
+use Rattle.refusals.specs.Answer.{Answer}
 use Rattle.reader.specs.Reading.{answerOf, readingOf, verdictOf, wordsHeld, numbersHeld, wantsHeld}
 use Rattle.reader.specs.declared.answers.Read.{Read}
 use Rattle.job_cases.specs.Case.{seenOf, checksumOf, caseBy, caseIn, caseOf, wordsBefore, numbersBefore, wantsBefore}

@@ -3,7 +3,7 @@ use Prim.Native.Nat.{ℕ, min}
 use mathlib.Core.List.{List, _++_, map}
 use lib.ListN.{length, drop, replicate}
 use lib.Ieee.{Float, binary64, ofBits, toBits}
-use Rattle.arithmetic.specs.Answer.{Answer, value, refused}
+use Rattle.refusals.specs.Answer.{Answer, value, refused}
 use Rattle.case_lines.specs.Sums.{sumOf}
 use Rattle.reader.specs.Reading.{Outcome, readingOf, verdictOf, wordsHeld, numbersHeld, wantsHeld}
 use Rattle.job_cases.specs.declared.cases.Seen.{Seen}

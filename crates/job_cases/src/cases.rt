@@ -31,7 +31,7 @@ fn seen_of(read: Read) -> Seen
             wants: n as u64,
         },
         Read::Refused(why) => Seen {
-            answer: arithmetic::number(why) as u64,
+            answer: refusals::number(why) as u64,
             wants: 0,
         },
     }

@@ -13,13 +13,13 @@ use borrow.Author.Tests.{le-leb, leb-true}
 use Rattle.float_laws.specs.Binary64.{_⊖_, f64, zero64}
 use Rattle.float_laws.proofs.Value.{mag, pl, Real, le-trans'}
 use Rattle.float_laws.proofs.Size.{Within, within-mono}
-use Rattle.arithmetic.specs.Answer.{value, checked}
+use Rattle.refusals.specs.Answer.{value, checked}
 use Rattle.records.specs.Active.{reached}
 use Rattle.records.specs.Roads.{Road, roadOf, sectionOf, laneOf, noLane, sectionIndex}
 use Rattle.records.proofs.CubicLaws.{value-at}
-use Rattle.structure.proofs.OrderLaws.{ordered-is}
+use Rattle.ordering.proofs.OrderLaws.{ordered-is}
 use Rattle.structure.proofs.StructureLaws.{Structured, structured-is}
-use Rattle.limits.specs.Limits.{onRoad}
+use Rattle.bounds.specs.Limits.{onRoad}
 use Rattle.limit_laws.proofs.Fitting.{Fits64, Fitting, RoadFits, road-fits}
 use Rattle.limit_laws.proofs.ActiveRecord.{Active, index-active}
 use Rattle.limit_laws.proofs.LimitParts.{and-fst, and-snd, true-T}
@@ -29,7 +29,8 @@ use Rattle.admission.specs.Admission.{admitted}
 use Rattle.admission.proofs.RowLaws.{pass-checked, checked-pass}
 use Rattle.admission.proofs.AdmissionLaws.{admitted-structured, admitted-ordered, admitted-limited, road-answered, road-admitted}
 use Rattle.lanes.specs.declared.across.LaneBorders.{LaneBorders}
-use Rattle.lanes.specs.Borders.{signOf, baseAt, sideOf, bordersOf as laneBorders, borderList, listedBy}
+use Rattle.lanes.specs.Borders.{signOf, baseAt, sideOf, bordersOf as laneBorders, borderList}
+use Rattle.border_lists.specs.BorderList.{listedBy}
 use Rattle.lanes.proofs.BorderSteps.{three, left-written, right-written, list-length}
 use Rattle.lanes.proofs.Outward.{Ahead}
 use Rattle.lanes.proofs.BorderLaws.{eight, thirtySix, eighty, ExtentWithin, inner-is-outer, inner-within, outer-border-within, outer-ahead}

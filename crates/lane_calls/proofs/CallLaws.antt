@@ -8,15 +8,16 @@ use lib.Ieee.{Float, neg}
 use lib.ListN.{length}
 use borrow.Author.Tests.{not-true, not-false}
 use Rattle.float_laws.specs.Binary64.{f64}
-use Rattle.arithmetic.specs.Answer.{Answer, value, refused, checked}
+use Rattle.refusals.specs.Answer.{Answer, value, refused, checked}
 use Rattle.records.specs.Roads.{Road, roadOf}
-use Rattle.limits.specs.Bounds.{inRange}
-use Rattle.limits.specs.Limits.{onRoad}
+use Rattle.ranges.specs.Bounds.{inRange}
+use Rattle.bounds.specs.Limits.{onRoad}
 use Rattle.admission.specs.Admission.{admissionOf}
 use Rattle.admission.proofs.AdmissionLaws.{road-refused, road-admitted, value-admitted}
-use Rattle.lanes.specs.Borders.{lanesOf, listedBy}
-use Rattle.lanes.specs.Naming.{laneNamed}
-use Rattle.lanes.specs.declared.across.LaneName.{LaneName}
+use Rattle.lanes.specs.Borders.{lanesOf}
+use Rattle.border_lists.specs.BorderList.{listedBy}
+use Rattle.lane_names.specs.Naming.{laneNamed}
+use Rattle.lane_names.specs.declared.names.LaneName.{LaneName}
 use Rattle.lane_calls.specs.LaneCalls.{sectionAt, lanesAt, listRows, bordersOf, writtenBy, bordersList, nameRows, nameAt, namedOf}
 
 module _ (words : List ℕ) (numbers : List Float) where

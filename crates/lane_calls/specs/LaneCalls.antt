@@ -6,17 +6,18 @@ use lib.ListN.{length}
 use lib.Dec.{leb}
 use lib.Ieee.{Float, neg}
 use Rattle.float_laws.specs.Binary64.{f64}
-use Rattle.arithmetic.specs.Answer.{Answer, value, refused, Row, row, checked}
-use Rattle.arithmetic.specs.Refusal.{numberOf}
-use Rattle.arithmetic.specs.declared.refusals.Refusal.the-variants.{Station, Offset, BorderSpace}
+use Rattle.refusals.specs.Answer.{Answer, value, refused, Row, row, checked}
+use Rattle.refusals.specs.Refusal.{numberOf}
+use Rattle.refusals.specs.declared.refusals.Refusal.the-variants.{Station, Offset, BorderSpace}
 use Rattle.records.specs.Roads.{roadOf, sectionIndex}
-use Rattle.limits.specs.Bounds.{inRange}
-use Rattle.limits.specs.Limits.{onRoad}
+use Rattle.ranges.specs.Bounds.{inRange}
+use Rattle.bounds.specs.Limits.{onRoad}
 use Rattle.admission.specs.Admission.{roadRows}
-use Rattle.lanes.specs.Borders.{lanesOf, listedBy}
-use Rattle.lanes.specs.Naming.{laneNamed}
-use Rattle.lanes.specs.declared.across.LaneName.{LaneName}
-use Rattle.lanes.specs.declared.across.LaneName.the-variants as name
+use Rattle.lanes.specs.Borders.{lanesOf}
+use Rattle.border_lists.specs.BorderList.{listedBy}
+use Rattle.lane_names.specs.Naming.{laneNamed}
+use Rattle.lane_names.specs.declared.names.LaneName.{LaneName}
+use Rattle.lane_names.specs.declared.names.LaneName.the-variants as name
 use Rattle.lane_calls.specs.declared.listing.Bordered.{Bordered}
 use Rattle.lane_calls.specs.declared.listing.Bordered.the-variants as bordered
 use Rattle.lane_calls.specs.declared.asking.Named.{Named}

@@ -3,12 +3,12 @@ use crate::stationing::across;
 use crate::stationing::on_road;
 use admission::Verdict;
 use admission::admit;
-use arithmetic::Refusal;
-use lanes::LaneName;
-use lanes::lane_named_in;
-use records::section_at;
+use lane_names::LaneName;
+use lane_names::lane_named_in;
+use refusals::Refusal;
+use stations::section_at;
 ghost use mathlib.Core.Path.{_≡_};
-ghost use Rattle.arithmetic.specs.Answer.{value, checked};
+ghost use Rattle.refusals.specs.Answer.{value, checked};
 ghost use Rattle.lane_calls.specs.LaneCalls.{nameRows, nameAt, namedOf, nameAnswer};
 
 pub enum Named {

@@ -2,13 +2,13 @@
 use crate::stationing::on_road;
 use admission::Verdict;
 use admission::admit;
-use arithmetic::Refusal;
-use lanes::list_borders;
+use border_lists::list_borders;
 use lanes::section_lanes;
-use records::section_at;
+use refusals::Refusal;
+use stations::section_at;
 ghost use mathlib.Core.Path.{_≡_};
 ghost use lib.ListN.{length};
-ghost use Rattle.arithmetic.specs.Answer.{value, checked};
+ghost use Rattle.refusals.specs.Answer.{value, checked};
 ghost use Rattle.lane_calls.specs.LaneCalls.{lanesAt, listRows, writtenBy, bordersOf, bordersList, lanesAnswer};
 
 pub enum Bordered {

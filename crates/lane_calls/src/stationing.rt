@@ -3,8 +3,8 @@ ghost use mathlib.Core.Path.{_≡_};
 ghost use lib.Ieee.{neg};
 ghost use Rattle.float_laws.specs.Binary64.{f64};
 ghost use Rattle.records.specs.Roads.{roadOf};
-ghost use Rattle.limits.specs.Bounds.{inRange};
-ghost use Rattle.limits.specs.Limits.{onRoad};
+ghost use Rattle.ranges.specs.Bounds.{inRange};
+ghost use Rattle.bounds.specs.Limits.{onRoad};
 
 // Row 7: s in 0..length.
 pub(crate) fn on_road(words: &[u16], numbers: &[f64], s: f64) -> bool

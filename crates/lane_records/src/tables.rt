@@ -1,61 +1,16 @@
 // A road's sections, lanes, profiles and strips in the lent words and numbers. Where each table stands is said in specs/Layout.antt of crate records, and in
 // docs/MEMORY.md for whoever lends a road. Nothing here trusts the slices: what is not there is empty, NaN or 0.
+use lent::part;
+use lent::word;
 use records::Found;
 use records::HeightDef;
-use records::StripKind;
-use records::number;
-use records::part;
-use records::word;
 ghost use mathlib.Core.Path.{_≡_};
-ghost use Prim.Native.Nat.{ℕ, _+_, _*_, _<_};
-ghost use mathlib.Core.Bool.{true, cond, _&&_};
+ghost use Prim.Native.Nat.{ℕ, _<_};
 ghost use mathlib.Core.List.{List};
-ghost use lib.ListN.{length, getD};
-ghost use lib.Dec.{eqb};
 ghost use lib.Ieee.{Float};
-ghost use Rattle.records.specs.declared.scan.Found.the-variants.{At};
-ghost use Rattle.records.specs.declared.points.StripKind.the-variants.{Absent, Absolute, Relative};
-ghost use Rattle.records.specs.Cubics.{cubicsOf};
-ghost use Rattle.records.specs.Roads.{roadOf, laneBy, heightDefAt, heightsOf, sectionOf, laneOf, profileAt, stripAt, kindOf, columnOf};
-
-// ---- sections and lanes. A side is left or right of the center; lanes count from the center outward
-
-pub fn section_count(words: &[u16], numbers: &[f64]) -> usize
-    ensures { λ r. ⌜ r ≡ length (roadOf (now (words .entry)) (now (numbers .entry)) .sections) ⌝ }
-{
-    word(words, 5)
-}
-
-// Where the i-th section starts, NaN where there is none.
-pub fn section_start(words: &[u16], numbers: &[f64], i: usize) -> f64
-    ensures { λ r. ⌜ r ≡ sectionOf (roadOf (now (words .entry)) (now (numbers .entry))) i .start ⌝ }
-{
-    if i < word(words, 5) {
-        number(numbers, 1729 + i)
-    } else {
-        0.0 / 0.0
-    }
-}
-
-pub fn left_count(words: &[u16], numbers: &[f64], section: usize) -> usize
-    ensures { λ r. ⌜ r ≡ length (sectionOf (roadOf (now (words .entry)) (now (numbers .entry))) section .left) ⌝ }
-{
-    if section < word(words, 5) {
-        word(words, 72 + section * 3)
-    } else {
-        0
-    }
-}
-
-pub fn right_count(words: &[u16], numbers: &[f64], section: usize) -> usize
-    ensures { λ r. ⌜ r ≡ length (sectionOf (roadOf (now (words .entry)) (now (numbers .entry))) section .right) ⌝ }
-{
-    if section < word(words, 5) {
-        word(words, 73 + section * 3)
-    } else {
-        0
-    }
-}
+ghost use Rattle.records.specs.declared.points.Found.the-variants.{At};
+ghost use Rattle.cubics.specs.Cubics.{cubicsOf};
+ghost use Rattle.records.specs.Roads.{roadOf, laneBy, heightDefAt, heightsOf, laneOf};
 
 // The line of the lane table that has the k-th lane of a section's side.
 fn lane_line(words: &[u16], section: usize, right: bool, k: usize) -> Found
@@ -163,73 +118,4 @@ pub fn height_def(part: &[f64], i: usize) -> HeightDef
             outer: n,
         }
     }
-}
-
-// ---- profiles and strips
-
-pub fn profile_count(words: &[u16], numbers: &[f64]) -> usize
-    ensures { λ r. ⌜ r ≡ length (roadOf (now (words .entry)) (now (numbers .entry)) .profiles) ⌝ }
-{
-    word(words, 6)
-}
-
-// Where the i-th profile stands, NaN where there is none.
-pub fn profile_start(words: &[u16], numbers: &[f64], i: usize) -> f64
-    ensures { λ r. ⌜ r ≡ profileAt (roadOf (now (words .entry)) (now (numbers .entry))) i .s ⌝ }
-{
-    if i < word(words, 6) {
-        number(numbers, 5841 + i)
-    } else {
-        0.0 / 0.0
-    }
-}
-
-pub fn shapes<'a>(words: &[u16], numbers: &'a [f64], i: usize) -> &'a [f64]
-    ensures { λ r. ⌜ cubicsOf (now r) ≡ profileAt (roadOf (now (words .entry)) (now (numbers .entry))) i .shapes ⌝ }
-{
-    if i < word(words, 6) {
-        let at = 1271 + i * 2;
-        part(numbers, 5857 + word(words, at) * 5, word(words, at + 1) * 5)
-    } else {
-        part(numbers, 0, 0)
-    }
-}
-
-fn kind_of(code: usize) -> StripKind
-    ensures { λ r. ⌜ r ≡ cond (eqb code 0) Absent (cond (eqb code 2) Relative Absolute) ⌝ }
-{
-    match code {
-        0 => StripKind::Absent,
-        2 => StripKind::Relative,
-        _ => StripKind::Absolute,
-    }
-}
-
-// Whether the i-th strip (left inner, left outer, right inner, right outer) is there, and stands on the inner one's edge.
-pub fn strip(words: &[u16], numbers: &[f64], i: usize) -> StripKind
-    ensures { λ r. ⌜ r ≡ kindOf (stripAt (roadOf (now (words .entry)) (now (numbers .entry))) i) ⌝ }
-{
-    if i < 4 {
-        kind_of(word(words, 1303 + i * 11))
-    } else {
-        StripKind::Absent
-    }
-}
-
-// The cubics of a strip's width (column 0) or of its term (column term + 1); none of a strip that is not there.
-pub fn strip_column<'a>(words: &[u16], numbers: &'a [f64], i: usize, column: usize) -> &'a [f64]
-    ensures { λ r. ⌜ cubicsOf (now r) ≡ columnOf (stripAt (roadOf (now (words .entry)) (now (numbers .entry))) i) column ⌝ }
-{
-    if 4 <= i {
-        return part(numbers, 0, 0);
-    }
-    if 5 <= column {
-        return part(numbers, 0, 0);
-    }
-    let at = 1303 + i * 11;
-    if word(words, at) == 0 {
-        return part(numbers, 0, 0);
-    }
-    let k = at + 1 + column * 2;
-    part(numbers, 7137 + word(words, k) * 5, word(words, k + 1) * 5)
 }

@@ -13,9 +13,9 @@ use Rattle.float_laws.specs.Binary64.{f64, zero64}
 use Rattle.float_laws.proofs.Value.{mag, pl, mi, Real, parts→le}
 use Rattle.float_laws.proofs.Size.{Within}
 use Rattle.float_laws.proofs.Whole.{Whole}
-use Rattle.records.specs.declared.scan.Found.{Found}
-use Rattle.records.specs.declared.scan.Found.the-variants.{At, Nothing}
-use Rattle.records.specs.Cubics.{cubicAt, evalAt}
+use Rattle.records.specs.declared.points.Found.{Found}
+use Rattle.records.specs.declared.points.Found.the-variants.{At, Nothing}
+use Rattle.cubics.specs.Cubics.{cubicAt, evalAt}
 use Rattle.records.specs.Active.{activeIn, valueIn}
 use Rattle.records.specs.Roads.{Lane, noLane}
 use Rattle.lateral.specs.Lateral.{notBelowZero}

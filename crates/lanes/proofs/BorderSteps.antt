@@ -13,9 +13,9 @@ use lib.ListN.{length, getD, take, drop, set, length-append, length-drop, take-a
 use lib.Seq.{sets-eq, take-at, drop-append-add, drop-drop, length-take-le, getD-append-add}
 use lib.Ieee.{Float}
 use Rattle.float_laws.specs.Binary64.{_⊖_, _⊗_, zero64}
-use Rattle.records.specs.declared.cubics.Cubic.{Cubic}
-use Rattle.records.specs.declared.scan.Found.the-variants.{At, Nothing}
-use Rattle.records.specs.Cubics.{cubicAt, evalAt}
+use Rattle.cubics.specs.declared.cubics.Cubic.{Cubic}
+use Rattle.records.specs.declared.points.Found.the-variants.{At, Nothing}
+use Rattle.cubics.specs.Cubics.{cubicAt, evalAt}
 use Rattle.records.specs.Active.{activeIn, valueIn}
 use Rattle.records.specs.Roads.{Road, Lane, noLane, sectionOf, laneOf, roadOf}
 use Rattle.records.proofs.RoadLaws.{left-count, right-count, section-past}
@@ -225,3 +225,8 @@ module _ (road : Road) (i len : ℕ) {n : ℕ} (e : n ≡ lanesOf road i) where
 
   pub list-long : n ≤ len / 3 → true ≡ leb (lanesOf road i) (len / 3)
   list-long h = sym (le-leb (lanesOf road i) (len / 3) (omega arith))
+
+-- the first lane's inner border is the base
+pub inner-first : (road : Road) (i : ℕ) (s : Float) (right : Bool) {base : Float} → base ≡ baseAt road s → base ≡ bordersOf road i s right 0 .inner
+unfolding bordersAt outerAfter
+inner-first road i s right e = e

@@ -3,12 +3,12 @@
 use Prim.Native.Nat.{ℕ, zero, suc, _+_}
 use mathlib.Core.Bool.{Bool, true, false, cond}
 use mathlib.Core.List.{List, [], _∷_, _++_}
-use lib.ListN.{length, getD, drop}
+use lib.ListN.{length, getD}
 use lib.Ieee.{Float}
 use Rattle.float_laws.specs.Binary64.{_⊕_, _⊖_, _⊗_, f64, zero64}
-use Rattle.records.specs.declared.scan.Found.{Found}
-use Rattle.records.specs.declared.scan.Found.the-variants.{At, Nothing}
-use Rattle.records.specs.Cubics.{cubicAt, evalAt}
+use Rattle.records.specs.declared.points.Found.{Found}
+use Rattle.records.specs.declared.points.Found.the-variants.{At, Nothing}
+use Rattle.cubics.specs.Cubics.{cubicAt, evalAt}
 use Rattle.records.specs.Active.{activeIn, valueIn}
 use Rattle.records.specs.Roads.{Road, Lane, noLane, sectionOf}
 use Rattle.lanes.specs.declared.across.LaneBorders.{LaneBorders}
@@ -69,8 +69,3 @@ sideList b (suc n) = sideList b n ++ (b n .inner ∷ b n .outer ∷ b n .width �
 unfoldable pub borderList : Road → ℕ → Float → List Float
 unfolding sideList bordersAt
 borderList road i s = sideList (bordersOf road i s false) (length (sectionOf road i .left)) ++ sideList (bordersOf road i s true) (length (sectionOf road i .right))
-
--- "three f64 a lane .. whole threes": written where a list has room for every lane, the rest kept; else all of it
-abbrev pub listedBy : Bool → Road → ℕ → Float → List Float → List Float
-listedBy true road i s xs = borderList road i s ++ drop (length (borderList road i s)) xs
-listedBy false road i s xs = xs

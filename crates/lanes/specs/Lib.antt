@@ -1,3 +1,1 @@
 pub mod Borders
-pub mod Naming
-pub mod Heights

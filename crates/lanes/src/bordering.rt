@@ -1,26 +1,23 @@
 // Where the lanes of a section lie across the road. A side is left or right of the center; its lanes count from the center outward.
 use crate::across::LaneBorders;
+use cubics::cubic_at;
 use lane_records::extents;
 use lane_records::lane_is_border;
-use lane_records::left_count;
-use lane_records::right_count;
-use lane_records::section_start;
 use records::Found;
-use records::active;
-use records::cubic_at;
 use records::offsets;
-use records::value;
+use section_records::left_count;
+use section_records::right_count;
+use section_records::section_start;
+use stations::active;
+use stations::value;
 ghost use mathlib.Core.Path.{_≡_};
-ghost use mathlib.Core.Bool.{true, false};
-ghost use mathlib.Core.List.{_++_};
-ghost use Prim.Native.Nat.{_+_, _*_, _/_, _<_, _≤_};
-ghost use lib.Dec.{leb};
-ghost use lib.ListN.{length, take, drop};
-ghost use Rattle.records.specs.Cubics.{cubicsOf};
+ghost use Prim.Native.Nat.{_<_};
+ghost use lib.ListN.{length};
+ghost use Rattle.cubics.specs.Cubics.{cubicsOf};
 ghost use Rattle.records.specs.Active.{activeIn};
 ghost use Rattle.records.specs.Roads.{Lane, roadOf, laneOf};
 ghost use Rattle.lateral.specs.Lateral.{notBelowZero};
-ghost use Rattle.lanes.specs.Borders.{signOf, borderWidth, widthOf, outerAfter, bordersFrom, bordersAt, baseAt, sideOf, lanesOf, bordersOf, sideList, borderList, listedBy};
+ghost use Rattle.lanes.specs.Borders.{signOf, borderWidth, widthOf, outerAfter, bordersFrom, baseAt, sideOf, lanesOf, bordersOf};
 
 // The t of the center.
 pub fn base_at(words: &[u16], numbers: &[f64], s: f64) -> f64
@@ -49,7 +46,7 @@ pub fn section_lanes(words: &[u16], numbers: &[f64], section: usize) -> usize
 }
 
 // Which way a side's lanes stack.
-pub(crate) fn sign_of(right: bool) -> f64
+pub fn sign_of(right: bool) -> f64
     ensures { λ r. ⌜ r ≡ signOf right ⌝ }
 {
     if right { -1.0 } else { 1.0 }
@@ -151,74 +148,4 @@ pub fn lane_borders(
     let base = base_at(words, numbers, s);
     let inner = outer_after(words, numbers, section, into, right, k, base);
     next_border(words, numbers, section, into, right, k, inner)
-}
-
-// Writes a side's n lanes into the list from a place on, three numbers a lane.
-fn write_side(
-    words: &[u16],
-    numbers: &[f64],
-    section: usize,
-    s: f64,
-    right: bool,
-    base: f64,
-    list: &mut [f64],
-    first: usize,
-    n: usize,
-)
-    requires { ⌜ first + n * 3 ≤ length (now list) ⌝ }
-    ensures { λ _. ⌜ now (list .exit) ≡ (take first (now (list .entry)) ++ sideList (bordersAt (sideOf (roadOf (now (words .entry)) (now (numbers .entry))) section right) (signOf right) base s) n) ++ drop (first + n * 3) (now (list .entry)) ⌝ }
-{
-    let mut inner = base;
-    let mut k = 0;
-    while k < n {
-        let b = next_border(words, numbers, section, s, right, k, inner);
-        let at = first + k * 3;
-        list[at] = b.inner;
-        list[at + 1] = b.outer;
-        list[at + 2] = b.width;
-        inner = b.outer;
-        k += 1;
-    }
-}
-
-// Writes the borders of a section's lanes at s, left outward, then right, and leaves the rest of the list.
-fn write_borders(words: &[u16], numbers: &[f64], section: usize, s: f64, list: &mut [f64])
-    requires { ⌜ (length (sideOf (roadOf (now words) (now numbers)) section false) + length (sideOf (roadOf (now words) (now numbers)) section true)) * 3 ≤ length (now list) ⌝ }
-    ensures { λ _. ⌜ now (list .exit) ≡ borderList (roadOf (now (words .entry)) (now (numbers .entry))) section s ++ drop (length (borderList (roadOf (now (words .entry)) (now (numbers .entry))) section s)) (now (list .entry)) ⌝ }
-{
-    let into = s - section_start(words, numbers, section);
-    let base = base_at(words, numbers, s);
-    let left = lane_count(words, numbers, section, false);
-    let right = lane_count(words, numbers, section, true);
-    write_side(words, numbers, section, into, false, base, list, 0, left);
-    write_side(
-        words,
-        numbers,
-        section,
-        into,
-        true,
-        base,
-        list,
-        left * 3,
-        right,
-    );
-}
-
-// Writes the borders where the list holds three numbers for each lane of the section, and tells whether it does; else it stays as it was.
-pub fn list_borders(
-    words: &[u16],
-    numbers: &[f64],
-    section: usize,
-    s: f64,
-    list: &mut [f64],
-) -> bool
-    ensures { λ r. ⌜ r ≡ leb (lanesOf (roadOf (now (words .entry)) (now (numbers .entry))) section) (length (now (list .entry)) / 3) ⌝ }
-    ensures { λ r. ⌜ now (list .exit) ≡ listedBy r (roadOf (now (words .entry)) (now (numbers .entry))) section s (now (list .entry)) ⌝ }
-{
-    let n = section_lanes(words, numbers, section);
-    if list.len() / 3 < n {
-        return false;
-    }
-    write_borders(words, numbers, section, s, list);
-    true
 }

@@ -9,16 +9,17 @@ use lib.Dec.{ltb, eqb}
 use lib.Ieee.{Float, ofBits, neg, lt}
 use borrow.Author.Tests.{lt-ltb, le-ltb, eq-eqb, ne-eqb}
 use Rattle.float_laws.specs.Binary64.{_⊕_, _⊖_, _⊗_, _⊘_, f64, zero64}
-use Rattle.records.specs.declared.cubics.Cubic.{Cubic}
+use Rattle.cubics.specs.declared.cubics.Cubic.{Cubic}
 use Rattle.records.specs.declared.points.HeightDef.{HeightDef}
 use Rattle.records.specs.declared.points.StripKind.the-variants.{Absent, Absolute, Relative}
-use Rattle.records.specs.declared.scan.Found.{Found}
-use Rattle.records.specs.declared.scan.Found.the-variants.{At, Nothing}
-use Rattle.records.specs.Cubics.{cubicsOf, cubicAt, evalAt}
+use Rattle.records.specs.declared.points.Found.{Found}
+use Rattle.records.specs.declared.points.Found.the-variants.{At, Nothing}
+use Rattle.cubics.specs.Cubics.{cubicsOf, cubicAt, evalAt}
 use Rattle.records.specs.Active.{activeIn, valueIn, lastStart, reached}
 use Rattle.records.specs.Roads.{Road, Strip, StripDef, absent, present, profileAt, stripAt, heightsOf, heightDefAt, kindOf, columnOf}
 use Rattle.records.proofs.ScanLaws.{lastStart-below}
-use Rattle.records.proofs.CubicLaws.{cubic-count, height-count}
+use Rattle.cubics.proofs.CubicTables.{cubic-count}
+use Rattle.records.proofs.CubicLaws.{height-count}
 use Rattle.lateral.specs.declared.heights.Pair.{Pair}
 use Rattle.lateral.specs.Lateral.{shapeBy, profileHeight, shapeBetween, shapeFrom, shapeOf, heightBetween, heightHeld, noHeights, heightFrom, heightOf, notBelowZero, stripHeight, outerHeight, pastWidth, byWidth, bySide, isLeft, crossBy, crossHeight, heightToward, isPresent, hasCrossSection, flatAcross}
 

@@ -1,5 +1,1 @@
 pub mod LateralLaws
-pub mod Fractions
-pub mod StationBounds
-pub mod StripBounds
-pub mod LateralBounds

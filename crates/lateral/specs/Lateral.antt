@@ -6,11 +6,11 @@ use lib.ListN.{length}
 use lib.Dec.{ltb, eqb}
 use lib.Ieee.{Float, lt, neg}
 use Rattle.float_laws.specs.Binary64.{_⊕_, _⊖_, _⊗_, _⊘_, f64, zero64, absOf}
-use Rattle.records.specs.declared.cubics.Cubic.{Cubic}
+use Rattle.cubics.specs.declared.cubics.Cubic.{Cubic}
 use Rattle.records.specs.declared.points.HeightDef.{HeightDef}
-use Rattle.records.specs.declared.scan.Found.{Found}
-use Rattle.records.specs.declared.scan.Found.the-variants.{At, Nothing}
-use Rattle.records.specs.Cubics.{cubicAt, evalAt}
+use Rattle.records.specs.declared.points.Found.{Found}
+use Rattle.records.specs.declared.points.Found.the-variants.{At, Nothing}
+use Rattle.cubics.specs.Cubics.{cubicAt, evalAt}
 use Rattle.records.specs.Active.{activeIn, valueIn, lastStart, reached}
 use Rattle.records.specs.Roads.{Road, Profile, Lane, Strip, StripDef, absent, present, profileAt, stripAt, heightDefAt, columnBy}
 use Rattle.lateral.specs.declared.heights.Pair.{Pair}

@@ -2,7 +2,7 @@
 use lane_records::height_def;
 use records::Found;
 use records::HeightDef;
-use records::active_height;
+use stations::active_height;
 ghost use mathlib.Core.Path.{_≡_};
 ghost use Rattle.records.specs.Roads.{heightsOf};
 ghost use Rattle.lateral.specs.Lateral.{heightOf, heightBetween, heightHeld};

@@ -9,10 +9,10 @@ use native.Mathlib.Nat.{eq-or-lt-of-le, le-of-suc-le-suc, not-suc-le-zero}
 use lib.ListN.{length}
 use lib.Dec.{T}
 use lib.Ieee.{Float, le}
-use Rattle.records.specs.declared.cubics.Cubic.{Cubic}
-use Rattle.records.specs.declared.scan.Found.{Found}
-use Rattle.records.specs.declared.scan.Found.the-variants.{At, Nothing}
-use Rattle.records.specs.Cubics.{cubicAt}
+use Rattle.cubics.specs.declared.cubics.Cubic.{Cubic}
+use Rattle.records.specs.declared.points.Found.{Found}
+use Rattle.records.specs.declared.points.Found.the-variants.{At, Nothing}
+use Rattle.cubics.specs.Cubics.{cubicAt}
 use Rattle.records.specs.Active.{pickFound, lastStart, activeIn, orFirst, reached}
 
 never : _≡_ {A = ℕ} 0 1 → ⊥

@@ -22,13 +22,13 @@ use Rattle.float_laws.proofs.Size.{Within, within-mono, within-const, add-withi
 use Rattle.float_laws.proofs.Exact.{fixed, self-Is, add-grow-l, add-grow-r}
 use Rattle.float_laws.proofs.Error.{Near, add-near}
 use Rattle.float_laws.proofs.Whole.{unit}
-use Rattle.records.specs.declared.cubics.Cubic.{Cubic}
-use Rattle.records.specs.declared.scan.Found.{Found}
-use Rattle.records.specs.declared.scan.Found.the-variants.{At, Nothing}
-use Rattle.records.specs.Cubics.{cubicAt, evalBy, slopeBy}
+use Rattle.cubics.specs.declared.cubics.Cubic.{Cubic}
+use Rattle.records.specs.declared.points.Found.{Found}
+use Rattle.records.specs.declared.points.Found.the-variants.{At, Nothing}
+use Rattle.cubics.specs.Cubics.{cubicAt, evalBy, slopeBy}
 use Rattle.records.specs.Active.{activeIn, valueIn, slopeIn, reached}
 use Rattle.records.proofs.CubicLaws.{value-at, value-none, slope-at, slope-none}
-use Rattle.limits.specs.Bounds.{atLeastZero, endAt, reachAt, boundOf, boundAt, slopeBoundOf, cubicWithin, cubicsWithin, slopesWithin}
+use Rattle.ranges.specs.Bounds.{atLeastZero, endAt, reachAt, boundOf, boundAt, slopeBoundOf, cubicWithin, cubicsWithin, slopesWithin}
 use Rattle.limit_laws.proofs.Fitting.{Fits64, CubicFits, CubicsFit}
 use Rattle.limit_laws.proofs.ActiveRecord.{Active, active-at}
 use Rattle.limit_laws.proofs.LimitParts.{all-at, and-fst, and-snd, true-T}

@@ -8,15 +8,15 @@ use lib.Seq.{getD-drop}
 use lib.Dec.{T, ltb, eqb, ltb→lt, nltb→le}
 use lib.Ieee.{Float, nan, binary64, fits}
 use lib.Ieee.Fits.{nan-fits}
-use Rattle.records.specs.declared.cubics.Cubic.{Cubic}
+use Rattle.cubics.specs.declared.cubics.Cubic.{Cubic}
 use Rattle.records.specs.declared.points.GeomRec.{GeomRec}
 use Rattle.records.specs.declared.points.GeomShape.{GeomShape}
 use Rattle.records.specs.declared.points.GeomShape.the-variants.{Line, Arc, Spiral}
 use Rattle.records.specs.declared.points.HeightDef.{HeightDef}
-use Rattle.records.specs.Lists.{table, span}
-use Rattle.records.specs.Cubics.{cubicsOf, cubicAt, cubicFrom, noCubic}
+use Rattle.lent.specs.Lists.{table, span}
+use Rattle.cubics.specs.Cubics.{cubicsOf, cubicAt, cubicFrom, noCubic}
 use Rattle.records.specs.Roads.{Road, Lane, Section, Strip, roadOf, geomIn, laneIn, sectionIn, profileIn, columnIn, stripIn, heightsOf, heightDefAt, heightFrom, noHeight, geomAt, geomFrom, noGeom, shapeOf, sectionOf, noSection, laneOf, noLane, profileAt, noProfile, stripAt, columnOf, columnBy, absent, present}
-use Rattle.records.proofs.TableLaws.{table-at, table-past}
+use Rattle.lent.proofs.TableLaws.{table-at, table-past}
 
 abbrev pub Fits64 : Float → Type 0
 Fits64 x = T (fits binary64 x)

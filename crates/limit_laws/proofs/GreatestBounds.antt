@@ -17,13 +17,13 @@ use Rattle.float_laws.proofs.Value.{mag, pl, mi, Real, mag-is, le-trans', le-re
 use Rattle.float_laws.proofs.Operation.{add-Is}
 use Rattle.float_laws.proofs.Size.{Within, within-mono, within-const, add-within, mul-within, is-bounded, add-nn, mul-nn, add-fin, mul-fin, fin-of-le}
 use Rattle.float_laws.proofs.Exact.{fixed}
-use Rattle.records.specs.declared.cubics.Cubic.{Cubic}
-use Rattle.records.specs.declared.scan.Found.{Found}
-use Rattle.records.specs.declared.scan.Found.the-variants.{At, Nothing}
+use Rattle.cubics.specs.declared.cubics.Cubic.{Cubic}
+use Rattle.records.specs.declared.points.Found.{Found}
+use Rattle.records.specs.declared.points.Found.the-variants.{At, Nothing}
 use Rattle.records.specs.Active.{activeIn, valueIn}
 use Rattle.records.proofs.CubicLaws.{value-none}
-use Rattle.limits.specs.Bounds.{boundAt, greatest, greatestBound}
-use Rattle.limits.specs.Limits.{at88}
+use Rattle.ranges.specs.Bounds.{boundAt, greatest, greatestBound}
+use Rattle.bounds.specs.Limits.{at88}
 use Rattle.limit_laws.proofs.ActiveRecord.{active-at}
 use Rattle.limit_laws.proofs.CubicBounds.{Ready, zero-own, nn-of-mi, active-within, bound-real}
 

@@ -10,10 +10,10 @@ use lib.Ieee.{Float, le, neg}
 use Rattle.float_laws.specs.Binary64.{f64, absOf}
 use Rattle.records.specs.declared.points.GeomShape.the-variants.{Arc, Spiral}
 use Rattle.records.specs.declared.points.HeightDef.{HeightDef}
-use Rattle.records.specs.Lists.{allBelow}
+use Rattle.lent.specs.Lists.{allBelow}
 use Rattle.records.specs.Roads.{Road, Lane, Strip, geomAt, unusedZero, sectionOf, laneOf, profileAt, stripAt, columnOf, heightDefAt}
-use Rattle.limits.specs.Bounds.{inRange, sized, largest, finite64, cubicsWithin, slopesWithin}
-use Rattle.limits.specs.Limits.{lengthOk, onRoad, roadCubicsWithin, shapeLimited, geomLimited, sectionExtent, heightLimited, heightsLimited, laneLimited, sectionLimited, profileLimited, termsBound, stripLimited, limited}
+use Rattle.ranges.specs.Bounds.{inRange, sized, largest, finite64, cubicsWithin, slopesWithin}
+use Rattle.bounds.specs.Limits.{lengthOk, onRoad, roadCubicsWithin, shapeLimited, geomLimited, sectionExtent, heightLimited, heightsLimited, laneLimited, sectionLimited, profileLimited, termsBound, stripLimited, limited}
 
 pub and-fst : (a b : Bool) → a && b ≡ true → a ≡ true
 and-fst true b e = refl

@@ -14,13 +14,13 @@ use Rattle.float_laws.specs.Binary64.{_⊕_, _⊖_, _⊗_, f64, zero64, absOf}
 use Rattle.float_laws.proofs.Value.{Real, le-trans', nle→le, neg-real}
 use Rattle.float_laws.proofs.Interval.{In, in-of-le}
 use Rattle.float_laws.proofs.Size.{Within, within-of-le, le-of-within, within-mono, within-const, sub-within, size, size-nn, size-within, fin-of-le}
-use Rattle.records.specs.declared.cubics.Cubic.{Cubic}
+use Rattle.cubics.specs.declared.cubics.Cubic.{Cubic}
 use Rattle.records.specs.declared.points.GeomShape.the-variants.{Arc, Spiral}
-use Rattle.records.specs.Cubics.{cubicAt}
+use Rattle.cubics.specs.Cubics.{cubicAt}
 use Rattle.records.specs.Active.{valueIn, slopeIn, reached}
 use Rattle.records.specs.Roads.{Road, geomAt, sectionOf, laneOf, profileAt, stripAt, columnOf, heightDefAt}
-use Rattle.limits.specs.Bounds.{inRange, sized, largest}
-use Rattle.limits.specs.Limits.{roadCubicsWithin, shapeLimited, sectionExtent, termBound, termsBound, limited}
+use Rattle.ranges.specs.Bounds.{inRange, sized, largest}
+use Rattle.bounds.specs.Limits.{roadCubicsWithin, shapeLimited, sectionExtent, termBound, termsBound, limited}
 use Rattle.limit_laws.proofs.Fitting.{Fits64, CubicsFit, RoadFits}
 use Rattle.limit_laws.proofs.ActiveRecord.{Active}
 use Rattle.limit_laws.proofs.LimitParts.{and-fst, and-snd, true-T, Limited, limited-parts, GeomLimited, geom-parts, arc-parts, spiral-parts, section-start-on, laneCount, lane-parts, laneLimit, extents-pass, HeightLimited, height-parts, profile-parts, StripLimited, strip-parts}

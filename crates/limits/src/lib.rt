@@ -1,7 +1,4 @@
-// Row 4 of document 01 for a lent road: every number finite and within its limit.
-mod bounding;
+// Row 4: every number of the road within its limit.
 mod checking;
 
-pub use bounding::bound;
-pub use bounding::slope_bound;
 pub use checking::limited;

@@ -3,12 +3,12 @@ use mathlib.Core.Path.{refl}
 use lib.Ieee.{ofBits, add, sub, mul, div, le, lt, neg}
 use Rattle.arithmetic.specs.Root.{rootOf}
 use Rattle.arithmetic.specs.Narrow.{narrowed}
-use Rattle.arithmetic.specs.Count.{countOf}
+use Rattle.axis_counts.specs.Count.{countOf}
 use Rattle.records.specs.Active.{activeIn, valueIn, lastStart}
-use Rattle.reference_line.specs.Spiral.{sampleCount, spiralSteps, stepsFrom, goesOn}
+use Rattle.spirals.specs.Spiral.{sampleCount, spiralSteps, stepsFrom, goesOn}
 use Rattle.lateral.specs.Lateral.{heightOf}
 use Rattle.lanes.specs.Borders.{bordersAt, outerAfter, widthOf}
-use Rattle.lanes.specs.Naming.{laneNamed, namedOn, lastThat}
+use Rattle.lane_names.specs.Naming.{laneNamed, namedOn, lastThat}
 use Rattle.marked.specs.Marked.{AllHold, marked}
 
 pub marked-hold : AllHold marked

@@ -6,26 +6,26 @@ use mathlib.Core.List.{List, [], _∷_}
 use lib.IntN.{ℤ, pos, negsuc}
 use lib.Ieee.{Float, binary32, binary64, ofBits}
 use Rattle.float_laws.specs.Binary64.{f64, zero64}
-use Rattle.arithmetic.specs.Answer.{Answer, value}
+use Rattle.refusals.specs.Answer.{Answer, value}
 use Rattle.arithmetic.specs.Root.{rootOf}
 use Rattle.arithmetic.specs.Narrow.{narrowed}
-use Rattle.arithmetic.specs.Count.{countOf}
-use Rattle.records.specs.declared.cubics.Cubic.{Cubic}
-use Rattle.records.specs.declared.scan.Found.{Found}
-use Rattle.records.specs.declared.scan.Found.the-variants.{At, Nothing}
+use Rattle.axis_counts.specs.Count.{countOf}
+use Rattle.cubics.specs.declared.cubics.Cubic.{Cubic}
+use Rattle.records.specs.declared.points.Found.{Found}
+use Rattle.records.specs.declared.points.Found.the-variants.{At, Nothing}
 use Rattle.records.specs.declared.points.GeomRec.{GeomRec}
 use Rattle.records.specs.declared.points.GeomShape.the-variants.{Spiral}
 use Rattle.records.specs.declared.points.HeightDef.{HeightDef}
-use Rattle.records.specs.Cubics.{evalAt, slopeAt}
+use Rattle.cubics.specs.Cubics.{evalAt, slopeAt}
 use Rattle.records.specs.Active.{activeIn}
 use Rattle.records.specs.Roads.{Road, Lane, Section}
-use Rattle.reference_line.specs.Spiral.{sampleCount}
+use Rattle.spirals.specs.Spiral.{sampleCount}
 use Rattle.lateral.specs.declared.heights.Pair.{Pair}
 use Rattle.lateral.specs.Lateral.{heightOf}
-use Rattle.lanes.specs.declared.across.LaneName.{LaneName}
-use Rattle.lanes.specs.declared.across.LaneName.the-variants as name
+use Rattle.lane_names.specs.declared.names.LaneName.{LaneName}
+use Rattle.lane_names.specs.declared.names.LaneName.the-variants as name
 use Rattle.lanes.specs.Borders.{bordersAt, signOf}
-use Rattle.lanes.specs.Naming.{laneNamed}
+use Rattle.lane_names.specs.Naming.{laneNamed}
 
 -- what a definition gives, and what document 01 says it is
 pub data Example : Type 0 where

@@ -8,11 +8,11 @@ use lib.Dec.{leb, ltb}
 use lib.Ieee.{Float}
 use lib.ListN.{length}
 use borrow.Author.Tests.{not-true, not-false, le-leb, lt-leb, lt-ltb, le-ltb}
-use Rattle.arithmetic.specs.Answer.{Answer, value, refused, checked}
+use Rattle.refusals.specs.Answer.{Answer, value, refused, checked}
 use Rattle.records.specs.Roads.{roadOf}
-use Rattle.limits.specs.Limits.{onRoad}
-use Rattle.reference_line.specs.declared.line.Pose.{Pose}
-use Rattle.reference_line.specs.Spiral.{samplesNeeded}
+use Rattle.bounds.specs.Limits.{onRoad}
+use Rattle.spirals.specs.declared.line.Pose.{Pose}
+use Rattle.spirals.specs.Spiral.{samplesNeeded}
 use Rattle.admission.specs.Admission.{admissionOf}
 use Rattle.admission.proofs.AdmissionLaws.{road-refused, road-admitted, value-admitted}
 use Rattle.pose_call.specs.PoseCall.{ownRows, placeOf, posedBy}

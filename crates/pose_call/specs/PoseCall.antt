@@ -4,13 +4,13 @@ use mathlib.Core.List.{List, [], _∷_, _++_}
 use lib.ListN.{length}
 use lib.Dec.{ltb}
 use lib.Ieee.{Float}
-use Rattle.arithmetic.specs.Answer.{Answer, value, refused, Row, row, checked}
-use Rattle.arithmetic.specs.Refusal.{numberOf}
-use Rattle.arithmetic.specs.declared.refusals.Refusal.the-variants.{Structure, Station}
+use Rattle.refusals.specs.Answer.{Answer, value, refused, Row, row, checked}
+use Rattle.refusals.specs.Refusal.{numberOf}
+use Rattle.refusals.specs.declared.refusals.Refusal.the-variants.{Structure, Station}
 use Rattle.records.specs.Roads.{Road, roadOf}
-use Rattle.limits.specs.Limits.{onRoad}
-use Rattle.reference_line.specs.declared.line.Pose.{Pose}
-use Rattle.reference_line.specs.Poses.{poseOf}
+use Rattle.bounds.specs.Limits.{onRoad}
+use Rattle.spirals.specs.declared.line.Pose.{Pose}
+use Rattle.spirals.specs.Poses.{poseOf}
 use Rattle.admission.specs.Admission.{roadRows}
 use Rattle.admission.specs.Samples.{sampleRow}
 use Rattle.pose_call.specs.declared.answers.Posed.{Posed}

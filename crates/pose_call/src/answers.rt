@@ -1,6 +1,6 @@
 // What the call answers.
-use arithmetic::Refusal;
-use reference_line::Pose;
+use refusals::Refusal;
+use spirals::Pose;
 
 pub enum Posed {
     Pose(Pose),

@@ -1,11 +1,11 @@
 // A place on the reference line and the heading there, or a refusal.
 use crate::answers::Posed;
 use admission::Verdict;
-use arithmetic::Refusal;
+use refusals::Refusal;
 ghost use mathlib.Core.Path.{_≡_};
-ghost use Rattle.arithmetic.specs.Answer.{value, checked};
+ghost use Rattle.refusals.specs.Answer.{value, checked};
 ghost use Rattle.records.specs.Roads.{roadOf};
-ghost use Rattle.limits.specs.Limits.{onRoad};
+ghost use Rattle.bounds.specs.Limits.{onRoad};
 ghost use Rattle.pose_call.specs.PoseCall.{ownRows, placeOf, posedBy, poseAnswer};
 
 // Row 7: s in 0..length. NaN is outside.
@@ -19,7 +19,7 @@ fn on_road(words: &[u16], numbers: &[f64], s: f64) -> bool
 fn pose_at(words: &[u16], numbers: &[f64], samples: &[f64], geometry: usize, s: f64) -> Posed
     ensures { λ r. ⌜ poseAnswer r ≡ checked (ownRows (now (words .entry)) (now (numbers .entry)) (now (samples .entry)) geometry s) (value (placeOf (now (words .entry)) (now (numbers .entry)) (now (samples .entry)) geometry s)) ⌝ }
 {
-    if samples.len() / 4 < reference_line::samples_needed(words, numbers) {
+    if samples.len() / 4 < spirals::samples_needed(words, numbers) {
         return Posed::Refused(Refusal::SampleSpace);
     }
     if records::geom_count(words, numbers) <= geometry {

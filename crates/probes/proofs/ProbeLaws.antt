@@ -5,11 +5,11 @@ use mathlib.Core.Path.{_≡_, sym, _∙_, ap}
 use mathlib.Core.List.{List}
 use lib.Ieee.{Float}
 use lib.ListN.{length}
-use Rattle.records.specs.declared.scan.Found.{Found}
-use Rattle.records.specs.declared.scan.Found.the-variants.{At, Nothing}
-use Rattle.records.specs.Cubics.{cubicsOf, cubicAt}
+use Rattle.records.specs.declared.points.Found.{Found}
+use Rattle.records.specs.declared.points.Found.the-variants.{At, Nothing}
+use Rattle.cubics.specs.Cubics.{cubicsOf, cubicAt}
 use Rattle.records.specs.Active.{activeIn, foundOf, reached}
-use Rattle.records.proofs.CubicLaws.{cubic-count}
+use Rattle.cubics.proofs.CubicTables.{cubic-count}
 use Rattle.records.proofs.ScanLaws.{lastStart-below}
 
 module _ (part : List Float) (s : Float) {f : Found} (e : f ≡ activeIn (cubicsOf part) s) where

@@ -6,27 +6,27 @@ ghost use lib.Dec.{eqb};
 ghost use Rattle.records.specs.Roads.{roadOf};
 ghost use Rattle.lateral.specs.Lateral.{shapeOf, crossHeight, heightToward};
 ghost use Rattle.lanes.specs.Borders.{sideOf};
-ghost use Rattle.lanes.specs.Heights.{acrossAt};
+ghost use Rattle.lane_heights.specs.Heights.{acrossAt};
 
 #[no_mangle]
 pub extern "C" fn probe_shape(words: &[u16], numbers: &[f64], s: f64, t: f64) -> f64
     ensures { λ r. ⌜ r ≡ shapeOf (roadOf (now (words .entry)) (now (numbers .entry))) s t ⌝ }
 {
-    lateral::shape_at(words, numbers, s, t)
+    shape_profiles::shape_at(words, numbers, s, t)
 }
 
 #[no_mangle]
 pub extern "C" fn probe_cross(words: &[u16], numbers: &[f64], s: f64, t: f64, toward: f64) -> f64
     ensures { λ r. ⌜ r ≡ crossHeight (roadOf (now (words .entry)) (now (numbers .entry))) s t toward ⌝ }
 {
-    lateral::cross_height(words, numbers, s, t, toward)
+    cross_sections::cross_height(words, numbers, s, t, toward)
 }
 
 #[no_mangle]
 pub extern "C" fn probe_height(words: &[u16], numbers: &[f64], s: f64, t: f64, toward: f64) -> f64
     ensures { λ r. ⌜ r ≡ heightToward (roadOf (now (words .entry)) (now (numbers .entry))) s t toward ⌝ }
 {
-    lateral::height_toward(words, numbers, s, t, toward)
+    cross_sections::height_toward(words, numbers, s, t, toward)
 }
 
 #[no_mangle]
@@ -55,7 +55,7 @@ pub extern "C" fn probe_lane(
     ensures { λ _. ⌜ now («inner_height» .exit) ≡ acrossAt (roadOf (now (words .entry)) (now (numbers .entry))) section s tangent (not (eqb right 0)) k .«inner_height» ⌝ }
     ensures { λ _. ⌜ now («outer_height» .exit) ≡ acrossAt (roadOf (now (words .entry)) (now (numbers .entry))) section s tangent (not (eqb right 0)) k .«outer_height» ⌝ }
 {
-    let lane = lanes::lane_across(words, numbers, section, s, tangent, right != 0, k);
+    let lane = lane_heights::lane_across(words, numbers, section, s, tangent, right != 0, k);
     *inner_t = lane.inner_t;
     *outer_t = lane.outer_t;
     *inner_height = lane.inner_height;

@@ -1,8 +1,8 @@
 -- Case M1: its text is read and its road admitted, by computation.
 use mathlib.Core.Path.{_≡_, refl}
 use lib.Ieee.{ofBits, add, sub, mul, div, le, lt, neg}
-use Rattle.arithmetic.specs.Answer.{value}
-use Rattle.cells.specs.Schema as cells-schema
+use Rattle.refusals.specs.Answer.{value}
+use Rattle.schema.specs.Schema as cells-schema
 use Rattle.cells.specs.Cells as cells-cells
 use Rattle.rows.specs.NamesLine as rows-namesline
 use Rattle.rows.specs.ValuesLine as rows-valuesline
@@ -11,14 +11,14 @@ use Rattle.store.specs.Tracks as store-tracks
 use Rattle.store.specs.Parents as store-parents
 use Rattle.store.specs.Keep as store-keep
 use Rattle.records.specs.Active as records-active
-use Rattle.records.specs.Cubics as records-cubics
-use Rattle.records.specs.Lists as records-lists
+use Rattle.cubics.specs.Cubics as records-cubics
+use Rattle.lent.specs.Lists as records-lists
 use Rattle.records.specs.Roads as records-roads
-use Rattle.reference_line.specs.Poses as reference-line-poses
-use Rattle.reference_line.specs.Spiral as reference-line-spiral
+use Rattle.spirals.specs.Poses as reference-line-poses
+use Rattle.spirals.specs.Spiral as reference-line-spiral
 use Rattle.structure.specs.Order as structure-order
-use Rattle.limits.specs.Bounds as limits-bounds
-use Rattle.limits.specs.Limits as limits-limits
+use Rattle.ranges.specs.Bounds as limits-bounds
+use Rattle.bounds.specs.Limits as limits-limits
 use Rattle.admission.specs.Admission as admission-admission
 use Rattle.structure.specs.Structure as structure-structure
 use Rattle.reader.specs.Reading.{linesFrom, tableAt, countedTrack, tablesFrom, readingBy, zeros, zeroNumbers, readingOf, verdictOf}

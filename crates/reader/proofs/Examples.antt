@@ -7,9 +7,9 @@ use Prim.Native.String.{String}
 use Prim.Native.String as text
 use lib.ListN.{getD}
 use lib.Ieee.{binary64, ofBits}
-use Rattle.arithmetic.specs.Answer.{Answer, value, refused}
+use Rattle.refusals.specs.Answer.{Answer, value, refused}
 use Rattle.store.specs.Tracks.{startTrack}
-use Rattle.cells.specs.Schema as cells-schema
+use Rattle.schema.specs.Schema as cells-schema
 use Rattle.cells.specs.Cells as cells-cells
 use Rattle.rows.specs.NamesLine as rows-namesline
 use Rattle.rows.specs.ValuesLine as rows-valuesline

@@ -8,8 +8,8 @@ use borrow.Author.Tests.{lt-ltb, le-ltb, eq-eqb, ne-eqb}
 use lib.Dec.{leb}
 use lib.ListN.{length}
 use lib.Ieee.{Float}
-use Rattle.arithmetic.specs.Answer.{Answer, value, refused}
-use Rattle.arithmetic.specs.declared.refusals.Refusal.{Refusal}
+use Rattle.refusals.specs.Answer.{Answer, value, refused}
+use Rattle.refusals.specs.declared.refusals.Refusal.{Refusal}
 use Rattle.admission.specs.Admission.{admissionOf}
 use Rattle.store.specs.Tracks.{startTrack}
 use Rattle.store.specs.declared.tracks.Track.{Track}

@@ -8,7 +8,7 @@ use borrow.Author.Tests.{lt-ltb, le-ltb, eq-eqb, ne-eqb}
 use lib.Dec.{eqb}
 use lib.ListN.{length}
 use lib.Ieee.{Float}
-use Rattle.cells.specs.Schema.{nameOf, limitOf}
+use Rattle.schema.specs.Schema.{nameOf, limitOf}
 use Rattle.cells.specs.Cells.{byteAt, nameAt}
 use Rattle.cells.specs.declared.names.Span.{Span}
 use Rattle.rows.specs.NamesLine.{headAt}

@@ -7,10 +7,10 @@ use mathlib.Core.List.{List}
 use lib.ListN.{length, replicate}
 use lib.Dec.{eqb, ltb, leb}
 use lib.Ieee.{Float, binary64, ofBits}
-use Rattle.arithmetic.specs.Answer.{Answer, value, refused}
-use Rattle.arithmetic.specs.Refusal.{numberOf}
+use Rattle.refusals.specs.Answer.{Answer, value, refused}
+use Rattle.refusals.specs.Refusal.{numberOf}
 use Rattle.admission.specs.Admission.{admissionOf}
-use Rattle.cells.specs.Schema.{nameOf, limitOf}
+use Rattle.schema.specs.Schema.{nameOf, limitOf}
 use Rattle.cells.specs.Cells.{byteAt, nameAt}
 use Rattle.rows.specs.NamesLine.{headAt}
 use Rattle.rows.specs.ValuesLine.{rowAt}

@@ -1,5 +1,5 @@
 // What reading answers.
-use arithmetic::Refusal;
+use refusals::Refusal;
 
 pub enum Read {
     // how many wants

@@ -7,7 +7,7 @@ use crate::clearing::clear;
 use crate::taking::Taken;
 use crate::taking::tables;
 use admission::Verdict;
-use arithmetic::Refusal;
+use refusals::Refusal;
 
 // What a text that was taken leads to: its form, then references and order, then the road that was stored.
 fn judged(taken: Taken, words: &[u16], numbers: &[f64]) -> Read

@@ -1,6 +1,6 @@
 // The tables of a text, in their order, taken into zeroed slices. A reference or an order that is wrong is remembered and the form goes on.
 ghost use mathlib.Core.Path.{_≡_};
-ghost use Rattle.cells.specs.Schema.{limitOf};
+ghost use Rattle.schema.specs.Schema.{limitOf};
 ghost use Rattle.store.specs.Tracks.{startTrack};
 ghost use Rattle.reader.specs.Reading.{Agrees, linesFrom, tableAt, tablesFrom, countedTrack};
 use rows::Order;
@@ -40,7 +40,7 @@ fn lines(
 ) -> Taken
     ensures { λ r. ⌜ Agrees (linesFrom (limitOf table) table order (now (text .entry)) from 0 start (now (words .entry)) (now (numbers .entry)) (now (wants .entry))) r (now (words .exit)) (now (numbers .exit)) (now (wants .exit)) ⌝ }
 {
-    let limit = cells::limit_of(table);
+    let limit = schema::limit_of(table);
     let mut track = start;
     let mut at = from;
     let mut k: u16 = 0;
@@ -81,7 +81,7 @@ fn table_at(
     ensures { λ r. ⌜ Agrees (tableAt table (now (text .entry)) at track (now (words .entry)) (now (numbers .entry)) (now (wants .entry))) r (now (words .exit)) (now (numbers .exit)) (now (wants .exit)) ⌝ }
 {
     let name = cells::name_at(text, at);
-    if name.value != cells::table_name(table) {
+    if name.value != schema::table_name(table) {
         return Taken {
             number: 0,
             next: at,

@@ -1,4 +1,4 @@
--- The cubics and the heights that a list of numbers holds, and the value and the slope by the active cubic. From the laws on tables.
+-- The heights that a list of numbers holds, and the value and the slope by the active cubic. From the laws on tables.
 use Prim.Native.Nat.{ℕ, _+_, _*_, _/_, _<_, _≤_}
 use native.Mathlib.Omega.{arith}
 use mathlib.Core.Path.{_≡_, refl, ap, _∙_, sym}
@@ -6,47 +6,32 @@ use mathlib.Core.List.{List, []}
 use lib.ListN.{length, getD}
 use lib.Ieee.{Float, nan}
 use Rattle.float_laws.specs.Binary64.{zero64}
-use Rattle.records.specs.declared.cubics.Cubic.{Cubic}
+use Rattle.cubics.specs.declared.cubics.Cubic.{Cubic}
 use Rattle.records.specs.declared.points.HeightDef.{HeightDef}
-use Rattle.records.specs.declared.scan.Found.{Found}
-use Rattle.records.specs.declared.scan.Found.the-variants.{At, Nothing}
-use Rattle.records.specs.Lists.{table}
-use Rattle.records.specs.Cubics.{cubicsOf, cubicAt, cubicFrom, noCubic, evalAt, slopeAt}
+use Rattle.records.specs.declared.points.Found.{Found}
+use Rattle.records.specs.declared.points.Found.the-variants.{At, Nothing}
+use Rattle.lent.specs.Lists.{table}
+use Rattle.cubics.specs.Cubics.{cubicsOf, cubicAt, evalAt, slopeAt}
 use Rattle.records.specs.Active.{lastStart, reached, activeIn, valueIn, slopeIn}
 use Rattle.records.specs.Roads.{heightsOf, heightDefAt, heightFrom, noHeight}
-use Rattle.records.proofs.TableLaws.{length-table, table-at, table-past}
+use Rattle.lent.proofs.TableLaws.{length-table, table-at, table-past}
+use Rattle.cubics.proofs.CubicTables.{cubic-count, cubic-in}
 use Rattle.records.proofs.ScanLaws.{lastStart-same}
 
 none-more : (k : ℕ) → 0 + k ≡ k
 none-more k = omega arith
 
--- no numbers, no cubics
-pub cubics-none : {xs : List Float} → xs ≡ [] → cubicsOf xs ≡ []
-unfolding cubicsOf
-cubics-none e = rw e
-
+-- no numbers, no heights
 pub heights-none : {xs : List Float} → xs ≡ [] → heightsOf xs ≡ []
 unfolding heightsOf
 heights-none e = rw e
 
 module _ (xs : List Float) where
-  pub cubic-count : length (cubicsOf xs) ≡ length xs / 5
-  unfolding cubicsOf
-  cubic-count = length-table _ _
-
-  pub cubic-in : (i : ℕ) → i < length xs / 5 → cubicAt (cubicsOf xs) i ≡ cubicFrom xs (i * 5)
-  unfolding cubicsOf
-  cubic-in i h = table-at _ _ i noCubic h
-
-  pub cubic-past : (i : ℕ) → length xs / 5 ≤ i → cubicAt (cubicsOf xs) i ≡ noCubic
-  unfolding cubicsOf
-  cubic-past i h = table-past _ _ i noCubic h
-
   -- the active cubic by the starts where they stand
   pub active-by : (s : Float) → lastStart (λ (i : ℕ). getD xs (0 + i * 5) nan) (reached s) (length xs / 5) ≡ activeIn (cubicsOf xs) s
   unfolding activeIn
   active-by s =
-      rw cubic-count (lastStart-same _ _ (reached s) _ (λ i h. ap (λ (k : ℕ). getD xs k nan) (none-more (i * 5)) ∙ sym (ap (λ (c : Cubic). c .start) (cubic-in i h))))
+      rw (cubic-count xs) (lastStart-same _ _ (reached s) _ (λ i h. ap (λ (k : ℕ). getD xs k nan) (none-more (i * 5)) ∙ sym (ap (λ (c : Cubic). c .start) (cubic-in xs i h))))
 
   pub height-count : length (heightsOf xs) ≡ length xs / 3
   unfolding heightsOf

@@ -1,4 +1,3 @@
-pub mod TableLaws
 pub mod ScanLaws
 pub mod CubicLaws
 pub mod RoadLaws

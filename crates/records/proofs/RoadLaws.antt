@@ -9,17 +9,17 @@ use lib.ListN.{length, getD}
 use lib.Dec.{eqb}
 use lib.Ieee.{Float, nan, eq}
 use Rattle.float_laws.specs.Binary64.{zero64}
-use Rattle.records.specs.declared.cubics.Cubic.{Cubic}
+use Rattle.cubics.specs.declared.cubics.Cubic.{Cubic}
 use Rattle.records.specs.declared.points.GeomRec.{GeomRec}
 use Rattle.records.specs.declared.points.StripKind.{StripKind}
 use Rattle.records.specs.declared.points.StripKind.the-variants.{Absent, Absolute, Relative}
-use Rattle.records.specs.declared.scan.Found.{Found}
-use Rattle.records.specs.declared.scan.Found.the-variants.{At, Nothing}
-use Rattle.records.specs.Lists.{table, span}
-use Rattle.records.specs.Cubics.{cubicsOf}
+use Rattle.records.specs.declared.points.Found.{Found}
+use Rattle.records.specs.declared.points.Found.the-variants.{At, Nothing}
+use Rattle.lent.specs.Lists.{table, span}
+use Rattle.cubics.specs.Cubics.{cubicsOf}
 use Rattle.records.specs.Active.{lastStart, foundOf, orFirst, reached}
 use Rattle.records.specs.Roads.{Road, Lane, Section, Profile, Strip, absent, present, roadOf, geomIn, unusedIn, laneIn, sectionIn, profileIn, columnIn, stripIn, cubicsIn, heightsIn, heightsOf, wordAt, geomFrom, noGeom, geomAt, unusedOf, allZero, unusedZero, noSection, sectionOf, noLane, laneBy, laneOf, noProfile, profileAt, stripAt, kindOf, columnOf, columnBy, geomIndex, sectionIndex}
-use Rattle.records.proofs.TableLaws.{length-table, table-at, table-past, span-at}
+use Rattle.lent.proofs.TableLaws.{length-table, table-at, table-past, span-at}
 use Rattle.records.proofs.ScanLaws.{lastStart-same}
 
 -- a place by a sum of two literals, and by a sum of three

@@ -7,17 +7,17 @@ use lib.ListN.{length, getD}
 use lib.Dec.{eqb}
 use lib.Ieee.{Float, nan, eq}
 use Rattle.float_laws.specs.Binary64.{zero64}
-use Rattle.records.specs.declared.cubics.Cubic.{Cubic}
+use Rattle.cubics.specs.declared.cubics.Cubic.{Cubic}
 use Rattle.records.specs.declared.points.GeomRec.{GeomRec}
 use Rattle.records.specs.declared.points.GeomShape.{GeomShape}
 use Rattle.records.specs.declared.points.GeomShape.the-variants.{Line, Arc, Spiral}
 use Rattle.records.specs.declared.points.HeightDef.{HeightDef}
 use Rattle.records.specs.declared.points.StripKind.{StripKind}
 use Rattle.records.specs.declared.points.StripKind.the-variants.{Absent, Absolute, Relative}
-use Rattle.records.specs.declared.scan.Found.{Found}
-use Rattle.records.specs.declared.scan.Found.the-variants.{At, Nothing}
-use Rattle.records.specs.Lists.{table, span}
-use Rattle.records.specs.Cubics.{cubicsOf}
+use Rattle.records.specs.declared.points.Found.{Found}
+use Rattle.records.specs.declared.points.Found.the-variants.{At, Nothing}
+use Rattle.lent.specs.Lists.{table, span}
+use Rattle.cubics.specs.Cubics.{cubicsOf}
 use Rattle.records.specs.Active.{lastStart, orFirst, reached}
 use Rattle.records.specs.Layout.{geomBase, geomStride, elevBase, bankBase, offsetBase, tshiftBase, sectionBase, extentBase, heightBase, profileBase, shapeBase, cubicBase, cubicStride, heightStride, kindBase, sectionWords, sectionStride, laneWords, laneStride, profileWords, profileStride, stripWords, stripStride}
 

@@ -49,3 +49,8 @@ pub enum StripKind {
     Absolute,
     Relative,
 }
+
+pub enum Found {
+    At(usize),
+    Nothing,
+}

@@ -1,24 +1,24 @@
 // The pose of a geometry at a station. A line and an arc run on past their length; a spiral stops at its first and last sample.
-use crate::counting::least;
-use crate::counting::less;
-use crate::line::Pose;
-use crate::line::Sample;
-use crate::spirals::sample_count;
-use crate::spirals::samples_before;
+use crate::differences::less;
 use records::GeomRec;
 use records::GeomShape;
+use spirals::Pose;
+use spirals::Sample;
+use spirals::least;
+use spirals::sample_count;
+use spirals::samples_before;
 ghost use mathlib.Core.Path.{_≡_};
 ghost use Prim.Native.Nat.{_<_, _≤_};
 ghost use mathlib.Core.Bool.{cond};
 ghost use lib.Ieee.{lt};
 ghost use Rattle.float_laws.specs.Binary64.{f64, zero64, absOf};
 ghost use Rattle.records.specs.Roads.{roadOf};
-ghost use Rattle.reference_line.specs.Poses.{linePose, arcPose, sampleAt, held, leading, segment, fractionOf, between, spiralPose, poseOf};
+ghost use Rattle.spirals.specs.Poses.{linePose, arcPose, sampleAt, held, leading, segment, fractionOf, between, spiralPose, poseOf};
 
 fn line_pose(g: GeomRec, ds: f64) -> Pose
     ensures { λ r. ⌜ r ≡ linePose g ds ⌝ }
 {
-    let h = arithmetic::sin_cos(g.hdg);
+    let h = trigonometry::sin_cos(g.hdg);
     Pose {
         x: g.x + ds * h.cos,
         y: g.y + ds * h.sin,
@@ -30,8 +30,8 @@ fn arc_pose(g: GeomRec, k: f64, ds: f64) -> Pose
     ensures { λ r. ⌜ r ≡ arcPose g k ds ⌝ }
 {
     let h = g.hdg + k * ds;
-    let to = arithmetic::sin_cos(h);
-    let from = arithmetic::sin_cos(g.hdg);
+    let to = trigonometry::sin_cos(h);
+    let from = trigonometry::sin_cos(g.hdg);
     Pose {
         x: g.x + (to.sin - from.sin) / k,
         y: g.y - (to.cos - from.cos) / k,
@@ -46,10 +46,10 @@ fn sample_at(samples: &[f64], first: usize, k: usize) -> Sample
 {
     let at = (first + k) * 4;
     Sample {
-        distance: records::number(samples, at),
-        x: records::number(samples, at + 1),
-        y: records::number(samples, at + 2),
-        heading: records::number(samples, at + 3),
+        distance: lent::number(samples, at),
+        x: lent::number(samples, at + 1),
+        y: lent::number(samples, at + 2),
+        heading: lent::number(samples, at + 3),
     }
 }
 
@@ -75,7 +75,7 @@ fn leading_at(samples: &[f64], first: usize, d: f64, n: usize) -> usize
 {
     let mut k = 0;
     while k < n {
-        if records::number(samples, (first + k) * 4) <= d {
+        if lent::number(samples, (first + k) * 4) <= d {
             k += 1;
         } else {
             return k;
@@ -140,7 +140,7 @@ fn arc_or_line(g: GeomRec, k: f64, ds: f64) -> Pose
 pub fn pose(words: &[u16], numbers: &[f64], samples: &[f64], i: usize, s: f64) -> Pose
     ensures { λ r. ⌜ r ≡ poseOf (roadOf (now (words .entry)) (now (numbers .entry))) (now (samples .entry)) i s ⌝ }
 {
-    let g = records::geom(words, numbers, i);
+    let g = geometry::geom(words, numbers, i);
     let ds = s - g.s;
     let shape = g.shape;
     match shape {

@@ -2,8 +2,8 @@
 use Prim.Native.Nat.{ℕ}
 use mathlib.Core.Path.{_≡_, ap, sym, _∙_}
 use lib.Ieee.{Float}
-use Rattle.arithmetic.specs.Answer.{Answer}
-use Rattle.lanes.specs.declared.across.LaneName.{LaneName}
+use Rattle.refusals.specs.Answer.{Answer}
+use Rattle.lane_names.specs.declared.names.LaneName.{LaneName}
 use Rattle.lane_calls.specs.LaneCalls.{nameAnswer}
 use Rattle.lane_calls.specs.declared.asking.Named.{Named}
 use Rattle.road_cases.specs.Case.{countWord, nameNumber}

@@ -6,18 +6,18 @@ use lib.Dec.{eqb}
 use lib.ListN.{getD}
 use lib.Ieee.{Float, binary64, ofBits, ofInt, toBits, eq, neg, nan}
 use Rattle.float_laws.specs.Binary64.{f64, zero64}
-use Rattle.arithmetic.specs.Answer.{Answer, value, refused}
-use Rattle.arithmetic.specs.Sine.{tanOf}
+use Rattle.refusals.specs.Answer.{Answer, value, refused}
+use Rattle.trigonometry.specs.Sine.{tanOf}
 use Rattle.records.specs.Active.{valueIn}
 use Rattle.records.specs.Roads.{Road, roadOf, sectionIndex}
-use Rattle.reference_line.specs.Poses.{poseOf}
-use Rattle.reference_line.specs.declared.line.Pose.{Pose}
+use Rattle.spirals.specs.Poses.{poseOf}
+use Rattle.spirals.specs.declared.line.Pose.{Pose}
 use Rattle.admission.specs.Samples.{sampledOf, sampledList}
 use Rattle.lateral.specs.Lateral.{heightToward}
-use Rattle.lanes.specs.Heights.{acrossAt}
-use Rattle.lanes.specs.declared.across.Across.{Across}
-use Rattle.lanes.specs.declared.across.LaneName.{LaneName}
-use Rattle.lanes.specs.declared.across.LaneName.the-variants as name
+use Rattle.lane_heights.specs.Heights.{acrossAt}
+use Rattle.lane_heights.specs.declared.across.Across.{Across}
+use Rattle.lane_names.specs.declared.names.LaneName.{LaneName}
+use Rattle.lane_names.specs.declared.names.LaneName.the-variants as name
 use Rattle.lane_calls.specs.LaneCalls.{bordersOf, bordersList, namedOf}
 
 -- the word that is written for a number: zeros alike, NaNs alike

@@ -2,7 +2,7 @@
 ghost use mathlib.Core.Path.{_≡_};
 ghost use lib.ListN.{length};
 ghost use Rattle.records.specs.Roads.{roadOf};
-ghost use Rattle.reference_line.specs.Poses.{poseOf};
+ghost use Rattle.spirals.specs.Poses.{poseOf};
 ghost use Rattle.admission.specs.Samples.{sampledOf, sampledList};
 ghost use Rattle.lane_calls.specs.LaneCalls.{bordersOf, bordersList, namedOf};
 ghost use Rattle.road_cases.specs.Case.{posePart, acrossPart, laneAcross, towardOf, countWord, nameNumber, answerOf, filledOf, filledList};
@@ -34,13 +34,13 @@ fn pose_part(
 fn across_part(words: &[u16], numbers: &[f64], s: f64, lane: u64, part: u64) -> f64
     ensures { λ r. ⌜ r ≡ acrossPart (laneAcross (roadOf (now (words .entry)) (now (numbers .entry))) s lane) part ⌝ }
 {
-    let bank = records::value(records::superelevations(words, numbers), s);
-    let a = lanes::lane_across(
+    let bank = stations::value(records::superelevations(words, numbers), s);
+    let a = lane_heights::lane_across(
         words,
         numbers,
-        records::section_at(words, numbers, s),
+        stations::section_at(words, numbers, s),
         s,
-        arithmetic::tan(bank),
+        trigonometry::tan(bank),
         lane % 2 == 1,
         (lane / 2) as usize,
     );
@@ -87,9 +87,9 @@ pub(crate) fn answer(
     match letter {
         b'p' => pose_part(words, numbers, lent, a, y, part),
         b'h' => across_part(words, numbers, x, b, part),
-        b't' => lateral::height_toward(words, numbers, x, y, toward(part)),
+        b't' => cross_sections::height_toward(words, numbers, x, y, toward(part)),
         b'l' => name(words, numbers, x, y),
-        _ => records::number(lent, std::num::wrapping_add_u64(a, part) as usize),
+        _ => lent::number(lent, std::num::wrapping_add_u64(a, part) as usize),
     }
 }
 
@@ -99,7 +99,7 @@ fn samples_word(words: &[u16], numbers: &[f64], lent: &mut [f64]) -> u64
 {
     match admission::samples(words, numbers, lent) {
         Sampled::Made(n) => std::num::wrapping_add_u64(n as u64, 0x8000_0000_0000_0000),
-        Sampled::Refused(why) => arithmetic::number(why) as u64,
+        Sampled::Refused(why) => refusals::number(why) as u64,
     }
 }
 
@@ -109,7 +109,7 @@ fn borders_word(words: &[u16], numbers: &[f64], s: f64, lent: &mut [f64]) -> u64
 {
     match lane_calls::borders(words, numbers, s, lent) {
         Bordered::Lanes(n) => std::num::wrapping_add_u64(n as u64, 0x8000_0000_0000_0000),
-        Bordered::Refused(why) => arithmetic::number(why) as u64,
+        Bordered::Refused(why) => refusals::number(why) as u64,
     }
 }
 

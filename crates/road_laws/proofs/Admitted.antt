@@ -6,17 +6,17 @@ use mathlib.Core.List.{List, _++_}
 use lib.ListN.{length}
 use lib.Dec.{leb, leb→le}
 use lib.Ieee.{Float}
-use Rattle.arithmetic.specs.Sine.{sineRange}
-use Rattle.records.specs.Lists.{allBelow}
+use Rattle.trigonometry.specs.Sine.{sineRange}
+use Rattle.lent.specs.Lists.{allBelow}
 use Rattle.records.specs.Roads.{roadOf, wordAt, geomIndex}
 use Rattle.records.proofs.RoadLaws.{geom-count, section-count}
 use Rattle.structure.specs.Structure.{slicesOk, countsOk, kindsOk, sectionOk, profileOk, stripOk, structured}
-use Rattle.limits.specs.Limits.{limited}
+use Rattle.bounds.specs.Limits.{limited}
 use Rattle.limit_laws.proofs.LimitParts.{and-fst, and-snd, true-T}
 use Rattle.limit_laws.proofs.Fitting.{Fitting, road-fits}
 use Rattle.limit_laws.proofs.RoadBounds.{OnRoad}
-use Rattle.reference_line.specs.Spiral.{samplesNeeded, samplesOf}
-use Rattle.reference_line.specs.Poses.{poseOf}
+use Rattle.spirals.specs.Spiral.{samplesNeeded, samplesOf}
+use Rattle.spirals.specs.Poses.{poseOf}
 use Rattle.road_laws.proofs.Geometry.{PoseWithin}
 use Rattle.road_laws.proofs.PoseBounds.{pose-far, station-pose-within}
 

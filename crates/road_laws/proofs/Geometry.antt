@@ -17,18 +17,18 @@ use Rattle.float_laws.proofs.Interval.{In, sub-in, le→parts}
 use Rattle.float_laws.proofs.Size.{Within, within-of-le, le-of-within, within-mono, within-const, add-within, sub-within, mul-within, neg-mag}
 use Rattle.float_laws.proofs.Order.{div-within}
 use Rattle.float_laws.proofs.Checker.{good, good-real}
-use Rattle.arithmetic.specs.Sine.{sineRange, one, sineOf, cosineOf}
-use Rattle.arithmetic.proofs.SineLaws.{sine-within, cosine-within}
+use Rattle.trigonometry.specs.Sine.{sineRange, one, sineOf, cosineOf}
+use Rattle.sine_laws.proofs.SineLaws.{sine-within, cosine-within}
 use Rattle.records.specs.declared.points.GeomRec.{GeomRec}
 use Rattle.records.specs.declared.points.GeomShape.the-variants.{Arc}
-use Rattle.records.specs.declared.scan.Found.{Found}
-use Rattle.records.specs.declared.scan.Found.the-variants.{At, Nothing}
+use Rattle.records.specs.declared.points.Found.{Found}
+use Rattle.records.specs.declared.points.Found.the-variants.{At, Nothing}
 use Rattle.records.specs.Active.{lastStart, orFirst}
 use Rattle.records.specs.Roads.{Road, geomAt, geomIndex}
-use Rattle.reference_line.specs.declared.line.Pose.{Pose}
-use Rattle.reference_line.specs.Poses.{linePose, arcPose}
-use Rattle.limits.specs.Bounds.{inRange, sized}
-use Rattle.limits.specs.Limits.{shapeLimited, limited}
+use Rattle.spirals.specs.declared.line.Pose.{Pose}
+use Rattle.spirals.specs.Poses.{linePose, arcPose}
+use Rattle.ranges.specs.Bounds.{inRange, sized}
+use Rattle.bounds.specs.Limits.{shapeLimited, limited}
 use Rattle.limit_laws.proofs.Fitting.{RoadFits}
 use Rattle.limit_laws.proofs.ActiveRecord.{found-at}
 use Rattle.limit_laws.proofs.LimitParts.{and-fst, true-T, arc-parts}

@@ -16,17 +16,17 @@ use Rattle.float_laws.proofs.Size.{Within, within-const}
 use Rattle.float_laws.proofs.Order.{sub-mono}
 use Rattle.float_laws.proofs.Interpolate.{interpolate-within}
 use Rattle.float_laws.proofs.Checker.{good-real}
-use Rattle.arithmetic.specs.Sine.{sineRange, one}
+use Rattle.trigonometry.specs.Sine.{sineRange, one}
 use Rattle.records.specs.declared.points.GeomShape.{GeomShape}
 use Rattle.records.specs.declared.points.GeomShape.the-variants.{Line, Arc, Spiral}
 use Rattle.records.specs.Roads.{Road, geomAt, geomIndex}
-use Rattle.reference_line.specs.declared.line.Sample.{Sample}
-use Rattle.reference_line.specs.Spiral.{spiralSteps, sampleCount, samplesBefore, samplesNeeded, geomSamples, samplesOf}
-use Rattle.reference_line.specs.Poses.{linePose, arcPose, sampleAt, held, leading, segment, fractionOf, between, spiralPose, poseBy, poseOf}
-use Rattle.reference_line.proofs.SpiralLaws.{count-spiral, samples-held, first-distance}
-use Rattle.reference_line.proofs.SpiralFirst.{admitted-count}
-use Rattle.reference_line.proofs.PoseLaws.{segment-in}
-use Rattle.limits.specs.Limits.{shapeLimited, limited}
+use Rattle.spirals.specs.declared.line.Sample.{Sample}
+use Rattle.spirals.specs.Spiral.{spiralSteps, sampleCount, samplesBefore, samplesNeeded, geomSamples, samplesOf}
+use Rattle.spirals.specs.Poses.{linePose, arcPose, sampleAt, held, leading, segment, fractionOf, between, spiralPose, poseBy, poseOf}
+use Rattle.spirals.proofs.SpiralLaws.{count-spiral, samples-held, first-distance}
+use Rattle.spirals.proofs.SpiralFirst.{admitted-count}
+use Rattle.spirals.proofs.PoseLaws.{segment-in}
+use Rattle.bounds.specs.Limits.{shapeLimited, limited}
 use Rattle.limit_laws.proofs.Fitting.{Fits64, ShapeFits, RoadFits}
 use Rattle.limit_laws.proofs.RoadBounds.{OnRoad, geom-x-within, geom-y-within, geom-hdg-within, geom-length-in, geom-shape-passes, arc-within, spiral-within}
 use Rattle.road_laws.proofs.Powers.{Plus, none-below, sub-plus, ratio-plus, sub-above}

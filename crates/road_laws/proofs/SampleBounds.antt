@@ -18,14 +18,14 @@ use Rattle.float_laws.proofs.Interval.{In, le→parts, from-zero}
 use Rattle.float_laws.proofs.Size.{Within, within-mono, within-const, le-of-within, sub-within}
 use Rattle.float_laws.proofs.Exact.{exponent}
 use Rattle.float_laws.proofs.Checker.{good-real}
-use Rattle.arithmetic.specs.Sine.{sineRange, half, one, sineOf, cosineOf}
-use Rattle.arithmetic.proofs.SineLaws.{sine-within, cosine-within}
+use Rattle.trigonometry.specs.Sine.{sineRange, half, one, sineOf, cosineOf}
+use Rattle.sine_laws.proofs.SineLaws.{sine-within, cosine-within}
 use Rattle.records.specs.declared.points.GeomRec.{GeomRec}
 use Rattle.records.specs.declared.points.GeomShape.the-variants.{Spiral}
 use Rattle.records.specs.Roads.{Road, geomAt}
-use Rattle.reference_line.specs.declared.line.Sample.{Sample}
-use Rattle.reference_line.specs.Spiral.{goesOn, stepAt, stepsFrom, mostSteps, spiralSteps, sampleCount, samplesBefore, samplesNeeded, turnRate, headingAt, firstSample, nextSample, samplesAfter, geomSamples}
-use Rattle.reference_line.proofs.SpiralLaws.{count-spiral, before-next, before-mono, samples-are}
+use Rattle.spirals.specs.declared.line.Sample.{Sample}
+use Rattle.spirals.specs.Spiral.{goesOn, stepAt, stepsFrom, mostSteps, spiralSteps, sampleCount, samplesBefore, samplesNeeded, turnRate, headingAt, firstSample, nextSample, samplesAfter, geomSamples}
+use Rattle.spirals.proofs.SpiralLaws.{count-spiral, before-next, before-mono, samples-are}
 use Rattle.road_laws.proofs.Powers.{Small, mul-small, div-small, Plus, none-below, plus-small, plus-mono, sub-plus, lesser-plus, div-plus, add-plus, sum-next, power-below}
 use Rattle.road_laws.proofs.Geometry.{million, thousand, ten-thousand, nano, sum-passes, sum-within}
 

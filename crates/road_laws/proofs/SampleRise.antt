@@ -20,12 +20,12 @@ use Rattle.float_laws.proofs.Interval.{In, le→parts}
 use Rattle.float_laws.proofs.Size.{Within}
 use Rattle.float_laws.proofs.Order.{sub-mono}
 use Rattle.float_laws.proofs.Checker.{good-real}
-use Rattle.arithmetic.specs.Sine.{one}
+use Rattle.trigonometry.specs.Sine.{one}
 use Rattle.records.specs.declared.points.GeomRec.{GeomRec}
 use Rattle.records.specs.declared.points.GeomShape.the-variants.{Spiral}
-use Rattle.reference_line.specs.declared.line.Sample.{Sample}
-use Rattle.reference_line.specs.Spiral.{goesOn, stepAt, stepsFrom, mostSteps, spiralSteps, firstSample, nextSample, samplesAfter, geomSamples}
-use Rattle.reference_line.proofs.SpiralLaws.{samples-are, samples-next}
+use Rattle.spirals.specs.declared.line.Sample.{Sample}
+use Rattle.spirals.specs.Spiral.{goesOn, stepAt, stepsFrom, mostSteps, spiralSteps, firstSample, nextSample, samplesAfter, geomSamples}
+use Rattle.spirals.proofs.SpiralLaws.{samples-are, samples-next}
 use Rattle.road_laws.proofs.Powers.{Plus, sub-plus}
 use Rattle.road_laws.proofs.Geometry.{million, thousand, ten-thousand, nano}
 use Rattle.road_laws.proofs.SampleBounds.{hundredth, quarter, quarter-plus, nano-plus, not-below-zero, length-plus, nano-below, sample-end, five-hundred, SampleWithin, sample-within}

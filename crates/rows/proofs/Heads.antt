@@ -5,7 +5,7 @@ use mathlib.Core.Bool.{Bool, true, false}
 use mathlib.Core.List.{List}
 use native.Mathlib.Omega.{arith}
 use borrow.Author.Tests.{eq-eqb, ne-eqb}
-use Rattle.cells.specs.Schema.{countOf, placeOf}
+use Rattle.schema.specs.Schema.{countOf, placeOf}
 use Rattle.cells.specs.Cells.{byteAt, nameAt}
 use Rattle.cells.specs.declared.names.Span.{Span}
 use Rattle.rows.specs.Columns.{noOrder, allDue, isDue, metIn, orderedBy}

@@ -6,7 +6,7 @@ use mathlib.Core.List.{List}
 use native.Mathlib.Omega.{arith}
 use borrow.Author.Tests.{eq-eqb, ne-eqb}
 use lib.ListN.{length}
-use Rattle.cells.specs.Schema.{countOf, kindOf}
+use Rattle.schema.specs.Schema.{countOf, kindOf}
 use Rattle.cells.specs.Cells.{byteAt, cellAt}
 use Rattle.cells.specs.declared.values.Cell.{Cell}
 use Rattle.cells.specs.declared.values.Cell.the-variants.{Value, Broken}

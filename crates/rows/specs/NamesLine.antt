@@ -4,7 +4,7 @@ use Prim.Native.Nat.{ℕ, zero, suc, _+_}
 use mathlib.Core.Bool.{true, false, cond}
 use mathlib.Core.List.{List}
 use lib.Dec.{eqb}
-use Rattle.cells.specs.Schema.{countOf, placeOf}
+use Rattle.schema.specs.Schema.{countOf, placeOf}
 use Rattle.cells.specs.Cells.{byteAt, nameAt}
 use Rattle.cells.specs.declared.names.Span.{Span}
 use Rattle.rows.specs.Columns.{noOrder, allDue, isDue, metIn, orderedBy}

@@ -3,7 +3,7 @@ use Prim.Native.Nat.{ℕ, zero, suc, _+_}
 use mathlib.Core.Bool.{true, false, cond}
 use mathlib.Core.List.{List}
 use lib.Dec.{eqb}
-use Rattle.cells.specs.Schema.{countOf, kindOf}
+use Rattle.schema.specs.Schema.{countOf, kindOf}
 use Rattle.cells.specs.Cells.{byteAt, cellAt}
 use Rattle.cells.specs.declared.values.Cell.{Cell}
 use Rattle.cells.specs.declared.values.Cell.the-variants.{Value, Broken}

@@ -44,7 +44,7 @@ fn column_at(text: &[u8], at: usize, table: usize) -> Named
         };
     }
     let name = cells::name_at(text, at + 1);
-    let column = cells::place_of(table, name.value);
+    let column = schema::place_of(table, name.value);
     Named {
         column,
         next: name.next,
@@ -56,7 +56,7 @@ fn column_at(text: &[u8], at: usize, table: usize) -> Named
 pub fn head_at(text: &[u8], at: usize, table: usize) -> Head
     ensures { λ r. ⌜ r ≡ headAt (now (text .entry)) at table ⌝ }
 {
-    let n = cells::count_of(table) as usize;
+    let n = schema::count_of(table) as usize;
     let mut due = all_due(n);
     let mut order = no_order();
     let mut p = at;

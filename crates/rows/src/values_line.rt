@@ -38,13 +38,13 @@ fn stop_of(i: usize, n: usize) -> u8
 pub fn row_at(text: &[u8], at: usize, table: usize, order: Order) -> Row
     ensures { λ r. ⌜ r ≡ rowAt (now (text .entry)) at table order ⌝ }
 {
-    let n = cells::count_of(table) as usize;
+    let n = schema::count_of(table) as usize;
     let mut values = no_cells();
     let mut p = at;
     let mut i = 0;
     while i < n {
         let column = column_of(order, i) as usize;
-        let cell = cells::cell_at(text, p, cells::kind_of(table, column));
+        let cell = cells::cell_at(text, p, schema::kind_of(table, column));
         let Cell::Value(v, q) = cell else {
             return no_row();
         };

@@ -1,5 +1,3 @@
-pub mod OrderLaws
-pub mod OrderTests
 pub mod StructureLaws
 pub mod TestLaws
 pub mod WordLaws

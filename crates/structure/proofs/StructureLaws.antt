@@ -9,9 +9,10 @@ use lib.ListN.{length, getD, drop, length-take, length-drop}
 use lib.Dec.{leb, ltb, eqb}
 use lib.Ieee.{Float}
 use borrow.Author.Tests.{leb-true, ltb-true, ltb-false}
-use Rattle.records.specs.Lists.{span, allBelow}
+use Rattle.lent.specs.Lists.{span, allBelow}
 use Rattle.records.specs.Roads.{Road, Lane, Profile, roadOf, wordAt, cubicsIn, heightsIn, laneIn, profileIn, columnIn, sectionOf, laneOf, noLane, profileAt, stripAt, columnOf}
-use Rattle.records.proofs.CubicLaws.{cubic-count, height-count}
+use Rattle.cubics.proofs.CubicTables.{cubic-count}
+use Rattle.records.proofs.CubicLaws.{height-count}
 use Rattle.records.proofs.RoadLaws.{geom-count, section-count, section-past, left-count, right-count, left-lane-in, right-lane-in, left-lane-past, right-lane-past, no-lane, profile-count, profile-in, column-in, column-absent, column-over, column-past}
 use Rattle.structure.specs.Structure.{countsOk, kindsOk, laneOk, sectionOk, profileOk, columnOk, stripOk, structured}
 use Rattle.structure.proofs.TestLaws.{chain-at, all-at, range-is}

@@ -11,7 +11,7 @@ use lib.Dec.{T, leb}
 use lib.Ieee.{Float, le, lt}
 use borrow.Author.Tests.{leb-true}
 use Rattle.float_laws.specs.Binary64.{_⊖_}
-use Rattle.records.specs.Lists.{allBelow}
+use Rattle.lent.specs.Lists.{allBelow}
 use Rattle.structure.specs.Structure.{rangeOk}
 use Rattle.structure.specs.Order.{margin, neverFall, riseStrictly, apart}
 

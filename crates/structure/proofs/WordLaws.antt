@@ -7,7 +7,7 @@ use lib.ListN.{length, getD}
 use lib.Dec.{leb, ltb, eqb}
 use lib.Ieee.{Float}
 use borrow.Author.Tests.{le-leb, lt-leb}
-use Rattle.records.specs.Lists.{allBelow}
+use Rattle.lent.specs.Lists.{allBelow}
 use Rattle.structure.specs.Structure.{rangeOk, countsOk, kindsOk, laneOk, sectionOk, profileOk, columnOk, stripOk, structured}
 
 module _ (words : List ℕ) (numbers : List Float) (i : ℕ) where

@@ -6,9 +6,9 @@ use mathlib.Core.List.{List}
 use lib.ListN.{length}
 use lib.Ieee.{Float, le, lt, eq}
 use Rattle.float_laws.specs.Binary64.{_⊖_, f64, zero64}
-use Rattle.records.specs.declared.cubics.Cubic.{Cubic}
-use Rattle.records.specs.Lists.{allBelow}
-use Rattle.records.specs.Cubics.{cubicAt}
+use Rattle.cubics.specs.declared.cubics.Cubic.{Cubic}
+use Rattle.lent.specs.Lists.{allBelow}
+use Rattle.cubics.specs.Cubics.{cubicAt}
 use Rattle.records.specs.Roads.{Road, Lane, Strip, geomAt, sectionOf, laneOf, profileAt, stripAt, columnOf, heightDefAt}
 
 -- 0.001

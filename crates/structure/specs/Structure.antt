@@ -7,7 +7,7 @@ use mathlib.Core.List.{List}
 use lib.ListN.{length}
 use lib.Dec.{leb, ltb, eqb}
 use lib.Ieee.{Float}
-use Rattle.records.specs.Lists.{allBelow}
+use Rattle.lent.specs.Lists.{allBelow}
 use Rattle.records.specs.Roads.{wordAt}
 use Rattle.records.specs.Layout.{kindBase, sectionWords, sectionStride, laneWords, laneStride, profileWords, profileStride, stripWords, stripStride, wordsNeeded, numbersNeeded}
 

@@ -1,6 +1,4 @@
-// Row 3 of document 01 for a lent road: counts and references on the words (structured), then the order of starts (ordered).
-mod ordering;
+// Row 3, by the words: counts, codes and ranges.
 mod words;
 
-pub use ordering::ordered;
 pub use words::structured;

@@ -1,9 +1,9 @@
 // Counts, codes and ranges of the lent words. Each count is tested before anything loops over it, so that a broken road is refused at once.
-use records::word;
+use lent::word;
 ghost use mathlib.Core.Path.{_≡_};
 ghost use Prim.Native.Nat.{_+_, _<_};
 ghost use lib.ListN.{getD};
-ghost use Rattle.records.specs.Lists.{allBelow};
+ghost use Rattle.lent.specs.Lists.{allBelow};
 ghost use Rattle.structure.specs.Structure.{rangeOk, countsOk, kindsOk, laneOk, sectionOk, profileOk, columnOk, stripOk, structured};
 
 // A range of least to most lines inside a table of limit lines.

@@ -8,9 +8,9 @@ use lib.Dec.{eqb, ltb}
 use lib.Ieee.{Float, binary32, binary64, ofBits, toBits}
 use Rattle.arithmetic.specs.Root.{rootOf}
 use Rattle.arithmetic.specs.Narrow.{narrowed}
-use Rattle.arithmetic.specs.Sine.{sineOf, cosineOf}
-use Rattle.arithmetic.specs.Answer.{Answer, value, refused}
-use Rattle.arithmetic.specs.Count.{countOf}
+use Rattle.trigonometry.specs.Sine.{sineOf, cosineOf}
+use Rattle.refusals.specs.Answer.{Answer, value, refused}
+use Rattle.axis_counts.specs.Count.{countOf}
 use Rattle.hexadecimal.specs.Hex.{byteAt, wordAt}
 use Rattle.vectors.specs.Raise.{raisedOf}
 use Rattle.hexadecimal.specs.declared.digits.Word.{Word}

@@ -2,7 +2,7 @@
 ghost use mathlib.Core.Path.{_≡_};
 ghost use lib.Ieee.{binary32, binary64, toBits};
 ghost use Rattle.vectors.specs.Raise.{raisedOf};
-ghost use Rattle.arithmetic.specs.Count.{answerOf};
+ghost use Rattle.axis_counts.specs.Count.{answerOf};
 ghost use Rattle.vectors.specs.Vector.{countWord};
 
 // The pattern of an f64, 7ff8000000000000 for a NaN.
@@ -36,11 +36,11 @@ fn raised(n: i64) -> u64
 }
 
 // A whole number n as n + 2^63, a refusal as its number.
-pub(crate) fn bits_of_counts(c: arithmetic::Counted) -> u64
+pub(crate) fn bits_of_counts(c: axis_counts::Counted) -> u64
     ensures { λ r. ⌜ r ≡ countWord (answerOf c) ⌝ }
 {
     match c {
-        arithmetic::Counted::Count(n) => raised(n),
-        arithmetic::Counted::Refused(why) => arithmetic::number(why) as u64,
+        axis_counts::Counted::Count(n) => raised(n),
+        axis_counts::Counted::Refused(why) => refusals::number(why) as u64,
     }
 }

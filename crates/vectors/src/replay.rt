@@ -36,9 +36,9 @@ fn answer(kind: usize, x: f64) -> u64
     match kind {
         0 => bits_of(arithmetic::root(x)),
         1 => bits_of_single(arithmetic::narrow(x)),
-        2 => bits_of(arithmetic::sin_cos(x).sin),
-        3 => bits_of(arithmetic::sin_cos(x).cos),
-        _ => bits_of_counts(arithmetic::counts(x)),
+        2 => bits_of(trigonometry::sin_cos(x).sin),
+        3 => bits_of(trigonometry::sin_cos(x).cos),
+        _ => bits_of_counts(axis_counts::counts(x)),
     }
 }
 

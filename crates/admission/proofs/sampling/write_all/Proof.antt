@@ -5,7 +5,7 @@ use native.Mathlib.Omega.{arith}
 use lib.ListN.{length}
 use lib.Seq.{sets}
 use Rattle.records.specs.Roads.{roadOf}
-use Rattle.reference_line.specs.Spiral.{samplesBefore, samplesUpTo, flat}
+use Rattle.spirals.specs.Spiral.{samplesBefore, samplesUpTo, flat}
 use Rattle.admission.proofs.WritingLaws.{all-start, all-none, turn-room, turn-place, all-turn, all-end}
 use borrow.Author.Needs.{needs}
 use Rattle.admission.proofs.sampling.write_all.Statement.{statement}

@@ -4,7 +4,7 @@ use Prim.Native.Nat.{_≤_, _+_, _-_, _*_}
 use native.Mathlib.Omega.{arith}
 use lib.ListN.{length}
 use lib.Seq.{sets}
-use Rattle.reference_line.specs.Spiral.{samplesAfter, flat}
+use Rattle.spirals.specs.Spiral.{samplesAfter, flat}
 use Rattle.admission.proofs.WritingLaws.{steps-none, steps-turn, steps-end}
 use borrow.Author.Needs.{needs}
 use Rattle.admission.proofs.sampling.write_steps.Statement.{statement}

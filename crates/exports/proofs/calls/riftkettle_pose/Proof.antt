@@ -1,6 +1,6 @@
 -- `riftkettle_pose`: the answer is known by its case.
 use mathlib.Core.Path.{_∙_}
-use Rattle.reference_line.specs.declared.line.Pose.{Pose}
+use Rattle.spirals.specs.declared.line.Pose.{Pose}
 use Rattle.pose_call.specs.PoseCall.{poseAnswer}
 use Rattle.exports.proofs.ExportLaws.{told, code-value, code-refused, left-value, left-refused}
 use borrow.Author.Needs.{needs}

@@ -4,8 +4,8 @@ use lib.IntN.{ℤ}
 use mir.Syntax.{w32}
 use mir.Val.{SFits}
 use mir.ValLaws.{toZ-ofZ}
-use Rattle.arithmetic.specs.Answer.{value}
-use Rattle.lanes.specs.declared.across.LaneName.the-variants as name
+use Rattle.refusals.specs.Answer.{value}
+use Rattle.lane_names.specs.declared.names.LaneName.the-variants as name
 use Rattle.lane_calls.proofs.CallLaws.{name-off, name-beyond, name-found}
 use borrow.Author.Needs.{needs}
 use Rattle.lane_calls.proofs.asking.name_at.Statement.{statement}

@@ -2,7 +2,7 @@
 use native.Mathlib.Omega.{arith}
 use mathlib.Core.Path.{_∙_, ap, sym}
 use Rattle.records.specs.Roads.{Lane, laneBy, laneIn}
-use Rattle.records.proofs.CubicLaws.{cubics-none}
+use Rattle.cubics.proofs.CubicTables.{cubics-none}
 use Rattle.records.proofs.RoadLaws.{cubics-by}
 use borrow.Author.Needs.{needs}
 use Rattle.lane_records.proofs.tables.extents.Statement.{statement}

@@ -1,7 +1,7 @@
 -- `base_at`: the value of the road's offsets.
 use mathlib.Core.Path.{_∙_, ap}
 use mathlib.Core.List.{List}
-use Rattle.records.specs.declared.cubics.Cubic.{Cubic}
+use Rattle.cubics.specs.declared.cubics.Cubic.{Cubic}
 use Rattle.records.specs.Active.{valueIn}
 use borrow.Author.Needs.{needs}
 use Rattle.lanes.proofs.bordering.base_at.Statement.{statement}

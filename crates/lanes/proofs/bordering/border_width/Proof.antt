@@ -1,7 +1,7 @@
 -- `border_width`: by whether a border record is active.
 use mathlib.Core.Path.{_∙_, ap, sym}
-use Rattle.records.specs.declared.cubics.Cubic.{Cubic}
-use Rattle.records.specs.Cubics.{cubicsOf, evalAt}
+use Rattle.cubics.specs.declared.cubics.Cubic.{Cubic}
+use Rattle.cubics.specs.Cubics.{cubicsOf, evalAt}
 use Rattle.lanes.proofs.BorderSteps.{border-at, border-none}
 use borrow.Author.Needs.{needs}
 use Rattle.lanes.proofs.bordering.border_width.Statement.{statement}

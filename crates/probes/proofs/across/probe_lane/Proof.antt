@@ -1,6 +1,6 @@
 -- `probe_lane`: the parts of the lane.
 use mathlib.Core.Path.{ap}
-use Rattle.lanes.specs.declared.across.Across.{Across}
+use Rattle.lane_heights.specs.declared.across.Across.{Across}
 use borrow.Author.Needs.{needs}
 use Rattle.probes.proofs.across.probe_lane.Statement.{statement}
 use Rattle.probes.proofs.across.probe_lane.Tie as tie

@@ -1,7 +1,7 @@
 -- `probe_pose`: the parts of the pose.
 use mathlib.Core.Path.{ap}
 use lib.Ieee.{Float}
-use Rattle.reference_line.specs.declared.line.Pose.{Pose}
+use Rattle.spirals.specs.declared.line.Pose.{Pose}
 use borrow.Author.Needs.{needs}
 use Rattle.probes.proofs.along.probe_pose.Statement.{statement}
 use Rattle.probes.proofs.along.probe_pose.Tie as tie

@@ -4,7 +4,7 @@ use Prim.Native.Nat.{_≤_, _-_}
 use lib.ListN.{length}
 use native.Mathlib.Omega.{arith}
 use borrow.Author.Tests.{not-true, not-false}
-use Rattle.cells.specs.Schema.{limitOf}
+use Rattle.schema.specs.Schema.{limitOf}
 use Rattle.cells.proofs.Inside.{inside}
 use Rattle.reader.specs.Reading.{linesFrom}
 use Rattle.reader.proofs.TakingCases.{agree-done, agree-stop, lines-start, lines-end, lines-cut, lines-over, lines-next}

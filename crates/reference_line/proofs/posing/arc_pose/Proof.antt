@@ -1,5 +1,5 @@
 -- What `sin_cos` gives of the two headings, put in its place.
-use Rattle.reference_line.specs.Poses.{arcPose}
+use Rattle.spirals.specs.Poses.{arcPose}
 use borrow.Author.Needs.{needs}
 use Rattle.reference_line.proofs.posing.arc_pose.Statement.{statement}
 use Rattle.reference_line.proofs.posing.arc_pose.Tie as tie

@@ -3,8 +3,8 @@ use Prim.Native.Nat.{_+_, _-_, _≤_}
 use native.Mathlib.Omega.{arith}
 use mathlib.Core.Path.{_≡_, _∙_, sym, ap}
 use lib.Ieee.{Float, le}
-use Rattle.reference_line.specs.Poses.{leading}
-use Rattle.reference_line.proofs.PoseLaws.{lead-start, lead-next, lead-stop, lead-full}
+use Rattle.spirals.specs.Poses.{leading}
+use Rattle.spirals.proofs.PoseLaws.{lead-start, lead-next, lead-stop, lead-full}
 use borrow.Author.Needs.{needs}
 use Rattle.reference_line.proofs.posing.leading_at.Statement.{statement}
 use Rattle.reference_line.proofs.posing.leading_at.Tie as tie

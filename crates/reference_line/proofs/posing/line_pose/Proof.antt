@@ -1,5 +1,5 @@
 -- What `sin_cos` gives of the heading, put in its place.
-use Rattle.reference_line.specs.Poses.{linePose}
+use Rattle.spirals.specs.Poses.{linePose}
 use borrow.Author.Needs.{needs}
 use Rattle.reference_line.proofs.posing.line_pose.Statement.{statement}
 use Rattle.reference_line.proofs.posing.line_pose.Tie as tie

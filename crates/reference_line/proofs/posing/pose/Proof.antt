@@ -1,6 +1,6 @@
 -- One law for each shape.
 use Rattle.records.specs.Roads.{roadOf}
-use Rattle.reference_line.proofs.PoseLaws.{pose-line, pose-arc, pose-spiral}
+use Rattle.spirals.proofs.PoseLaws.{pose-line, pose-arc, pose-spiral}
 use borrow.Author.Needs.{needs}
 use Rattle.reference_line.proofs.posing.pose.Statement.{statement}
 use Rattle.reference_line.proofs.posing.pose.Tie as tie

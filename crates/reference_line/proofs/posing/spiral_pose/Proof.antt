@@ -1,5 +1,5 @@
 -- What the callees give, put in its place. The segment ends before the last of at most 2,002 samples.
-use Rattle.reference_line.proofs.PoseLaws.{spiral-made}
+use Rattle.spirals.proofs.PoseLaws.{spiral-made}
 use borrow.Author.Needs.{needs}
 use Rattle.reference_line.proofs.posing.spiral_pose.Statement.{statement}
 use Rattle.reference_line.proofs.posing.spiral_pose.Tie as tie

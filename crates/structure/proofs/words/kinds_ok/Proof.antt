@@ -3,8 +3,8 @@ use Prim.Native.Nat.{ℕ, _+_, _-_, _≤_}
 use mathlib.Core.Path.{_≡_, sym, ap, _∙_}
 use lib.ListN.{getD}
 use lib.Dec.{ltb}
-use Rattle.records.specs.Lists.{allBelow}
-use Rattle.records.proofs.TableLaws.{all-none, all-next, all-done}
+use Rattle.lent.specs.Lists.{allBelow}
+use Rattle.lent.proofs.TableLaws.{all-none, all-next, all-done}
 use Rattle.structure.specs.Structure.{kindsOk}
 use borrow.Author.Needs.{needs}
 use Rattle.structure.proofs.words.kinds_ok.Statement.{statement}

@@ -1,8 +1,8 @@
 -- `sections_ok`: a scan with no early way out; up to i the sections passed.
 use Prim.Native.Nat.{_-_, _≤_}
 use mathlib.Core.Path.{_≡_, sym, ap, _∙_}
-use Rattle.records.specs.Lists.{allBelow}
-use Rattle.records.proofs.TableLaws.{all-none, all-next, all-done}
+use Rattle.lent.specs.Lists.{allBelow}
+use Rattle.lent.proofs.TableLaws.{all-none, all-next, all-done}
 use Rattle.structure.specs.Structure.{sectionOk}
 use borrow.Author.Needs.{needs}
 use Rattle.structure.proofs.words.sections_ok.Statement.{statement}

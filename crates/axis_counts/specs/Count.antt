@@ -1,0 +1,37 @@
+-- Document 01, "Counts (added)": v × 10,000 in f64 to the nearest whole number, halves away from zero; and row 12: a value outside -80..80, as a NaN is.
+use Prim.Native.Nat.{ℕ, _+_, _*_, _/_}
+use mathlib.Core.Bool.{cond, _&&_}
+use lib.IntN.{ℤ, pos, negℤ}
+use lib.Ieee.{Float, nan, inf, fin, binary64, up, down, neg, mul, le, ofBits}
+use Rattle.refusals.specs.Answer.{Answer, value, refused}
+use Rattle.refusals.specs.Refusal.{numberOf}
+use Rattle.refusals.specs.declared.refusals.Refusal.the-variants.{CountRange}
+use Rattle.axis_counts.specs.declared.counting.Counted.{Counted}
+use Rattle.axis_counts.specs.declared.counting.Counted.the-variants.{Count, Refused}
+
+-- The whole number nearest to num / den, a half going up: the greatest that is at most num / den + 1/2. Of a size, up is away from zero.
+unfoldable pub nearestAway : ℕ → ℕ → ℕ
+nearestAway num den = (2 * num + den) / (2 * den)
+
+-- the whole number nearest to an f64, which is that of its size with its sign; 0 of what is no number
+unfoldable pub nearestWhole : Float → ℤ
+unfolding nearestAway
+nearestWhole nan = pos 0
+nearestWhole (inf s) = pos 0
+nearestWhole (fin s m e) = cond s (negℤ (pos (nearestAway (m * up e) (down e)))) (pos (nearestAway (m * up e) (down e)))
+
+abbrev eighty : Float
+eighty = ofBits binary64 0x4054_0000_0000_0000
+
+abbrev tenThousand : Float
+tenThousand = ofBits binary64 0x40c3_8800_0000_0000
+
+-- the count of v, or row 12
+unfoldable pub countOf : Float → Answer ℤ
+unfolding nearestWhole le neg mul ofBits
+countOf v = cond (le (neg eighty) v && le v eighty) (value (nearestWhole (mul binary64 v tenThousand))) (refused (numberOf CountRange))
+
+-- the value of a `Count`, and the number of a refusal
+abbrev pub answerOf : Counted → Answer ℤ
+answerOf (Count n) = value n
+answerOf (Refused r) = refused (numberOf r)

@@ -1,0 +1,52 @@
+-- `write_borders`: the left side, then the right side after it.
+use Rattle.records.specs.Roads.{roadOf}
+use Rattle.lanes.proofs.BorderSteps.{borders-written}
+use borrow.Author.Needs.{needs}
+use Rattle.border_lists.proofs.filling.write_borders.Statement.{statement}
+use Rattle.border_lists.proofs.filling.write_borders.Tie as tie
+
+section-start-requires : tie.Need-section-start-requires
+section-start-requires c κs = search needs
+
+base-at-requires : tie.Need-base-at-requires
+base-at-requires c κs = search needs
+
+lane-count-requires : tie.Need-lane-count-requires
+lane-count-requires c κs = search needs
+
+lane-count-requires-2 : tie.Need-lane-count-requires-2
+lane-count-requires-2 c κs = search needs
+
+write-side-requires : tie.Need-write-side-requires
+write-side-requires c κs = search needs
+
+mul-write-side : tie.Need-mul-write-side
+mul-write-side c = search needs
+
+write-side-requires-2 : tie.Need-write-side-requires-2
+write-side-requires-2 c κs = search needs
+
+same-length : tie.Need-same-length
+same-length c = search needs
+
+returns : tie.Need-returns
+returns c =
+    let d = c .before .before .before .before .before .before .before .before in
+    let a = d .before .before .before .before .before .before .before .args in
+    borders-written (roadOf (a .words .now) (a .numbers .now)) (a .section) (a .s) (a .list .now) _ _
+    (d .before .before .before .section-start .ensures) (d .before .before .base-at .ensures) (d .before .lane-count .ensures .0) (d .lane-count2 .ensures .0)
+    (c .before .before .before .before .before .before .write-side .ensures) (c .before .before .write-side2 .ensures)
+
+pub write-borders-spec : {M : Type 1} → statement M
+write-borders-spec =
+    tie.close
+    (tie.spec
+    section-start-requires
+    base-at-requires
+    lane-count-requires
+    lane-count-requires-2
+    write-side-requires
+    mul-write-side
+    write-side-requires-2
+    same-length
+    returns)

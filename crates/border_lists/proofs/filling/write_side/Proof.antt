@@ -1,0 +1,117 @@
+-- `write_side`: after k turns the list holds k lanes from its place on, and inner is where they end.
+use mathlib.Core.Path.{_≡_, refl}
+use mathlib.Core.List.{_++_}
+use Prim.Native.Nat.{_≤_, _+_, _-_, _*_}
+use native.Mathlib.Omega.{arith}
+use lib.ListN.{length, take, drop, length-set}
+use Rattle.records.specs.Roads.{roadOf}
+use Rattle.lanes.specs.Borders.{signOf, sideOf, outerAfter, bordersAt, sideList}
+use Rattle.lanes.proofs.BorderSteps.{outer-none, outer-turn, borders-turn, side-none, side-turn}
+use borrow.Author.Needs.{needs}
+use Rattle.border_lists.proofs.filling.write_side.Statement.{statement}
+use Rattle.border_lists.proofs.filling.write_side.Tie as tie
+
+abbrev Inv-loop : tie.InvT-loop
+Inv-loop words numbers section s right base list₀ first n inner₀ k₀ list inner k =
+    (k ≤ n)
+    × (length list ≡ length list₀)
+    × (inner ≡ outerAfter (sideOf (roadOf words numbers) section right) (signOf right) base s k)
+    × (list ≡ (take first list₀ ++ sideList (bordersAt (sideOf (roadOf words numbers) section right) (signOf right) base s) k) ++ drop (first + k * 3) list₀)
+
+abbrev μ-loop : tie.MeasureT-loop
+μ-loop words numbers section s right base list₀ first n inner₀ k₀ list inner k = n - k
+
+loop-holds : tie.Need-loop-holds Inv-loop μ-loop
+loop-holds c =
+    let a = c .before .before .before .args in
+    let lanes = sideOf (roadOf (a .words .now) (a .numbers .now)) (a .section) (a .right) in (
+      omega arith,
+      refl,
+      outer-none lanes (signOf (a .right)) (a .base) (a .s),
+      side-none (bordersAt lanes (signOf (a .right)) (a .base) (a .s)) (a .list .now) (a .first),
+    )
+
+next-border-requires : tie.Need-next-border-requires Inv-loop μ-loop
+next-border-requires c κs = search needs
+
+mul-at : tie.Need-mul-at Inv-loop μ-loop
+mul-at c = search needs
+
+add-at : tie.Need-add-at Inv-loop μ-loop
+add-at c = search needs
+
+mul-list : tie.Need-mul-list Inv-loop μ-loop
+mul-list c = search needs
+
+slice-write-list : tie.Need-slice-write-list Inv-loop μ-loop
+slice-write-list c = search needs
+
+add-list : tie.Need-add-list Inv-loop μ-loop
+add-list c = search needs
+
+mul-list-2 : tie.Need-mul-list-2 Inv-loop μ-loop
+mul-list-2 c = search needs
+
+slice-write-list-2 : tie.Need-slice-write-list-2 Inv-loop μ-loop
+slice-write-list-2 c = simp length-set (omega arith)
+
+add-list-2 : tie.Need-add-list-2 Inv-loop μ-loop
+add-list-2 c = search needs
+
+mul-list-3 : tie.Need-mul-list-3 Inv-loop μ-loop
+mul-list-3 c = search needs
+
+slice-write-list-3 : tie.Need-slice-write-list-3 Inv-loop μ-loop
+slice-write-list-3 c = simp length-set (omega arith)
+
+add-k : tie.Need-add-k Inv-loop μ-loop
+add-k c = search needs
+
+loop-less : tie.Need-loop-less Inv-loop μ-loop
+loop-less c = search needs
+
+loop-again : tie.Need-loop-again Inv-loop μ-loop
+loop-again c =
+    let a = c .before .before .before .before .before .before .args in
+    let at = c .before .before .loop in
+    let lanes = sideOf (roadOf (a .words .now) (a .numbers .now)) (a .section) (a .right) in
+    let sign = signOf (a .right) in (
+      omega arith,
+      simp length-set (at .inv .1),
+      outer-turn lanes sign (a .base) (a .s) (at .k) (at .inv .2) (c .next-border .ensures),
+      side-turn (bordersAt lanes sign (a .base) (a .s)) (a .list .now) (a .first) (at .list) (at .k) (borders-turn lanes sign (a .base) (a .s) (at .k) (at .inv .2) (c .next-border .ensures)) (omega arith) (at .inv .3),
+    )
+
+same-length : tie.Need-same-length Inv-loop μ-loop
+same-length c = search needs
+
+returns : tie.Need-returns Inv-loop μ-loop
+returns c =
+    let a = c .before .before .before .before .before .args in
+    let at = c .before .loop in
+    let e : at .k ≡ a .n = omega arith in
+    rw e at (at .inv .3)
+
+pub write-side-spec : {M : Type 1} → statement M
+write-side-spec =
+    tie.close
+    (tie.spec
+    Inv-loop
+    μ-loop
+    loop-holds
+    next-border-requires
+    mul-at
+    add-at
+    mul-list
+    slice-write-list
+    add-list
+    mul-list-2
+    slice-write-list-2
+    add-list-2
+    mul-list-3
+    slice-write-list-3
+    add-k
+    loop-less
+    loop-again
+    same-length
+    returns)

@@ -1,0 +1,4 @@
+// A section's borders in a lent list.
+mod filling;
+
+pub use filling::list_borders;

@@ -1,0 +1,24 @@
+-- `bound`: the sizes put together.
+use Rattle.ranges.specs.Bounds.{boundOf}
+use borrow.Author.Needs.{needs}
+use Rattle.bounds.proofs.bounding.bound.Statement.{statement}
+use Rattle.bounds.proofs.bounding.bound.Tie as tie
+
+abs-requires : tie.Need-abs-requires
+abs-requires c κs = search needs
+
+abs-requires-2 : tie.Need-abs-requires-2
+abs-requires-2 c κs = search needs
+
+abs-requires-3 : tie.Need-abs-requires-3
+abs-requires-3 c κs = search needs
+
+abs-requires-4 : tie.Need-abs-requires-4
+abs-requires-4 c κs = search needs
+
+returns : tie.Need-returns
+unfolding boundOf
+returns c = cc
+
+pub bound-spec : {M : Type 1} → statement M
+bound-spec = tie.close (tie.spec abs-requires abs-requires-2 abs-requires-3 abs-requires-4 returns)

@@ -1,0 +1,19 @@
+-- `bound_at`: the cubic and its reach put together.
+use borrow.Author.Needs.{needs}
+use Rattle.bounds.proofs.bounding.bound_at.Statement.{statement}
+use Rattle.bounds.proofs.bounding.bound_at.Tie as tie
+
+cubic-at-requires : tie.Need-cubic-at-requires
+cubic-at-requires c κs = search needs
+
+reach-requires : tie.Need-reach-requires
+reach-requires c κs = search needs
+
+bound-requires : tie.Need-bound-requires
+bound-requires c κs = search needs
+
+returns : tie.Need-returns
+returns c = cc
+
+pub bound-at-spec : {M : Type 1} → statement M
+bound-at-spec = tie.close (tie.spec cubic-at-requires reach-requires bound-requires returns)

@@ -1,0 +1,22 @@
+-- `cubic_within`: the two tests put together.
+use Rattle.ranges.specs.Bounds.{cubicWithin}
+use borrow.Author.Needs.{needs}
+use Rattle.bounds.proofs.bounding.cubic_within.Statement.{statement}
+use Rattle.bounds.proofs.bounding.cubic_within.Tie as tie
+
+cubic-at-requires : tie.Need-cubic-at-requires
+cubic-at-requires c κs = search needs
+
+bound-at-requires : tie.Need-bound-at-requires
+bound-at-requires c κs = search needs
+
+in-range-requires : tie.Need-in-range-requires
+in-range-requires c κs = search needs
+
+returns : tie.Need-returns
+unfolding cubicWithin
+returns c = cc
+
+pub cubic-within-spec : {M : Type 1} → statement M
+cubic-within-spec =
+    tie.close (tie.spec cubic-at-requires bound-at-requires in-range-requires returns)

@@ -1,0 +1,21 @@
+-- `reach`: the end and the start put together.
+use Rattle.ranges.specs.Bounds.{reachAt}
+use borrow.Author.Needs.{needs}
+use Rattle.bounds.proofs.bounding.reach.Statement.{statement}
+use Rattle.bounds.proofs.bounding.reach.Tie as tie
+
+cubic-at-requires : tie.Need-cubic-at-requires
+cubic-at-requires c κs = search needs
+
+end-at-requires : tie.Need-end-at-requires
+end-at-requires c κs = search needs
+
+at-least-zero-requires : tie.Need-at-least-zero-requires
+at-least-zero-requires c κs = search needs
+
+returns : tie.Need-returns
+unfolding reachAt
+returns c = cc
+
+pub reach-spec : {M : Type 1} → statement M
+reach-spec = tie.close (tie.spec cubic-at-requires end-at-requires at-least-zero-requires returns)

@@ -1,0 +1,21 @@
+-- `slope_bound`: the sizes put together.
+use Rattle.ranges.specs.Bounds.{slopeBoundOf}
+use borrow.Author.Needs.{needs}
+use Rattle.bounds.proofs.bounding.slope_bound.Statement.{statement}
+use Rattle.bounds.proofs.bounding.slope_bound.Tie as tie
+
+abs-requires : tie.Need-abs-requires
+abs-requires c κs = search needs
+
+abs-requires-2 : tie.Need-abs-requires-2
+abs-requires-2 c κs = search needs
+
+abs-requires-3 : tie.Need-abs-requires-3
+abs-requires-3 c κs = search needs
+
+returns : tie.Need-returns
+unfolding slopeBoundOf
+returns c = cc
+
+pub slope-bound-spec : {M : Type 1} → statement M
+slope-bound-spec = tie.close (tie.spec abs-requires abs-requires-2 abs-requires-3 returns)

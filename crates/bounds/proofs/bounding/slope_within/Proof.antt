@@ -1,0 +1,20 @@
+-- `slope_within`: the cubic and its reach put together.
+use borrow.Author.Needs.{needs}
+use Rattle.bounds.proofs.bounding.slope_within.Statement.{statement}
+use Rattle.bounds.proofs.bounding.slope_within.Tie as tie
+
+cubic-at-requires : tie.Need-cubic-at-requires
+cubic-at-requires c κs = search needs
+
+reach-requires : tie.Need-reach-requires
+reach-requires c κs = search needs
+
+slope-bound-requires : tie.Need-slope-bound-requires
+slope-bound-requires c κs = search needs
+
+returns : tie.Need-returns
+returns c = cc
+
+pub slope-within-spec : {M : Type 1} → statement M
+slope-within-spec =
+    tie.close (tie.spec cubic-at-requires reach-requires slope-bound-requires returns)

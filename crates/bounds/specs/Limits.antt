@@ -1,0 +1,108 @@
+-- Document 01, "Admission", row 4: every number's limit, in 01's order. The limits are the f64 nearest the decimals of 01.
+use Prim.Native.Nat.{ℕ, _+_}
+use mathlib.Core.Bool.{Bool, true, false, _&&_, _||_, cond}
+use mathlib.Core.List.{List}
+use lib.ListN.{length}
+use lib.Dec.{ltb}
+use lib.Ieee.{Float, le, neg}
+use Rattle.float_laws.specs.Binary64.{_⊕_, _⊖_, _⊗_, f64, zero64, absOf}
+use Rattle.cubics.specs.declared.cubics.Cubic.{Cubic}
+use Rattle.records.specs.declared.points.GeomShape.{GeomShape}
+use Rattle.records.specs.declared.points.GeomShape.the-variants.{Line, Arc, Spiral}
+use Rattle.records.specs.declared.points.HeightDef.{HeightDef}
+use Rattle.lent.specs.Lists.{allBelow}
+use Rattle.records.specs.Roads.{Road, Lane, Strip, geomAt, unusedZero, sectionOf, laneOf, profileAt, stripAt, columnOf, heightDefAt}
+use Rattle.ranges.specs.Bounds.{inRange, sized, largest, finite64, cubicsWithin, slopesWithin, greatestBound}
+
+-- 0.01 and 10,000
+abbrev pub lengthOk : Float → Bool
+lengthOk x = inRange (f64 0x3f84_7ae1_47ae_147b) (f64 0x40c3_8800_0000_0000) x
+
+-- "Road starts (not lane lists') lie in 0..length"
+abbrev pub onRoad : Road → Float → Bool
+onRoad road x = inRange zero64 (road .length) x
+
+-- cubics along the road
+abbrev pub roadCubicsWithin : Road → List Cubic → Float → Bool
+roadCubicsWithin road cs limit = cubicsWithin cs zero64 (road .length) (road .length) limit
+
+-- "Arc curvature: size ≤ 1e-9, or 0.00001..1. Spiral curvatures: size ≤ 1."
+unfoldable pub shapeLimited : GeomShape → Bool
+shapeLimited Line = true
+shapeLimited (Arc k) = sized (f64 0x3e11_2e0b_e826_d695) k || inRange (f64 0x3ee4_f8b5_88e3_68f1) (f64 0x3ff0_0000_0000_0000) (absOf k)
+shapeLimited (Spiral a b) = sized (f64 0x3ff0_0000_0000_0000) a && sized (f64 0x3ff0_0000_0000_0000) b
+
+-- "|x|,|y| ≤ 1,000,000; |hdg| ≤ 1,000; geom length 0.01..10,000", "unused k0 or k1 not zero"
+unfoldable pub geomLimited : Road → ℕ → Bool
+unfolding shapeLimited
+geomLimited road i =
+    let g = geomAt road i in
+    onRoad road (g .s) && sized (f64 0x412e_8480_0000_0000) (g .x) && sized (f64 0x412e_8480_0000_0000) (g .y) && sized (f64 0x408f_4000_0000_0000) (g .hdg) && lengthOk (g .length) && shapeLimited (g .shape) && unusedZero road i
+
+-- "the section's extent .. (next section's start or the road length, less its own)"
+unfoldable pub sectionExtent : Road → ℕ → Float
+sectionExtent road i = cond (ltb (i + 1) (length (road .sections))) (sectionOf road (i + 1) .start) (road .length) ⊖ sectionOf road i .start
+
+-- "Lane heights: size ≤ 2"; a lane list's starts have no range, so they have to be finite and no more
+unfoldable pub heightLimited : HeightDef → Bool
+heightLimited h = finite64 (h .«s_offset») && sized (f64 0x4000_0000_0000_0000) (h .inner) && sized (f64 0x4000_0000_0000_0000) (h .outer)
+
+unfoldable pub heightsLimited : List HeightDef → Bool
+unfolding allBelow heightLimited
+heightsLimited hs = allBelow (λ i. heightLimited (heightDefAt hs i)) (length hs)
+
+-- "width lanes 8; border lanes 36"
+unfoldable pub laneLimited : Float → Lane → Bool
+unfolding cubicsWithin heightsLimited
+laneLimited extent lane =
+    cubicsWithin (lane .extents) (neg largest) largest extent (cond (lane .border) (f64 0x4042_0000_0000_0000) (f64 0x4020_0000_0000_0000))
+    && heightsLimited (lane .heights)
+
+unfoldable pub sectionLimited : Road → ℕ → Bool
+unfolding allBelow laneLimited sectionExtent
+sectionLimited road i =
+    onRoad road (sectionOf road i .start)
+    && allBelow (λ k. laneLimited (sectionExtent road i) (laneOf road i false k)) (length (sectionOf road i .left))
+    && allBelow (λ k. laneLimited (sectionExtent road i) (laneOf road i true k)) (length (sectionOf road i .right))
+
+-- "shape starts in -80..80"; "80 for shapes"; "shapes 40"
+unfoldable pub profileLimited : Road → ℕ → Bool
+unfolding cubicsWithin
+profileLimited road i =
+    onRoad road (profileAt road i .s)
+    && cubicsWithin (profileAt road i .shapes) (neg (f64 0x4054_0000_0000_0000)) (f64 0x4054_0000_0000_0000) (f64 0x4054_0000_0000_0000) (f64 0x4044_0000_0000_0000)
+
+-- "A strip's four terms, each at its greatest B (0 for none), by Horner at 88: ≤ 40"
+abbrev pub termBound : Road → Strip → ℕ → Float
+termBound road strip term = greatestBound (columnOf strip (term + 1)) (road .length)
+
+-- 88
+abbrev pub at88 : Float → Float
+at88 h = h ⊗ f64 0x4056_0000_0000_0000
+
+abbrev pub termsBound : Road → Strip → Float
+termsBound road strip =
+    at88 (at88 (at88 (termBound road strip 3) ⊕ termBound road strip 2) ⊕ termBound road strip 1) ⊕ termBound road strip 0
+
+-- a term's own B only has to be finite, so that none is a NaN that the greatest would pass over; "strip width 100"
+unfoldable pub stripLimited : Road → Strip → Bool
+unfolding allBelow cubicsWithin greatestBound
+stripLimited road strip =
+    roadCubicsWithin road (columnOf strip 0) (f64 0x4059_0000_0000_0000)
+    && allBelow (λ term. roadCubicsWithin road (columnOf strip (term + 1)) largest) 4
+    && le (termsBound road strip) (f64 0x4044_0000_0000_0000)
+
+-- "B at most: elev 10,000; bank 0.75; offset, tshift .. 8"; "Elev also .. ≤ 1"
+unfoldable pub limited : Road → Bool
+unfolding allBelow geomLimited cubicsWithin slopesWithin sectionLimited profileLimited stripLimited
+limited road =
+    lengthOk (road .length)
+    && allBelow (geomLimited road) (length (road .geoms))
+    && roadCubicsWithin road (road .elevations) (f64 0x40c3_8800_0000_0000)
+    && slopesWithin (road .elevations) (road .length) (f64 0x3ff0_0000_0000_0000)
+    && roadCubicsWithin road (road .superelevations) (f64 0x3fe8_0000_0000_0000)
+    && roadCubicsWithin road (road .offsets) (f64 0x4020_0000_0000_0000)
+    && roadCubicsWithin road (road .tshifts) (f64 0x4020_0000_0000_0000)
+    && allBelow (sectionLimited road) (length (road .sections))
+    && allBelow (profileLimited road) (length (road .profiles))
+    && allBelow (λ i. stripLimited road (stripAt road i)) 4

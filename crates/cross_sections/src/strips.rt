@@ -1,0 +1,130 @@
+// The cross section: up to two strips each side of the reference line, each a cubic across whose four terms are cubics along the road.
+// Strips are addressed by their place: left inner 0, left outer 1, right inner 2, right outer 3.
+use cubics::cubic_at;
+use records::Found;
+use records::StripKind;
+use records::tshifts;
+use shape_records::strip;
+use shape_records::strip_column;
+use stations::active;
+use stations::value;
+ghost use mathlib.Core.Path.{_≡_};
+ghost use Prim.Native.Nat.{_+_, _<_};
+ghost use Rattle.float_laws.specs.Binary64.{absOf};
+ghost use Rattle.records.specs.Active.{activeIn, valueIn};
+ghost use Rattle.records.specs.Roads.{roadOf, stripAt, StripDef, present, columnOf};
+ghost use Rattle.lateral.specs.Lateral.{stripHeight, notBelowZero, pastWidth, byWidth, bySide, isLeft, isPresent, crossHeight};
+
+pub(crate) fn is_present(words: &[u16], numbers: &[f64], i: usize) -> bool
+    ensures { λ r. ⌜ r ≡ isPresent (stripAt (roadOf (now (words .entry)) (now (numbers .entry))) i) ⌝ }
+{
+    match strip(words, numbers, i) {
+        StripKind::Absent => false,
+        StripKind::Absolute => true,
+        StripKind::Relative => true,
+    }
+}
+
+// A column of the i-th strip at s.
+fn column_value(words: &[u16], numbers: &[f64], i: usize, column: usize, s: f64) -> f64
+    ensures { λ r. ⌜ r ≡ valueIn (columnOf (stripAt (roadOf (now (words .entry)) (now (numbers .entry))) i) column) s ⌝ }
+{
+    value(strip_column(words, numbers, i, column), s)
+}
+
+// The height of a strip that is there, dt across it.
+fn strip_height(words: &[u16], numbers: &[f64], i: usize, s: f64, dt: f64) -> f64
+    ensures { λ r. ⌜ ((d : StripDef) → stripAt (roadOf (now (words .entry)) (now (numbers .entry))) i ≡ present d → r ≡ stripHeight d s dt) ⌝ }
+{
+    let c3 = column_value(words, numbers, i, 4, s);
+    let c2 = column_value(words, numbers, i, 3, s);
+    let c1 = column_value(words, numbers, i, 2, s);
+    let c0 = column_value(words, numbers, i, 1, s);
+    (((0.0 * dt + c3) * dt + c2) * dt + c1) * dt + c0
+}
+
+// The side whose inner strip is there and w wide: past the width the outer strip, if there is one, from the inner one's edge on.
+fn past_width(
+    words: &[u16],
+    numbers: &[f64],
+    inner: usize,
+    s: f64,
+    t: f64,
+    sign: f64,
+    w: f64,
+) -> f64
+    requires { ⌜ inner < 4 ⌝ }
+    ensures { λ r. ⌜ ((d : StripDef) → stripAt (roadOf (now (words .entry)) (now (numbers .entry))) inner ≡ present d → r ≡ pastWidth d (stripAt (roadOf (now (words .entry)) (now (numbers .entry))) (inner + 1)) s t sign w) ⌝ }
+{
+    if w < sign * t {
+        let edge = sign * w;
+        match strip(words, numbers, inner + 1) {
+            StripKind::Absent => strip_height(words, numbers, inner, s, t),
+            StripKind::Absolute => 0.0 + strip_height(words, numbers, inner + 1, s, t - edge),
+            StripKind::Relative => {
+                strip_height(words, numbers, inner, s, edge)
+                    + strip_height(words, numbers, inner + 1, s, t - edge)
+            }
+        }
+    } else {
+        strip_height(words, numbers, inner, s, t)
+    }
+}
+
+fn not_below_zero(w: f64) -> f64
+    ensures { λ r. ⌜ r ≡ notBelowZero w ⌝ }
+{
+    if 0.0 < w { w } else { 0.0 }
+}
+
+// The side whose inner strip is there.
+fn by_width(words: &[u16], numbers: &[f64], inner: usize, s: f64, t: f64, sign: f64) -> f64
+    requires { ⌜ inner < 4 ⌝ }
+    ensures { λ r. ⌜ ((d : StripDef) → stripAt (roadOf (now (words .entry)) (now (numbers .entry))) inner ≡ present d → r ≡ byWidth d (stripAt (roadOf (now (words .entry)) (now (numbers .entry))) (inner + 1)) s t sign (activeIn (d .width) s)) ⌝ }
+{
+    let widths = strip_column(words, numbers, inner, 0);
+    match active(widths, s) {
+        Found::At(k) => {
+            let c = cubic_at(widths, k);
+            past_width(words, numbers, inner, s, t, sign, not_below_zero(c.eval(s)))
+        }
+        Found::Nothing => strip_height(words, numbers, inner, s, t),
+    }
+}
+
+// One side of the ridge.
+fn side_height(words: &[u16], numbers: &[f64], inner: usize, s: f64, t: f64, sign: f64) -> f64
+    requires { ⌜ inner < 4 ⌝ }
+    ensures { λ r. ⌜ r ≡ bySide (stripAt (roadOf (now (words .entry)) (now (numbers .entry))) inner) (stripAt (roadOf (now (words .entry)) (now (numbers .entry))) (inner + 1)) s t sign ⌝ }
+{
+    if is_present(words, numbers, inner) {
+        by_width(words, numbers, inner, s, t, sign)
+    } else {
+        0.0
+    }
+}
+
+fn abs(x: f64) -> f64
+    ensures { λ r. ⌜ r ≡ absOf x ⌝ }
+{
+    if x < 0.0 { -x } else { x }
+}
+
+// Whether t lies left of the ridge; on it, within a nanometre, the side that toward points to.
+fn is_left(t: f64, toward: f64) -> bool
+    ensures { λ r. ⌜ r ≡ isLeft t toward ⌝ }
+{
+    if abs(t) < 1e-9 { 0.0 < toward } else { 0.0 < t }
+}
+
+// The cross section's height at s and t; 0 on a side with no strip.
+pub fn cross_height(words: &[u16], numbers: &[f64], s: f64, t: f64, toward: f64) -> f64
+    ensures { λ r. ⌜ r ≡ crossHeight (roadOf (now (words .entry)) (now (numbers .entry))) s t toward ⌝ }
+{
+    let shifted = t - value(tshifts(words, numbers), s);
+    if is_left(shifted, toward) {
+        side_height(words, numbers, 0, s, shifted, 1.0)
+    } else {
+        side_height(words, numbers, 2, s, shifted, -1.0)
+    }
+}

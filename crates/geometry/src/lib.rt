@@ -1,0 +1,5 @@
+// The road's geometries.
+mod shaping;
+
+pub use shaping::geom;
+pub use shaping::unused_zero;

@@ -1,0 +1,70 @@
+// A geometry by value, and whether the columns that its kind does not use are zero.
+use lent::number;
+use lent::part;
+use lent::word;
+use records::GeomRec;
+use records::GeomShape;
+ghost use mathlib.Core.Path.{_≡_};
+ghost use mathlib.Core.Bool.{true, cond, _&&_};
+ghost use lib.Dec.{eqb};
+ghost use Rattle.records.specs.Roads.{roadOf, geomAt, shapeOf, geomFrom, unusedZero};
+
+fn shape_of(kind: usize, k0: f64, k1: f64) -> GeomShape
+    ensures { λ r. ⌜ r ≡ shapeOf kind k0 k1 ⌝ }
+{
+    match kind {
+        1 => GeomShape::Arc(k0),
+        2 => GeomShape::Spiral(k0, k1),
+        _ => GeomShape::Line,
+    }
+}
+
+// A geometry out of its seven numbers and its kind.
+fn geom_from(part: &[f64], kind: usize) -> GeomRec
+    ensures { λ r. ⌜ r ≡ geomFrom (now (part .entry)) kind ⌝ }
+{
+    let shape = shape_of(kind, number(part, 5), number(part, 6));
+    GeomRec {
+        s: number(part, 0),
+        x: number(part, 1),
+        y: number(part, 2),
+        hdg: number(part, 3),
+        length: number(part, 4),
+        shape,
+    }
+}
+
+// The i-th geometry; a line of NaNs where there is none.
+pub fn geom(words: &[u16], numbers: &[f64], i: usize) -> GeomRec
+    ensures { λ r. ⌜ r ≡ geomAt (roadOf (now (words .entry)) (now (numbers .entry))) i ⌝ }
+{
+    if i < word(words, 0) {
+        geom_from(part(numbers, 1 + i * 7, 7), word(words, 7 + i))
+    } else {
+        geom_from(part(numbers, 0, 0), 0)
+    }
+}
+
+// Whether the curvature columns that the i-th geometry's kind does not use are zero.
+pub fn unused_zero(words: &[u16], numbers: &[f64], i: usize) -> bool
+    ensures { λ r. ⌜ r ≡ unusedZero (roadOf (now (words .entry)) (now (numbers .entry))) i ⌝ }
+{
+    if i < word(words, 0) {
+        let kind = word(words, 7 + i);
+        let k0 = number(numbers, 6 + i * 7) == 0.0;
+        let k1 = number(numbers, 7 + i * 7) == 0.0;
+        unused_of(kind, k0, k1)
+    } else {
+        true
+    }
+}
+
+fn unused_of(kind: usize, k0: bool, k1: bool) -> bool
+    ensures { λ r. ⌜ r ≡ cond (eqb kind 1) k1 (cond (eqb kind 2) true (k0 && k1)) ⌝ }
+{
+    match kind {
+        1 => k1,
+        2 => true,
+        _ => k0 & k1,
+    }
+}

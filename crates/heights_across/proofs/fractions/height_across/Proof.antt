@@ -1,0 +1,15 @@
+-- `height_across`: by the fraction.
+use Rattle.heights_across.specs.HeightAcross.{heightAcross}
+use borrow.Author.Needs.{needs}
+use Rattle.heights_across.proofs.fractions.height_across.Statement.{statement}
+use Rattle.heights_across.proofs.fractions.height_across.Tie as tie
+
+fraction-at-requires : tie.Need-fraction-at-requires
+fraction-at-requires c κs = search needs
+
+returns : tie.Need-returns
+unfolding heightAcross
+returns c = cc
+
+pub height-across-spec : {M : Type 1} → statement M
+height-across-spec = tie.close (tie.spec fraction-at-requires returns)

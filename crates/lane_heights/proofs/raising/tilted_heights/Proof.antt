@@ -1,0 +1,16 @@
+-- `tilted_heights`: the road's height under each border.
+use borrow.Author.Needs.{needs}
+use Rattle.lane_heights.proofs.raising.tilted_heights.Statement.{statement}
+use Rattle.lane_heights.proofs.raising.tilted_heights.Tie as tie
+
+height-toward-requires : tie.Need-height-toward-requires
+height-toward-requires c κs = search needs
+
+height-toward-requires-2 : tie.Need-height-toward-requires-2
+height-toward-requires-2 c κs = search needs
+
+returns : tie.Need-returns
+returns c = cc
+
+pub tilted-heights-spec : {M : Type 1} → statement M
+tilted-heights-spec = tie.close (tie.spec height-toward-requires height-toward-requires-2 returns)

@@ -1,0 +1,132 @@
+// How high the lanes of a section stand off the road: at their borders, and straight across between them.
+// tangent is that of the road's bank, by which a level lane is turned back; every f64 is answered for.
+use crate::across::Across;
+use cross_sections::height_toward;
+use lane_records::heights;
+use lane_records::lane_is_level;
+use lanes::LaneBorders;
+use lanes::base_at;
+use lanes::next_border;
+use lanes::sign_of;
+use lateral::Pair;
+use lateral::height_at;
+use section_records::section_start;
+ghost use mathlib.Core.Path.{_≡_};
+ghost use Rattle.float_laws.specs.Binary64.{_⊖_};
+ghost use Rattle.records.specs.Roads.{roadOf, sectionOf, laneOf};
+ghost use Rattle.lanes.specs.Borders.{signOf, bordersFrom};
+ghost use Rattle.lane_heights.specs.Heights.{levelHeights, tiltedHeights, acrossBy, ownHeights, acrossAt};
+
+// ---- a lane across the road
+fn level_heights(own: Pair, outer: f64, sign: f64, width: f64, tangent: f64) -> Pair
+    ensures { λ r. ⌜ r ≡ levelHeights own outer sign width tangent ⌝ }
+{
+    Pair {
+        inner: outer + own.inner,
+        outer: outer - sign * width * tangent + own.outer,
+    }
+}
+
+fn tilted_heights(
+    words: &[u16],
+    numbers: &[f64],
+    s: f64,
+    own: Pair,
+    b: LaneBorders,
+    sign: f64,
+) -> Pair
+    ensures { λ r. ⌜ r ≡ tiltedHeights (roadOf (now (words .entry)) (now (numbers .entry))) s own b sign ⌝ }
+{
+    let inner = height_toward(words, numbers, s, b.inner, sign);
+    let outer = height_toward(words, numbers, s, b.outer, sign);
+    Pair {
+        inner: own.inner + inner,
+        outer: own.outer + outer,
+    }
+}
+
+fn across_of(b: LaneBorders, h: Pair) -> Across
+    ensures { λ r. ⌜ r ≡ record { «inner_t» = b .inner; «outer_t» = b .outer; «inner_height» = h .inner; «outer_height» = h .outer } ⌝ }
+{
+    Across {
+        inner_t: b.inner,
+        outer_t: b.outer,
+        inner_height: h.inner,
+        outer_height: h.outer,
+    }
+}
+
+// The k-th lane from its inner border, and from the height where its inner neighbour ends.
+fn next_across(
+    words: &[u16],
+    numbers: &[f64],
+    section: usize,
+    s: f64,
+    tangent: f64,
+    right: bool,
+    k: usize,
+    inner: f64,
+    outer: f64,
+    level: bool,
+) -> Across
+    ensures { λ r. ⌜ r ≡ acrossBy (roadOf (now (words .entry)) (now (numbers .entry))) s (ownHeights (roadOf (now (words .entry)) (now (numbers .entry))) section s tangent right k) (bordersFrom (laneOf (roadOf (now (words .entry)) (now (numbers .entry))) section right k) (signOf right) inner (s ⊖ sectionOf (roadOf (now (words .entry)) (now (numbers .entry))) section .start)) outer (signOf right) tangent level ⌝ }
+{
+    let into = s - section_start(words, numbers, section);
+    let b = next_border(words, numbers, section, into, right, k, inner);
+    let own = height_at(heights(words, numbers, section, right, k), into);
+    let sign = sign_of(right);
+    if level {
+        across_of(b, level_heights(own, outer, sign, b.width, tangent))
+    } else {
+        across_of(b, tilted_heights(words, numbers, s, own, b, sign))
+    }
+}
+
+// The k-th lane of a side across the road at s. Level holds from its lane outward.
+pub fn lane_across(
+    words: &[u16],
+    numbers: &[f64],
+    section: usize,
+    s: f64,
+    tangent: f64,
+    right: bool,
+    k: usize,
+) -> Across
+    ensures { λ r. ⌜ r ≡ acrossAt (roadOf (now (words .entry)) (now (numbers .entry))) section s tangent right k ⌝ }
+{
+    let mut inner = base_at(words, numbers, s);
+    let mut outer = height_toward(words, numbers, s, inner, sign_of(right));
+    let mut level = false;
+    let mut j = 0;
+    while j < k {
+        level = level | lane_is_level(words, numbers, section, right, j);
+        let a = next_across(
+            words,
+            numbers,
+            section,
+            s,
+            tangent,
+            right,
+            j,
+            inner,
+            outer,
+            level,
+        );
+        inner = a.outer_t;
+        outer = a.outer_height;
+        j += 1;
+    }
+    let last = level | lane_is_level(words, numbers, section, right, k);
+    next_across(
+        words,
+        numbers,
+        section,
+        s,
+        tangent,
+        right,
+        k,
+        inner,
+        outer,
+        last,
+    )
+}

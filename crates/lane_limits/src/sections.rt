@@ -1,0 +1,138 @@
+// Row 4 of sections and lanes.
+use bounds::cubics_within;
+use ranges::in_range;
+use ranges::sized;
+use records::HeightDef;
+ghost use mathlib.Core.Path.{_≡_};
+ghost use mathlib.Core.Bool.{cond};
+ghost use Prim.Native.Nat.{ℕ, _<_};
+ghost use lib.ListN.{length};
+ghost use Rattle.float_laws.specs.Binary64.{f64};
+ghost use Rattle.lent.specs.Lists.{allBelow};
+ghost use Rattle.records.specs.Roads.{roadOf, laneOf, heightsOf};
+ghost use Rattle.bounds.specs.Limits.{sectionExtent, heightLimited, heightsLimited, laneLimited, sectionLimited};
+
+// ---- sections and their lanes
+// How far a section reaches: to the next one's start, the last to the road's end.
+fn section_extent(words: &[u16], numbers: &[f64], i: usize) -> f64
+    requires { ⌜ i < length (roadOf (now words) (now numbers) .sections) ⌝ }
+    ensures { λ r. ⌜ r ≡ sectionExtent (roadOf (now (words .entry)) (now (numbers .entry))) i ⌝ }
+{
+    let n = section_records::section_count(words, numbers);
+    let start = section_records::section_start(words, numbers, i);
+    if i + 1 < n {
+        section_records::section_start(words, numbers, i + 1) - start
+    } else {
+        records::road_length(words, numbers) - start
+    }
+}
+
+fn height_limited(h: HeightDef) -> bool
+    ensures { λ r. ⌜ r ≡ heightLimited h ⌝ }
+{
+    sized(1.7976931348623157e308, h.s_offset) & sized(2.0, h.inner) & sized(2.0, h.outer)
+}
+
+fn heights_limited(part: &[f64]) -> bool
+    ensures { λ r. ⌜ r ≡ heightsLimited (heightsOf (now (part .entry))) ⌝ }
+{
+    let n = part.len() / 3;
+    let mut ok = true;
+    let mut i = 0;
+    while i < n {
+        ok = ok & height_limited(lane_records::height_def(part, i));
+        i += 1;
+    }
+    ok
+}
+
+// A border is measured from the center, a width from the lane before.
+fn lane_limit(border: bool) -> f64
+    ensures { λ r. ⌜ r ≡ cond border (f64 0x4042_0000_0000_0000) (f64 0x4020_0000_0000_0000) ⌝ }
+{
+    if border { 36.0 } else { 8.0 }
+}
+
+fn lane_limited(
+    words: &[u16],
+    numbers: &[f64],
+    extent: f64,
+    section: usize,
+    right: bool,
+    k: usize,
+) -> bool
+    ensures { λ r. ⌜ r ≡ laneLimited extent (laneOf (roadOf (now (words .entry)) (now (numbers .entry))) section right k) ⌝ }
+{
+    let limit = lane_limit(lane_records::lane_is_border(words, numbers, section, right, k));
+    let extents = lane_records::extents(words, numbers, section, right, k);
+    let within = cubics_within(
+        extents,
+        -1.7976931348623157e308,
+        1.7976931348623157e308,
+        extent,
+        limit,
+    );
+    within & heights_limited(lane_records::heights(words, numbers, section, right, k))
+}
+
+// The first n lanes of a side.
+fn side_limited(
+    words: &[u16],
+    numbers: &[f64],
+    extent: f64,
+    section: usize,
+    right: bool,
+    n: usize,
+) -> bool
+    ensures { λ r. ⌜ r ≡ allBelow (λ (k : ℕ). laneLimited extent (laneOf (roadOf (now (words .entry)) (now (numbers .entry))) section right k)) n ⌝ }
+{
+    let mut ok = true;
+    let mut k = 0;
+    while k < n {
+        ok = ok & lane_limited(words, numbers, extent, section, right, k);
+        k += 1;
+    }
+    ok
+}
+
+fn section_limited(words: &[u16], numbers: &[f64], i: usize) -> bool
+    requires { ⌜ i < length (roadOf (now words) (now numbers) .sections) ⌝ }
+    ensures { λ r. ⌜ r ≡ sectionLimited (roadOf (now (words .entry)) (now (numbers .entry))) i ⌝ }
+{
+    let start = in_range(
+        0.0,
+        records::road_length(words, numbers),
+        section_records::section_start(words, numbers, i),
+    );
+    let extent = section_extent(words, numbers, i);
+    let left = side_limited(
+        words,
+        numbers,
+        extent,
+        i,
+        false,
+        section_records::left_count(words, numbers, i),
+    );
+    let right = side_limited(
+        words,
+        numbers,
+        extent,
+        i,
+        true,
+        section_records::right_count(words, numbers, i),
+    );
+    start & left & right
+}
+
+pub fn sections_limited(words: &[u16], numbers: &[f64]) -> bool
+    ensures { λ r. ⌜ r ≡ allBelow (sectionLimited (roadOf (now (words .entry)) (now (numbers .entry)))) (length (roadOf (now (words .entry)) (now (numbers .entry)) .sections)) ⌝ }
+{
+    let n = section_records::section_count(words, numbers);
+    let mut ok = true;
+    let mut i = 0;
+    while i < n {
+        ok = ok & section_limited(words, numbers, i);
+        i += 1;
+    }
+    ok
+}

@@ -1,0 +1,4 @@
+pub mod Fractions
+pub mod StationBounds
+pub mod StripBounds
+pub mod LateralBounds

@@ -1,0 +1,1 @@
+// Laws on the sizes of lateral heights.

@@ -1,0 +1,44 @@
+// The sections of a road: starts, and lanes on either side.
+use lent::number;
+use lent::word;
+ghost use mathlib.Core.Path.{_≡_};
+ghost use lib.ListN.{length};
+ghost use Rattle.records.specs.Roads.{roadOf, sectionOf};
+
+// ---- sections and lanes. A side is left or right of the center; lanes count from the center outward
+pub fn section_count(words: &[u16], numbers: &[f64]) -> usize
+    ensures { λ r. ⌜ r ≡ length (roadOf (now (words .entry)) (now (numbers .entry)) .sections) ⌝ }
+{
+    word(words, 5)
+}
+
+// Where the i-th section starts, NaN where there is none.
+pub fn section_start(words: &[u16], numbers: &[f64], i: usize) -> f64
+    ensures { λ r. ⌜ r ≡ sectionOf (roadOf (now (words .entry)) (now (numbers .entry))) i .start ⌝ }
+{
+    if i < word(words, 5) {
+        number(numbers, 1729 + i)
+    } else {
+        0.0 / 0.0
+    }
+}
+
+pub fn left_count(words: &[u16], numbers: &[f64], section: usize) -> usize
+    ensures { λ r. ⌜ r ≡ length (sectionOf (roadOf (now (words .entry)) (now (numbers .entry))) section .left) ⌝ }
+{
+    if section < word(words, 5) {
+        word(words, 72 + section * 3)
+    } else {
+        0
+    }
+}
+
+pub fn right_count(words: &[u16], numbers: &[f64], section: usize) -> usize
+    ensures { λ r. ⌜ r ≡ length (sectionOf (roadOf (now (words .entry)) (now (numbers .entry))) section .right) ⌝ }
+{
+    if section < word(words, 5) {
+        word(words, 73 + section * 3)
+    } else {
+        0
+    }
+}

@@ -1,0 +1,20 @@
+-- `column_bound`: the column and the length put together.
+use borrow.Author.Needs.{needs}
+use Rattle.shape_limits.proofs.shapes.column_bound.Statement.{statement}
+use Rattle.shape_limits.proofs.shapes.column_bound.Tie as tie
+
+strip-column-requires : tie.Need-strip-column-requires
+strip-column-requires c κs = search needs
+
+road-length-requires : tie.Need-road-length-requires
+road-length-requires c κs = search needs
+
+greatest-bound-requires : tie.Need-greatest-bound-requires
+greatest-bound-requires c κs = search needs
+
+returns : tie.Need-returns
+returns c = cc
+
+pub column-bound-spec : {M : Type 1} → statement M
+column-bound-spec =
+    tie.close (tie.spec strip-column-requires road-length-requires greatest-bound-requires returns)

@@ -1,0 +1,29 @@
+-- `terms_bound`: the four columns put together.
+use borrow.Author.Needs.{needs}
+use Rattle.shape_limits.proofs.shapes.terms_bound.Statement.{statement}
+use Rattle.shape_limits.proofs.shapes.terms_bound.Tie as tie
+
+column-bound-requires : tie.Need-column-bound-requires
+column-bound-requires c κs = search needs
+
+column-bound-requires-2 : tie.Need-column-bound-requires-2
+column-bound-requires-2 c κs = search needs
+
+column-bound-requires-3 : tie.Need-column-bound-requires-3
+column-bound-requires-3 c κs = search needs
+
+column-bound-requires-4 : tie.Need-column-bound-requires-4
+column-bound-requires-4 c κs = search needs
+
+returns : tie.Need-returns
+returns c = cc
+
+pub terms-bound-spec : {M : Type 1} → statement M
+terms-bound-spec =
+    tie.close
+    (tie.spec
+    column-bound-requires
+    column-bound-requires-2
+    column-bound-requires-3
+    column-bound-requires-4
+    returns)

@@ -1,0 +1,108 @@
+// Row 4 of profiles and strips.
+use bounds::cubics_within;
+use bounds::greatest_bound;
+use ranges::in_range;
+ghost use mathlib.Core.Path.{_≡_};
+ghost use Prim.Native.Nat.{ℕ, _+_};
+ghost use lib.ListN.{length};
+ghost use Rattle.lent.specs.Lists.{allBelow};
+ghost use Rattle.records.specs.Roads.{roadOf, stripAt, columnOf};
+ghost use Rattle.ranges.specs.Bounds.{largest, greatestBound};
+ghost use Rattle.bounds.specs.Limits.{roadCubicsWithin, profileLimited, termsBound, stripLimited};
+
+// ---- profiles and strips
+fn profile_limited(words: &[u16], numbers: &[f64], i: usize) -> bool
+    ensures { λ r. ⌜ r ≡ profileLimited (roadOf (now (words .entry)) (now (numbers .entry))) i ⌝ }
+{
+    let start = in_range(
+        0.0,
+        records::road_length(words, numbers),
+        shape_records::profile_start(words, numbers, i),
+    );
+    start
+        & cubics_within(
+            shape_records::shapes(words, numbers, i),
+            -80.0,
+            80.0,
+            80.0,
+            40.0,
+        )
+}
+
+pub fn profiles_limited(words: &[u16], numbers: &[f64]) -> bool
+    ensures { λ r. ⌜ r ≡ allBelow (profileLimited (roadOf (now (words .entry)) (now (numbers .entry)))) (length (roadOf (now (words .entry)) (now (numbers .entry)) .profiles)) ⌝ }
+{
+    let n = shape_records::profile_count(words, numbers);
+    let mut ok = true;
+    let mut i = 0;
+    while i < n {
+        ok = ok & profile_limited(words, numbers, i);
+        i += 1;
+    }
+    ok
+}
+
+// The greatest B of a strip's column.
+fn column_bound(words: &[u16], numbers: &[f64], i: usize, column: usize) -> f64
+    ensures { λ r. ⌜ r ≡ greatestBound (columnOf (stripAt (roadOf (now (words .entry)) (now (numbers .entry))) i) column) (roadOf (now (words .entry)) (now (numbers .entry)) .length) ⌝ }
+{
+    greatest_bound(
+        shape_records::strip_column(words, numbers, i, column),
+        records::road_length(words, numbers),
+    )
+}
+
+// The four terms at their greatest, by Horner at 88.
+fn terms_bound(words: &[u16], numbers: &[f64], i: usize) -> f64
+    ensures { λ r. ⌜ r ≡ termsBound (roadOf (now (words .entry)) (now (numbers .entry))) (stripAt (roadOf (now (words .entry)) (now (numbers .entry))) i) ⌝ }
+{
+    let cubic = column_bound(words, numbers, i, 4);
+    let square = column_bound(words, numbers, i, 3);
+    let linear = column_bound(words, numbers, i, 2);
+    ((cubic * 88.0 + square) * 88.0 + linear) * 88.0 + column_bound(words, numbers, i, 1)
+}
+
+// A strip's column: starts on the road, and B at most the limit.
+fn column_within(words: &[u16], numbers: &[f64], i: usize, column: usize, limit: f64) -> bool
+    ensures { λ r. ⌜ r ≡ roadCubicsWithin (roadOf (now (words .entry)) (now (numbers .entry))) (columnOf (stripAt (roadOf (now (words .entry)) (now (numbers .entry))) i) column) limit ⌝ }
+{
+    let length = records::road_length(words, numbers);
+    cubics_within(
+        shape_records::strip_column(words, numbers, i, column),
+        0.0,
+        length,
+        length,
+        limit,
+    )
+}
+
+fn terms_within(words: &[u16], numbers: &[f64], i: usize) -> bool
+    ensures { λ r. ⌜ r ≡ allBelow (λ (term : ℕ). roadCubicsWithin (roadOf (now (words .entry)) (now (numbers .entry))) (columnOf (stripAt (roadOf (now (words .entry)) (now (numbers .entry))) i) (term + 1)) largest) 4 ⌝ }
+{
+    let mut ok = true;
+    let mut term = 0;
+    while term < 4 {
+        ok = ok & column_within(words, numbers, i, term + 1, 1.7976931348623157e308);
+        term += 1;
+    }
+    ok
+}
+
+fn strip_limited(words: &[u16], numbers: &[f64], i: usize) -> bool
+    ensures { λ r. ⌜ r ≡ stripLimited (roadOf (now (words .entry)) (now (numbers .entry))) (stripAt (roadOf (now (words .entry)) (now (numbers .entry))) i) ⌝ }
+{
+    let width = column_within(words, numbers, i, 0, 100.0);
+    width & terms_within(words, numbers, i) & (terms_bound(words, numbers, i) <= 40.0)
+}
+
+pub fn strips_limited(words: &[u16], numbers: &[f64]) -> bool
+    ensures { λ r. ⌜ r ≡ allBelow (λ (i : ℕ). stripLimited (roadOf (now (words .entry)) (now (numbers .entry))) (stripAt (roadOf (now (words .entry)) (now (numbers .entry))) i)) 4 ⌝ }
+{
+    let mut ok = true;
+    let mut i = 0;
+    while i < 4 {
+        ok = ok & strip_limited(words, numbers, i);
+        i += 1;
+    }
+    ok
+}

@@ -1,0 +1,80 @@
+// Profiles with their shapes, and the strips of a cross section.
+use lent::number;
+use lent::part;
+use lent::word;
+use records::StripKind;
+ghost use mathlib.Core.Path.{_≡_};
+ghost use mathlib.Core.Bool.{cond};
+ghost use lib.ListN.{length};
+ghost use lib.Dec.{eqb};
+ghost use Rattle.records.specs.declared.points.StripKind.the-variants.{Absent, Absolute, Relative};
+ghost use Rattle.cubics.specs.Cubics.{cubicsOf};
+ghost use Rattle.records.specs.Roads.{roadOf, profileAt, stripAt, kindOf, columnOf};
+
+// ---- profiles and strips
+pub fn profile_count(words: &[u16], numbers: &[f64]) -> usize
+    ensures { λ r. ⌜ r ≡ length (roadOf (now (words .entry)) (now (numbers .entry)) .profiles) ⌝ }
+{
+    word(words, 6)
+}
+
+// Where the i-th profile stands, NaN where there is none.
+pub fn profile_start(words: &[u16], numbers: &[f64], i: usize) -> f64
+    ensures { λ r. ⌜ r ≡ profileAt (roadOf (now (words .entry)) (now (numbers .entry))) i .s ⌝ }
+{
+    if i < word(words, 6) {
+        number(numbers, 5841 + i)
+    } else {
+        0.0 / 0.0
+    }
+}
+
+pub fn shapes<'a>(words: &[u16], numbers: &'a [f64], i: usize) -> &'a [f64]
+    ensures { λ r. ⌜ cubicsOf (now r) ≡ profileAt (roadOf (now (words .entry)) (now (numbers .entry))) i .shapes ⌝ }
+{
+    if i < word(words, 6) {
+        let at = 1271 + i * 2;
+        part(numbers, 5857 + word(words, at) * 5, word(words, at + 1) * 5)
+    } else {
+        part(numbers, 0, 0)
+    }
+}
+
+fn kind_of(code: usize) -> StripKind
+    ensures { λ r. ⌜ r ≡ cond (eqb code 0) Absent (cond (eqb code 2) Relative Absolute) ⌝ }
+{
+    match code {
+        0 => StripKind::Absent,
+        2 => StripKind::Relative,
+        _ => StripKind::Absolute,
+    }
+}
+
+// Whether the i-th strip (left inner, left outer, right inner, right outer) is there, and stands on the inner one's edge.
+pub fn strip(words: &[u16], numbers: &[f64], i: usize) -> StripKind
+    ensures { λ r. ⌜ r ≡ kindOf (stripAt (roadOf (now (words .entry)) (now (numbers .entry))) i) ⌝ }
+{
+    if i < 4 {
+        kind_of(word(words, 1303 + i * 11))
+    } else {
+        StripKind::Absent
+    }
+}
+
+// The cubics of a strip's width (column 0) or of its term (column term + 1); none of a strip that is not there.
+pub fn strip_column<'a>(words: &[u16], numbers: &'a [f64], i: usize, column: usize) -> &'a [f64]
+    ensures { λ r. ⌜ cubicsOf (now r) ≡ columnOf (stripAt (roadOf (now (words .entry)) (now (numbers .entry))) i) column ⌝ }
+{
+    if 4 <= i {
+        return part(numbers, 0, 0);
+    }
+    if 5 <= column {
+        return part(numbers, 0, 0);
+    }
+    let at = 1303 + i * 11;
+    if word(words, at) == 0 {
+        return part(numbers, 0, 0);
+    }
+    let k = at + 1 + column * 2;
+    part(numbers, 7137 + word(words, k) * 5, word(words, k + 1) * 5)
+}

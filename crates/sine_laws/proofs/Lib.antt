@@ -1,0 +1,2 @@
+pub mod SineLaws
+pub mod SineExamples

@@ -1,0 +1,1 @@
+// Laws of sine, cosine and tangent: sizes and examples.

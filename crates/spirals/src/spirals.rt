@@ -1,0 +1,160 @@
+// A spiral has no elementary form, so it is baked to samples by the midpoint rule: its start, then one a step of 0.25 m, the last shorter.
+use crate::counting::least;
+use crate::line::Sample;
+use records::GeomRec;
+use records::GeomShape;
+ghost use mathlib.Core.Path.{_≡_};
+ghost use Prim.Native.Nat.{_<_, _≤_};
+ghost use lib.Dec.{T, leb};
+ghost use lib.Ieee.{le};
+ghost use Rattle.float_laws.specs.Binary64.{f64};
+ghost use Rattle.records.specs.Roads.{roadOf};
+ghost use Rattle.spirals.specs.Quarters.{QuartersBelow};
+ghost use Rattle.spirals.specs.Spiral.{stepAt, spiralSteps, sampleCount, samplesBefore, samplesNeeded, firstSample, nextSample, turnRate, headingAt};
+
+// The length of the step from u on.
+fn step_at(length: f64, u: f64) -> f64
+    ensures { λ r. ⌜ r ≡ stepAt length u ⌝ }
+{
+    let left = length - u;
+    if left < 0.25 { left } else { 0.25 }
+}
+
+// About how many steps of 0.25 fit below x: the low bits of a sum which is rounded to a whole number, 4 x less 1.
+fn estimate(x: f64) -> usize
+    requires { ⌜ T (le (f64 0x3ff0_0000_0000_0000) x) × T (le x (f64 0x40c3_8800_0000_0000)) ⌝ }
+    ensures { λ r. ⌜ r < 65536 ⌝ }
+{
+    (f64::to_bits(x * 4.0 + 4503599627370495.0) % 65536) as usize
+}
+
+// Steps of 0.25 that end below x, at most 2,000 and all but one or two of them. The test is what makes sure of them.
+fn quarters_below(x: f64) -> usize
+    ensures { λ r. ⌜ QuartersBelow x r ⌝ }
+{
+    let inside = (1.0 <= x) & (x <= 10000.0);
+    if inside {
+        let n = least(estimate(x), 2000);
+        if n as f64 * 0.25 < x {
+            return n;
+        }
+    }
+    0
+}
+
+// The steps of a spiral. More than 2,001 are not counted: row 5 refuses over 2,000 samples.
+fn spiral_steps(length: f64) -> usize
+    ensures { λ r. ⌜ r ≡ spiralSteps length ⌝ }
+    ensures small { λ r. ⌜ r ≤ 2001 ⌝ }
+{
+    let last = length - 1e-9;
+    let mut n = quarters_below(last);
+    let mut u = n as f64 * 0.25;
+    while n < 2001 {
+        if u < last {
+            u = u + step_at(length, u);
+            n += 1;
+        } else {
+            return n;
+        }
+    }
+    n
+}
+
+// How many samples a geometry has: none unless it is a spiral.
+pub fn sample_count(g: GeomRec) -> usize
+    ensures { λ r. ⌜ r ≡ sampleCount g ⌝ }
+    ensures small { λ r. ⌜ r ≤ 2002 ⌝ }
+{
+    let shape = g.shape;
+    match shape {
+        GeomShape::Spiral(_, _) => spiral_steps(g.length) + 1,
+        GeomShape::Arc(_) => 0,
+        GeomShape::Line => 0,
+    }
+}
+
+// How many samples the geometries before the i-th have, where the first of its own stands.
+pub fn samples_before(words: &[u16], numbers: &[f64], i: usize) -> usize
+    ensures { λ r. ⌜ r ≡ samplesBefore (roadOf (now (words .entry)) (now (numbers .entry))) i ⌝ }
+    ensures small { λ r. ⌜ r < 268435456 ⌝ }
+{
+    let n = least(i, records::geom_count(words, numbers));
+    let mut sum = 0;
+    let mut k = 0;
+    while k < n {
+        sum += sample_count(geometry::geom(words, numbers, k));
+        k += 1;
+    }
+    sum
+}
+
+// How many samples a road needs.
+pub fn samples_needed(words: &[u16], numbers: &[f64]) -> usize
+    ensures { λ r. ⌜ r ≡ samplesNeeded (roadOf (now (words .entry)) (now (numbers .entry))) ⌝ }
+    ensures small { λ r. ⌜ r < 268435456 ⌝ }
+{
+    let all = records::geom_count(words, numbers);
+    samples_before(words, numbers, all)
+}
+
+// Whether a road needs at most 2,000 samples. It stops counting at the first geometry that passes this.
+pub fn samples_fit(words: &[u16], numbers: &[f64]) -> bool
+    ensures { λ r. ⌜ r ≡ leb (samplesNeeded (roadOf (now (words .entry)) (now (numbers .entry)))) 2000 ⌝ }
+{
+    let n = records::geom_count(words, numbers);
+    let mut needed = 0;
+    let mut i = 0;
+    while i < n {
+        needed += sample_count(geometry::geom(words, numbers, i));
+        if 2000 < needed {
+            return false;
+        }
+        i += 1;
+    }
+    true
+}
+
+fn turn_rate(length: f64, k0: f64, k1: f64) -> f64
+    ensures { λ r. ⌜ r ≡ turnRate length k0 k1 ⌝ }
+{
+    if 1e-9 < length {
+        (k1 - k0) / length
+    } else {
+        0.0
+    }
+}
+
+// The heading at u: that of a curvature which goes linearly from k0 to k1.
+fn heading_at(g: GeomRec, k0: f64, k1: f64, u: f64) -> f64
+    ensures { λ r. ⌜ r ≡ headingAt g k0 k1 u ⌝ }
+{
+    g.hdg + k0 * u + 0.5 * turn_rate(g.length, k0, k1) * u * u
+}
+
+pub fn first_sample(g: GeomRec) -> Sample
+    ensures { λ r. ⌜ r ≡ firstSample g ⌝ }
+{
+    Sample {
+        distance: 0.0,
+        x: g.x,
+        y: g.y,
+        heading: g.hdg,
+    }
+}
+
+// The next sample from the last, of a spiral with curvatures k0 and k1 at its ends.
+pub fn next_sample(g: GeomRec, k0: f64, k1: f64, p: Sample) -> Sample
+    ensures { λ r. ⌜ r ≡ nextSample g k0 k1 p ⌝ }
+{
+    let step = step_at(g.length, p.distance);
+    // before the sine and cosine, so that the next step need not wait for them
+    let u = p.distance + step;
+    let middle = trigonometry::sin_cos(heading_at(g, k0, k1, p.distance + step / 2.0));
+    Sample {
+        distance: u,
+        x: p.x + middle.cos * step,
+        y: p.y + middle.sin * step,
+        heading: heading_at(g, k0, k1, u),
+    }
+}

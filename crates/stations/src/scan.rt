@@ -1,0 +1,77 @@
+// The active record: the last whose start is at most s + 1e-9. Scanned from the end, since the one wanted is mostly the last or near it.
+use cubics::cubic_at;
+use lent::number;
+use records::Found;
+ghost use mathlib.Core.Path.{_≡_};
+ghost use Prim.Native.Nat.{ℕ, _+_, _*_, _<_};
+ghost use lib.ListN.{getD, length};
+ghost use lib.Ieee.{nan};
+ghost use Rattle.cubics.specs.Cubics.{cubicsOf};
+ghost use Rattle.records.specs.Roads.{heightsOf, heightDefAt};
+ghost use Rattle.records.specs.Active.{lastStart, foundOf, activeIn, valueIn, slopeIn, reached};
+
+pub fn found_of(reach: usize) -> Found
+    ensures { λ r. ⌜ r ≡ foundOf reach ⌝ }
+{
+    if reach == 0 {
+        Found::Nothing
+    } else {
+        Found::At(reach - 1)
+    }
+}
+
+// Of count starts, stride places apart from base on, one more than the place of the last that is at most the limit; 0 where none is.
+pub(crate) fn reach(numbers: &[f64], base: usize, stride: usize, count: usize, limit: f64) -> usize
+    requires { ⌜ (base < 65536) × (stride < 16) × (count < 1152921504606846976) ⌝ }
+    ensures { λ r. ⌜ foundOf r ≡ lastStart (λ (i : ℕ). getD (now (numbers .entry)) (base + i * stride) nan) limit count ⌝ }
+{
+    let mut i = count;
+    while 0 < i {
+        let j = i - 1;
+        if number(numbers, base + j * stride) <= limit {
+            return i;
+        }
+        i = j;
+    }
+    0
+}
+
+// The active cubic of a part of the lent numbers, five a cubic.
+pub fn active(part: &[f64], s: f64) -> Found
+    ensures { λ r. ⌜ r ≡ activeIn (cubicsOf (now (part .entry))) s ⌝ }
+{
+    found_of(reach(part, 0, 5, part.len() / 5, s + 1e-9))
+}
+
+// The last height of a part of the lent numbers, three a height, that starts at or before s + 1e-9.
+pub fn active_height(part: &[f64], s: f64) -> Found
+    ensures { λ r. ⌜ r ≡ lastStart (λ (i : ℕ). heightDefAt (heightsOf (now (part .entry))) i .«s_offset») (reached s) (length (heightsOf (now (part .entry)))) ⌝ }
+{
+    found_of(reach(part, 0, 3, part.len() / 3, s + 1e-9))
+}
+
+// The value at s of the active cubic, 0 where none is.
+pub fn value(part: &[f64], s: f64) -> f64
+    ensures { λ r. ⌜ r ≡ valueIn (cubicsOf (now (part .entry))) s ⌝ }
+{
+    match active(part, s) {
+        Found::At(i) => {
+            let c = cubic_at(part, i);
+            c.eval(s)
+        }
+        Found::Nothing => 0.0,
+    }
+}
+
+// Its slope at s, 0 where none is.
+pub fn slope(part: &[f64], s: f64) -> f64
+    ensures { λ r. ⌜ r ≡ slopeIn (cubicsOf (now (part .entry))) s ⌝ }
+{
+    match active(part, s) {
+        Found::At(i) => {
+            let c = cubic_at(part, i);
+            c.slope(s)
+        }
+        Found::Nothing => 0.0,
+    }
+}

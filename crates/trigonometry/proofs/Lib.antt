@@ -1,0 +1,5 @@
+pub mod FloorLaws
+pub mod FloorCases
+pub mod QuotientTable
+pub mod Reduction
+pub mod SineKernel

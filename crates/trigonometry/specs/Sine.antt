@@ -1,0 +1,103 @@
+-- Document 01, "Stand-ins": sine, cosine and tangent, operation by operation, each rounded once.
+use Prim.Native.Nat.{ℕ, zero, suc, _*_, _%_}
+use mathlib.Core.Bool.{Bool, cond, _&&_}
+use mathlib.Core.List.{List, [], _∷_}
+use lib.Dec.{leb, eqb}
+use lib.IntN.{pos, negsuc}
+use lib.Ieee.{Float, nan, binary64, ofBits, ofInt, neg, add, sub, mul, div, le}
+use Rattle.trigonometry.specs.Floor.{floorOf, quarterOf}
+
+infixl 20 _⊕_
+infixl 20 _⊖_
+infixl 21 _⊗_
+abbrev _⊕_ : Float → Float → Float
+x ⊕ y = add binary64 x y
+
+abbrev _⊖_ : Float → Float → Float
+x ⊖ y = sub binary64 x y
+
+abbrev _⊗_ : Float → Float → Float
+x ⊗ y = mul binary64 x y
+
+-- "NaN beyond ±12,000"
+abbrev pub sineRange : Float
+sineRange = ofBits binary64 0x40c7_7000_0000_0000
+
+-- "I = 3fe45f306dc9c883", "P = 3ff921fb54400000, Q = 3dd0b4611a626331"
+abbrev pub I : Float
+I = ofBits binary64 0x3fe4_5f30_6dc9_c883
+
+abbrev pub P : Float
+P = ofBits binary64 0x3ff9_21fb_5440_0000
+
+abbrev pub Q : Float
+Q = ofBits binary64 0x3dd0_b461_1a62_6331
+
+abbrev pub half : Float
+half = ofBits binary64 0x3fe0_0000_0000_0000
+
+abbrev pub one : Float
+one = ofBits binary64 0x3ff0_0000_0000_0000
+
+-- "n = floor(h×I + 0.5)": what the floor is taken of
+unfoldable pub turn : Float → Float
+turn h = h ⊗ I ⊕ half
+
+unfoldable pub turns : Float → Float
+turns h = floorOf binary64 (turn h)
+
+-- "r = (h - n×P) - n×Q"
+unfoldable pub rest : Float → Float → Float
+rest h n = h ⊖ n ⊗ P ⊖ n ⊗ Q
+
+unfoldable pub factorial : ℕ → ℕ
+factorial zero = 1
+factorial (suc n) = suc n * factorial n
+
+-- "-1/15!..-1/3!", "1/16!..-1/2!", "signs alternating, each the rounded quotient": 1/n!, negative where n mod 4 is 2 or 3
+unfoldable pub quotient : ℕ → Float
+quotient n = div binary64 (ofInt binary64 (cond (leb 2 (n % 4)) (negsuc 0) (pos 1))) (ofInt binary64 (pos (factorial n)))
+
+-- "by Horner": the first coefficient, and those that follow it
+unfoldable pub horner : Float → Float → List Float → Float
+horner z c [] = c
+horner z c (d ∷ ds) = horner z (c ⊗ z ⊕ d) ds
+
+-- "S = r + r×(z×p), C = 1 + z×q", "z = r×r"
+unfoldable pub sineKernel : Float → Float
+sineKernel r =
+    let z = r ⊗ r in
+    let p = horner z (quotient 15) (quotient 13 ∷ quotient 11 ∷ quotient 9 ∷ quotient 7 ∷ quotient 5 ∷ quotient 3 ∷ []) in
+    r ⊕ r ⊗ (z ⊗ p)
+
+unfoldable pub cosineKernel : Float → Float
+cosineKernel r =
+    let z = r ⊗ r in
+    let q = horner z (quotient 16) (quotient 14 ∷ quotient 12 ∷ quotient 10 ∷ quotient 8 ∷ quotient 6 ∷ quotient 4 ∷ quotient 2 ∷ []) in
+    one ⊕ z ⊗ q
+
+-- "n mod 4 = 0,1,2,3: sine S, C, -S, -C; cosine C, -S, -C, S"
+unfoldable pub sineBy : ℕ → Float → Float → Float
+sineBy k s c = cond (eqb k 0) s (cond (eqb k 1) c (cond (eqb k 2) (neg s) (neg c)))
+
+unfoldable pub cosineBy : ℕ → Float → Float → Float
+cosineBy k s c = cond (eqb k 0) c (cond (eqb k 1) (neg s) (cond (eqb k 2) (neg c) s))
+
+unfoldable pub inRange : Float → Bool
+inRange h = le (neg sineRange) h && le h sineRange
+
+unfoldable pub sineOf : Float → Float
+sineOf h =
+    let n = turns h in
+    let r = rest h n in
+    cond (inRange h) (sineBy (quarterOf n) (sineKernel r) (cosineKernel r)) nan
+
+unfoldable pub cosineOf : Float → Float
+cosineOf h =
+    let n = turns h in
+    let r = rest h n in
+    cond (inRange h) (cosineBy (quarterOf n) (sineKernel r) (cosineKernel r)) nan
+
+-- "tan: sin / cos"
+unfoldable pub tanOf : Float → Float
+tanOf h = div binary64 (sineOf h) (cosineOf h)

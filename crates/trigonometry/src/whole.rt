@@ -1,0 +1,67 @@
+// The floor of an f64, by a sum: x + c, for a c that brings it among the values which an f64 counts in steps of 1, is rounded to a whole number.
+ghost use mathlib.Core.Path.{_≡_};
+ghost use mathlib.Core.Bool.{cond};
+ghost use Prim.Native.Nat.{_<_};
+ghost use lib.Dec.{T};
+ghost use lib.Ieee.{binary64, ofBits, neg, sub, le, lt};
+ghost use Rattle.trigonometry.specs.Floor.{floorOf, quarterOf};
+
+// The greatest whole number that is at most some x, and that number mod 4.
+pub(crate) struct WholePart {
+    pub n: f64,
+    pub quarter: u64,
+}
+
+// What is to be taken off n where it lies above x. A difference and no branch: for every second angle the machine would guess the branch wrong.
+fn excess(x: f64, n: f64) -> f64
+    ensures { λ r. ⌜ r ≡ cond (lt x n) (ofBits binary64 0x3ff0_0000_0000_0000) (ofBits binary64 0) ⌝ }
+{
+    if x < n { 1.0 } else { 0.0 }
+}
+
+// For |x| up to 2^50; the low bits of the sum are the whole number's.
+pub(crate) fn below(x: f64) -> WholePart
+    requires { ⌜ T (le (neg (ofBits binary64 0x4310_0000_0000_0000)) x) × T (le x (ofBits binary64 0x4310_0000_0000_0000)) ⌝ }
+    ensures { λ r. ⌜ (r .n ≡ floorOf binary64 x) × (r .quarter ≡ quarterOf (floorOf binary64 x)) ⌝ }
+    ensures small { λ r. ⌜ r .quarter < 4 ⌝ }
+{
+    if x == 0.0 {
+        return WholePart { n: x, quarter: 0 };
+    }
+    let y = x + 6755399441055744.0;
+    let n = y - 6755399441055744.0;
+    let over = excess(x, n);
+    WholePart {
+        n: n - over,
+        quarter: f64::to_bits(y - over) % 4,
+    }
+}
+
+// n, or one less where n lies above x.
+fn stepped_down(x: f64, n: f64) -> f64
+    ensures { λ r. ⌜ r ≡ cond (lt x n) (sub binary64 n (ofBits binary64 0x3ff0_0000_0000_0000)) n ⌝ }
+{
+    if x < n {
+        return n - 1.0;
+    }
+    n
+}
+
+// The greatest whole number that is at most x: 2.5 gives 2, -2.5 gives -3; a NaN, the infinities and -0 are their own.
+pub fn floor(x: f64) -> f64
+    ensures { λ r. ⌜ r ≡ floorOf binary64 x ⌝ }
+{
+    if x == 0.0 {
+        return x;
+    }
+    if 0.0 < x {
+        if x < 4503599627370496.0 {
+            return stepped_down(x, (x + 4503599627370496.0) - 4503599627370496.0);
+        }
+        return x;
+    }
+    if -4503599627370496.0 < x {
+        return stepped_down(x, (x + 9007199254740992.0) - 9007199254740992.0);
+    }
+    x
+}
