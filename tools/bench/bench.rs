@@ -8,6 +8,7 @@ use comparison::arguments::exact_root;
 use comparison::generate;
 use comparison::model::*;
 use comparison::oracle::{Line, Oracle};
+use comparison::probes as inside;
 use comparison::random::Rng;
 use comparison::reader;
 use comparison::riftkettle as ours;
@@ -135,14 +136,19 @@ fn main() {
     let pair =
         compare(angles.len(), || over(&angles, |h| ours::sin(h) + ours::cos(h)), || over(&angles, |h| rust_sin(h) + rust_cos(h)));
     row("sine and cosine, a call each", pair);
+    let one_call = |h| {
+        let (sin, cos) = inside::sin_cos(h);
+        sin + cos
+    };
     let both = |h| {
         let (sin, cos) = rust_sin_cos(h);
         sin + cos
     };
     row(
-        "the same; Rust: one call for both",
-        compare(angles.len(), || over(&angles, |h| ours::sin(h) + ours::cos(h)), || over(&angles, both)),
+        "the pair in one call; Rust: a call each, as its poses and samples make them",
+        compare(angles.len(), || over(&angles, one_call), || over(&angles, |h| rust_sin(h) + rust_cos(h))),
     );
+    row("the pair in one call on both sides", compare(angles.len(), || over(&angles, one_call), || over(&angles, both)));
     row("root; Rust: the machine's", compare(sizes.len(), || over(&sizes, ours::root), || over(&sizes, rust_root)));
     row("root; Rust: in whole numbers", compare(sizes.len(), || over(&sizes, ours::root), || over(&sizes, exact_root)));
     let narrow = |x| f64::from(ours::narrow(x));

@@ -75,6 +75,9 @@ fn sine_pair(rng: &mut Rng, tally: &mut Tally) {
     let (sin, cos) = rust::sin_cos(h);
     tally.number(ours::sin(h), sin, || format!("sine of {}", hex(&[h])));
     tally.number(ours::cos(h), cos, || format!("cosine of {}", hex(&[h])));
+    let both = comparison::probes::sin_cos(h);
+    tally.number(both.0, sin, || format!("sine of {}, with its cosine", hex(&[h])));
+    tally.number(both.1, cos, || format!("cosine of {}, with its sine", hex(&[h])));
 }
 
 fn tan(rng: &mut Rng, tally: &mut Tally) {

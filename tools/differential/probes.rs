@@ -3,6 +3,7 @@
 use crate::model::{Cubic, Memory};
 
 unsafe extern "C" {
+    fn probe_sin_cos(h: f64, sin: *mut f64, cos: *mut f64);
     fn probe_eval(start: f64, a: f64, b: f64, c: f64, d: f64, s: f64) -> f64;
     fn probe_slope(start: f64, a: f64, b: f64, c: f64, d: f64, s: f64) -> f64;
     fn probe_active(part: *const f64, n: usize, s: f64) -> usize;
@@ -39,6 +40,12 @@ unsafe extern "C" {
         y: *mut f64,
         heading: *mut f64,
     );
+}
+
+pub fn sin_cos(h: f64) -> (f64, f64) {
+    let (mut sin, mut cos) = (0.0, 0.0);
+    unsafe { probe_sin_cos(h, &mut sin, &mut cos) };
+    (sin, cos)
 }
 
 pub fn eval(c: &Cubic, s: f64) -> f64 {

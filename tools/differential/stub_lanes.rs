@@ -285,6 +285,11 @@ fn name_lane(words: &[u16], numbers: &[f64], s: f64, t: f64, id: &mut i32) -> u3
 }
 
 #[unsafe(no_mangle)]
+pub extern "C" fn probe_sin_cos(h: f64, sin: &mut f64, cos: &mut f64) {
+    (*sin, *cos) = comparison::stand_ins::sin_cos(h);
+}
+
+#[unsafe(no_mangle)]
 pub extern "C" fn probe_eval(start: f64, a: f64, b: f64, c: f64, d: f64, s: f64) -> f64 {
     eval(&Cubic { start, a, b, c, d }, s)
 }
