@@ -1,0 +1,19 @@
+#!/usr/bin/env bash
+# Tries the must-fail edits that the gate leaves out: crates/NAME/must-fail/long/*.edit. One command, from any folder:
+#
+#     tools/edits/run.sh
+#
+# It works on a copy of what is committed, in which these edits take the place of the gate's. The last line says how many were refused.
+# Status 0: all of them.
+set -euo pipefail
+cd "$(dirname "$0")/../.."
+copy=$(mktemp -d)
+trap 'rm -rf "$copy"' EXIT
+git archive HEAD | tar -x -C "$copy"
+[ -d target ] && cp -a target "$copy/target"
+for folder in "$copy"/crates/*/must-fail; do
+  rm -f "$folder"/*.edit
+  if [ -d "$folder/long" ]; then mv "$folder"/long/*.edit "$folder"; fi
+done
+cd "$copy"
+RT_JOBS=4 rt must-fail
