@@ -85,11 +85,13 @@ pub fn poses(stations: &[f64]) {
     for (what, shape) in shapes {
         let road = one_geometry(shape, 400.0);
         let (m, line, samples) = (lay(&road), Line::new(&road.geoms[0]), Oracle::new(&road).samples());
+        let mut pose = [0.0; 3];
         let times = compare(
             stations.len(),
             || {
                 for &s in black_box(stations) {
-                    black_box(inside::pose(&m, &samples, 0, s));
+                    inside::pose(&m, &samples, 0, s, &mut pose);
+                    black_box(&pose);
                 }
             },
             || {

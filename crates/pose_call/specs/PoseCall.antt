@@ -6,19 +6,15 @@ use lib.Dec.{ltb}
 use lib.Ieee.{Float}
 use Rattle.refusals.specs.Answer.{Answer, value, refused, Row, row, checked}
 use Rattle.refusals.specs.Refusal.{numberOf}
-use Rattle.refusals.specs.declared.refusals.Refusal.the-variants.{Structure, Station}
+use Rattle.refusals.specs.declared.refusals.Refusal.the-variants.{Structure}
 use Rattle.records.specs.Roads.{Road, roadOf}
-use Rattle.bounds.specs.Limits.{onRoad}
+use Rattle.places.specs.Places.{stationRow}
 use Rattle.spirals.specs.declared.line.Pose.{Pose}
 use Rattle.spirals.specs.Poses.{poseOf}
 use Rattle.admission.specs.Admission.{roadRows}
 use Rattle.admission.specs.Samples.{sampleRow}
 use Rattle.pose_call.specs.declared.answers.Posed.{Posed}
 use Rattle.pose_call.specs.declared.answers.Posed.the-variants as posed
-
--- row 7: "s outside 0..length"
-abbrev pub stationRow : Road → Float → Row
-stationRow road s = row Station (onRoad road s)
 
 -- a geometry that the road does not have is a wrong reference: 3, of an argument, so after the road's and the samples' rows
 abbrev pub geometryRow : Road → ℕ → Row

@@ -1,19 +1,11 @@
 // A place on the reference line and the heading there, or a refusal.
 use crate::answers::Posed;
 use admission::Verdict;
+use places::on_road;
 use refusals::Refusal;
 ghost use mathlib.Core.Path.{_≡_};
 ghost use Rattle.refusals.specs.Answer.{value, checked};
-ghost use Rattle.records.specs.Roads.{roadOf};
-ghost use Rattle.bounds.specs.Limits.{onRoad};
 ghost use Rattle.pose_call.specs.PoseCall.{ownRows, placeOf, posedBy, poseAnswer};
-
-// Row 7: s in 0..length. NaN is outside.
-fn on_road(words: &[u16], numbers: &[f64], s: f64) -> bool
-    ensures { λ r. ⌜ r ≡ onRoad (roadOf (now (words .entry)) (now (numbers .entry))) s ⌝ }
-{
-    (0.0 <= s) & (s <= records::road_length(words, numbers))
-}
 
 // Row 6, the geometry's and row 7, then the pose.
 fn pose_at(words: &[u16], numbers: &[f64], samples: &[f64], geometry: usize, s: f64) -> Posed

@@ -1,7 +1,7 @@
 -- `across`: the two comparisons themselves.
 use mathlib.Core.Path.{refl}
-use Rattle.lane_calls.proofs.stationing.across.Statement.{statement}
-use Rattle.lane_calls.proofs.stationing.across.Tie as tie
+use Rattle.places.proofs.testing.across.Statement.{statement}
+use Rattle.places.proofs.testing.across.Tie as tie
 
 returns : tie.Need-returns
 returns c = refl

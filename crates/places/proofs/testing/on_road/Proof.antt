@@ -4,8 +4,8 @@ use mathlib.Core.Bool.{_&&_}
 use lib.Ieee.{Float, le}
 use Rattle.float_laws.specs.Binary64.{zero64}
 use borrow.Author.Needs.{needs}
-use Rattle.lane_calls.proofs.stationing.on_road.Statement.{statement}
-use Rattle.lane_calls.proofs.stationing.on_road.Tie as tie
+use Rattle.places.proofs.testing.on_road.Statement.{statement}
+use Rattle.places.proofs.testing.on_road.Tie as tie
 
 road-length-requires : tie.Need-road-length-requires
 road-length-requires c κs = search needs
