@@ -1,5 +1,5 @@
 -- `bound`: the sizes put together.
-use Rattle.ranges.specs.Bounds.{boundOf}
+use Rattle.bounds.proofs.Parts.{bound-by}
 use borrow.Author.Needs.{needs}
 use Rattle.bounds.proofs.bounding.bound.Statement.{statement}
 use Rattle.bounds.proofs.bounding.bound.Tie as tie
@@ -17,8 +17,9 @@ abs-requires-4 : tie.Need-abs-requires-4
 abs-requires-4 c κs = search needs
 
 returns : tie.Need-returns
-unfolding boundOf
-returns c = cc
+returns c =
+    let a = c .before .before .before .before .args in
+    bound-by (a .c) (a .d) (c .before .before .before .abs .ensures) (c .before .before .abs2 .ensures) (c .before .abs3 .ensures) (c .abs4 .ensures)
 
 pub bound-spec : {M : Type 1} → statement M
 bound-spec = tie.close (tie.spec abs-requires abs-requires-2 abs-requires-3 abs-requires-4 returns)

@@ -1,5 +1,7 @@
 -- `bound_at`: the cubic and its reach put together.
+use Rattle.cubics.specs.Cubics.{cubicsOf}
 use borrow.Author.Needs.{needs}
+use Rattle.bounds.proofs.Parts.{bound-at-by}
 use Rattle.bounds.proofs.bounding.bound_at.Statement.{statement}
 use Rattle.bounds.proofs.bounding.bound_at.Tie as tie
 
@@ -13,7 +15,9 @@ bound-requires : tie.Need-bound-requires
 bound-requires c κs = search needs
 
 returns : tie.Need-returns
-returns c = cc
+returns c =
+    let a = c .before .before .before .before .args in
+    bound-at-by (cubicsOf (a .part .now)) (a .end) (a .i) (c .before .before .cubic-at .ensures) (c .before .reach .ensures) (c .bound .ensures)
 
 pub bound-at-spec : {M : Type 1} → statement M
 bound-at-spec = tie.close (tie.spec cubic-at-requires reach-requires bound-requires returns)

@@ -1,5 +1,6 @@
 -- `cubic_within`: the two tests put together.
-use Rattle.ranges.specs.Bounds.{cubicWithin}
+use Rattle.cubics.specs.Cubics.{cubicsOf}
+use Rattle.bounds.proofs.Parts.{within-by}
 use borrow.Author.Needs.{needs}
 use Rattle.bounds.proofs.bounding.cubic_within.Statement.{statement}
 use Rattle.bounds.proofs.bounding.cubic_within.Tie as tie
@@ -14,8 +15,9 @@ in-range-requires : tie.Need-in-range-requires
 in-range-requires c κs = search needs
 
 returns : tie.Need-returns
-unfolding cubicWithin
-returns c = cc
+returns c =
+    let a = c .before .before .before .before .args in
+    within-by (cubicsOf (a .part .now)) (a .end) (a .i) (c .before .before .cubic-at .ensures) (a .lo) (a .hi) (a .limit) (c .before .bound-at .ensures) (c .in-range .ensures)
 
 pub cubic-within-spec : {M : Type 1} → statement M
 cubic-within-spec =

@@ -1,5 +1,6 @@
 -- `reach`: the end and the start put together.
-use Rattle.ranges.specs.Bounds.{reachAt}
+use Rattle.cubics.specs.Cubics.{cubicsOf}
+use Rattle.bounds.proofs.Parts.{reach-by}
 use borrow.Author.Needs.{needs}
 use Rattle.bounds.proofs.bounding.reach.Statement.{statement}
 use Rattle.bounds.proofs.bounding.reach.Tie as tie
@@ -14,8 +15,9 @@ at-least-zero-requires : tie.Need-at-least-zero-requires
 at-least-zero-requires c κs = search needs
 
 returns : tie.Need-returns
-unfolding reachAt
-returns c = cc
+returns c =
+    let a = c .before .before .before .before .before .args in
+    reach-by (cubicsOf (a .part .now)) (a .end) (a .i) (c .before .before .before .cubic-at .ensures) (c .before .before .end-at .ensures) (c .at-least-zero .ensures)
 
 pub reach-spec : {M : Type 1} → statement M
 reach-spec = tie.close (tie.spec cubic-at-requires end-at-requires at-least-zero-requires returns)

@@ -1,5 +1,5 @@
 -- `slope_bound`: the sizes put together.
-use Rattle.ranges.specs.Bounds.{slopeBoundOf}
+use Rattle.bounds.proofs.Parts.{slope-bound-by}
 use borrow.Author.Needs.{needs}
 use Rattle.bounds.proofs.bounding.slope_bound.Statement.{statement}
 use Rattle.bounds.proofs.bounding.slope_bound.Tie as tie
@@ -14,8 +14,9 @@ abs-requires-3 : tie.Need-abs-requires-3
 abs-requires-3 c κs = search needs
 
 returns : tie.Need-returns
-unfolding slopeBoundOf
-returns c = cc
+returns c =
+    let a = c .before .before .before .args in
+    slope-bound-by (a .c) (a .d) (c .before .before .abs .ensures) (c .before .abs2 .ensures) (c .abs3 .ensures)
 
 pub slope-bound-spec : {M : Type 1} → statement M
 slope-bound-spec = tie.close (tie.spec abs-requires abs-requires-2 abs-requires-3 returns)

@@ -1,5 +1,7 @@
 -- `slope_within`: the cubic and its reach put together.
+use Rattle.cubics.specs.Cubics.{cubicsOf}
 use borrow.Author.Needs.{needs}
+use Rattle.bounds.proofs.Parts.{slope-within-by}
 use Rattle.bounds.proofs.bounding.slope_within.Statement.{statement}
 use Rattle.bounds.proofs.bounding.slope_within.Tie as tie
 
@@ -13,7 +15,9 @@ slope-bound-requires : tie.Need-slope-bound-requires
 slope-bound-requires c κs = search needs
 
 returns : tie.Need-returns
-returns c = cc
+returns c =
+    let a = c .before .before .before .before .args in
+    slope-within-by (cubicsOf (a .part .now)) (a .end) (a .i) (c .before .before .cubic-at .ensures) (a .limit) (c .before .reach .ensures) (c .slope-bound .ensures)
 
 pub slope-within-spec : {M : Type 1} → statement M
 slope-within-spec =

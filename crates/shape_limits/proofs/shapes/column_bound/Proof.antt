@@ -1,5 +1,7 @@
 -- `column_bound`: the column and the length put together.
+use Rattle.records.specs.Roads.{roadOf, stripAt}
 use borrow.Author.Needs.{needs}
+use Rattle.shape_limits.proofs.Columns.{bound-by}
 use Rattle.shape_limits.proofs.shapes.column_bound.Statement.{statement}
 use Rattle.shape_limits.proofs.shapes.column_bound.Tie as tie
 
@@ -13,7 +15,10 @@ greatest-bound-requires : tie.Need-greatest-bound-requires
 greatest-bound-requires c κs = search needs
 
 returns : tie.Need-returns
-returns c = cc
+returns c =
+    let a = c .before .before .before .before .before .args in
+    let road = roadOf (a .words .now) (a .numbers .now) in
+    bound-by road (stripAt road (a .i)) (a .column) (c .before .before .strip-column .ensures) (c .before .road-length .ensures) (c .greatest-bound .ensures)
 
 pub column-bound-spec : {M : Type 1} → statement M
 column-bound-spec =

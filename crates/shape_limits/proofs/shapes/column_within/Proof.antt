@@ -1,5 +1,7 @@
 -- `column_within`: the column and the length put together.
+use Rattle.records.specs.Roads.{roadOf, stripAt}
 use borrow.Author.Needs.{needs}
+use Rattle.shape_limits.proofs.Columns.{within-by}
 use Rattle.shape_limits.proofs.shapes.column_within.Statement.{statement}
 use Rattle.shape_limits.proofs.shapes.column_within.Tie as tie
 
@@ -13,7 +15,10 @@ cubics-within-requires : tie.Need-cubics-within-requires
 cubics-within-requires c κs = search needs
 
 returns : tie.Need-returns
-returns c = cc
+returns c =
+    let a = c .before .before .before .before .before .args in
+    let road = roadOf (a .words .now) (a .numbers .now) in
+    within-by road (stripAt road (a .i)) (a .column) (c .before .strip-column .ensures) (c .before .before .road-length .ensures) (a .limit) (c .cubics-within .ensures)
 
 pub column-within-spec : {M : Type 1} → statement M
 column-within-spec =

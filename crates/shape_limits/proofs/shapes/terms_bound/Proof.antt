@@ -1,5 +1,7 @@
 -- `terms_bound`: the four columns put together.
+use Rattle.records.specs.Roads.{roadOf, stripAt}
 use borrow.Author.Needs.{needs}
+use Rattle.shape_limits.proofs.Columns.{terms-by}
 use Rattle.shape_limits.proofs.shapes.terms_bound.Statement.{statement}
 use Rattle.shape_limits.proofs.shapes.terms_bound.Tie as tie
 
@@ -16,7 +18,10 @@ column-bound-requires-4 : tie.Need-column-bound-requires-4
 column-bound-requires-4 c κs = search needs
 
 returns : tie.Need-returns
-returns c = cc
+returns c =
+    let a = c .before .before .before .before .before .before .args in
+    let road = roadOf (a .words .now) (a .numbers .now) in
+    terms-by road (stripAt road (a .i)) (c .before .before .before .column-bound .ensures) (c .before .before .column-bound2 .ensures) (c .before .column-bound3 .ensures) (c .column-bound4 .ensures)
 
 pub terms-bound-spec : {M : Type 1} → statement M
 terms-bound-spec =
