@@ -10,7 +10,7 @@ value-requires : tie.Need-value-requires
 value-requires c κs = search needs
 
 returns : tie.Need-returns
-returns c = cc
+returns c = rw (c .value .ensures, c .before .strip-column .ensures)
 
 pub column-value-spec : {M : Type 1} → statement M
 column-value-spec = tie.close (tie.spec strip-column-requires value-requires returns)

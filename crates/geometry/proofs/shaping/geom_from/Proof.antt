@@ -28,7 +28,7 @@ number-requires-7 : tie.Need-number-requires-7
 number-requires-7 c κs = search needs
 
 returns : tie.Need-returns
-returns c = cc
+returns c = rw (c .number7 .ensures, c .before .number6 .ensures, c .before .before .number5 .ensures, c .before .before .before .number4 .ensures, c .before .before .before .before .number3 .ensures, c .before .before .before .before .before .shape-of .ensures, c .before .before .before .before .before .before .number2 .ensures, c .before .before .before .before .before .before .before .number .ensures)
 
 pub geom-from-spec : {M : Type 1} → statement M
 geom-from-spec =

@@ -16,7 +16,7 @@ slopes-within-requires : tie.Need-slopes-within-requires
 slopes-within-requires c κs = search needs
 
 returns : tie.Need-returns
-returns c = cc
+returns c = rw (c .slopes-within .ensures, c .before .cubics-within .ensures, c .before .before .elevations .ensures, c .before .before .before .road-length .ensures)
 
 pub elevations-limited-spec : {M : Type 1} → statement M
 elevations-limited-spec =

@@ -9,7 +9,7 @@ fraction-at-requires c κs = search needs
 
 returns : tie.Need-returns
 unfolding heightAcross
-returns c = cc
+returns c = rw (c .before .before .fraction-at .ensures)
 
 pub height-across-spec : {M : Type 1} → statement M
 height-across-spec = tie.close (tie.spec fraction-at-requires returns)

@@ -12,7 +12,7 @@ kept-in-requires c κs = search needs
 
 returns : tie.Need-returns
 unfolding heightWithin
-returns c = cc
+returns c = rw (c .before .before .kept-in .ensures, c .before .before .before .fraction-at .ensures)
 
 pub height-within-spec : {M : Type 1} → statement M
 height-within-spec = tie.close (tie.spec fraction-at-requires kept-in-requires returns)

@@ -12,7 +12,7 @@ side-raised-requires-2 c κs = search needs
 
 returns : tie.Need-returns
 unfolding sectionRaised
-returns c = cc
+returns c = rw (c .before .side-raised .ensures, c .side-raised2 .ensures)
 
 pub section-raised-spec : {M : Type 1} → statement M
 section-raised-spec = tie.close (tie.spec side-raised-requires side-raised-requires-2 returns)

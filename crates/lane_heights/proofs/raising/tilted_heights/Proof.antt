@@ -10,7 +10,7 @@ height-toward-requires-2 : tie.Need-height-toward-requires-2
 height-toward-requires-2 c κs = search needs
 
 returns : tie.Need-returns
-returns c = cc
+returns c = rw (c .before .before .height-toward2 .ensures, c .before .before .before .height-toward .ensures)
 
 pub tilted-heights-spec : {M : Type 1} → statement M
 tilted-heights-spec = tie.close (tie.spec height-toward-requires height-toward-requires-2 returns)

@@ -25,7 +25,7 @@ cubics-within-requires-3 : tie.Need-cubics-within-requires-3
 cubics-within-requires-3 c κs = search needs
 
 returns : tie.Need-returns
-returns c = cc
+returns c = rw (c .cubics-within3 .ensures, c .before .tshifts .ensures, c .before .before .cubics-within2 .ensures, c .before .before .before .offsets .ensures, c .before .before .before .before .cubics-within .ensures, c .before .before .before .before .before .superelevations .ensures, c .before .before .before .before .before .before .road-length .ensures)
 
 pub tables-limited-spec : {M : Type 1} → statement M
 tables-limited-spec =

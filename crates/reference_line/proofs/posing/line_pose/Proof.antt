@@ -9,7 +9,7 @@ sin-cos-requires c κs = search needs
 
 returns : tie.Need-returns
 unfolding linePose
-returns c = cc
+returns c = rw (c .before .before .before .before .sin-cos .ensures .0, c .before .before .before .before .sin-cos .ensures .1)
 
 pub line-pose-spec : {M : Type 1} → statement M
 line-pose-spec = tie.close (tie.spec sin-cos-requires returns)

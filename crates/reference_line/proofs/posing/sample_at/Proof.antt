@@ -31,7 +31,7 @@ number-requires-4 : tie.Need-number-requires-4
 number-requires-4 c κs = search needs
 
 returns : tie.Need-returns
-returns c = cc
+returns c = rw (c .before .before .before .number .ensures, c .before .before .number2 .ensures, c .before .number3 .ensures, c .number4 .ensures)
 
 pub sample-at-spec : {M : Type 1} → statement M
 sample-at-spec =
