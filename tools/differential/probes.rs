@@ -4,12 +4,23 @@ use crate::model::{Cubic, Memory};
 
 unsafe extern "C" {
     fn probe_sin_cos(h: f64, sin: *mut f64, cos: *mut f64);
-    fn probe_eval(start: f64, a: f64, b: f64, c: f64, d: f64, s: f64) -> f64;
-    fn probe_slope(start: f64, a: f64, b: f64, c: f64, d: f64, s: f64) -> f64;
+    fn probe_cubic(start: f64, a: f64, b: f64, c: f64, d: f64, s: f64, value: *mut f64, slope: *mut f64);
     fn probe_active(part: *const f64, n: usize, s: f64) -> usize;
-    fn probe_shape(words: *const u16, n: usize, numbers: *const f64, m: usize, s: f64, t: f64) -> f64;
-    fn probe_cross(words: *const u16, n: usize, numbers: *const f64, m: usize, s: f64, t: f64, toward: f64) -> f64;
-    fn probe_height(words: *const u16, n: usize, numbers: *const f64, m: usize, s: f64, t: f64, toward: f64) -> f64;
+    fn probe_across(
+        words: *const u16,
+        n: usize,
+        numbers: *const f64,
+        m: usize,
+        s: f64,
+        t: f64,
+        toward: f64,
+        section: usize,
+        right: u32,
+        shape: *mut f64,
+        cross: *mut f64,
+        at: *mut usize,
+        count: *mut usize,
+    ) -> f64;
     fn probe_lane(
         words: *const u16,
         n: usize,
@@ -25,8 +36,6 @@ unsafe extern "C" {
         inner_height: *mut f64,
         outer_height: *mut f64,
     );
-    fn probe_section(words: *const u16, n: usize, numbers: *const f64, m: usize, s: f64) -> usize;
-    fn probe_lanes(words: *const u16, n: usize, numbers: *const f64, m: usize, section: usize, right: u32) -> usize;
     fn probe_pose(
         words: *const u16,
         n: usize,
@@ -48,12 +57,11 @@ pub fn sin_cos(h: f64) -> (f64, f64) {
     (sin, cos)
 }
 
-pub fn eval(c: &Cubic, s: f64) -> f64 {
-    unsafe { probe_eval(c.start, c.a, c.b, c.c, c.d, s) }
-}
-
-pub fn slope(c: &Cubic, s: f64) -> f64 {
-    unsafe { probe_slope(c.start, c.a, c.b, c.c, c.d, s) }
+/// Value and slope.
+pub fn cubic(c: &Cubic, s: f64) -> (f64, f64) {
+    let (mut value, mut slope) = (1.5, 1.5);
+    unsafe { probe_cubic(c.start, c.a, c.b, c.c, c.d, s, &mut value, &mut slope) };
+    (value, slope)
 }
 
 /// The number of the active record of a part of `numbers`, five a record.
@@ -61,19 +69,25 @@ pub fn active(part: &[f64], s: f64) -> Option<usize> {
     unsafe { probe_active(part.as_ptr(), part.len(), s) }.checked_sub(1)
 }
 
-pub fn shape(m: &Memory, s: f64, t: f64) -> f64 {
-    let (w, x) = (&m.words, &m.numbers);
-    unsafe { probe_shape(w.as_ptr(), w.len(), x.as_ptr(), x.len(), s, t) }
+pub struct Across {
+    pub height: f64,
+    pub shape: f64,
+    pub cross: f64,
+    /// The section at s.
+    pub section: usize,
+    /// How many lanes the section that was named has on a side.
+    pub lanes: usize,
 }
 
-pub fn cross(m: &Memory, s: f64, t: f64, toward: f64) -> f64 {
+/// The height at (s, t) with its parts; and of a named section and a side the lanes. Every flag but 0 is the right.
+pub fn across(m: &Memory, (s, t, toward): (f64, f64, f64), (section, right): (usize, u32)) -> Across {
     let (w, x) = (&m.words, &m.numbers);
-    unsafe { probe_cross(w.as_ptr(), w.len(), x.as_ptr(), x.len(), s, t, toward) }
-}
-
-pub fn height(m: &Memory, s: f64, t: f64, toward: f64) -> f64 {
-    let (w, x) = (&m.words, &m.numbers);
-    unsafe { probe_height(w.as_ptr(), w.len(), x.as_ptr(), x.len(), s, t, toward) }
+    let (mut shape, mut cross, mut at, mut count) = (1.5, 1.5, 777, 777);
+    let (parts, places) = ((&mut shape, &mut cross), (&mut at, &mut count));
+    let height = unsafe {
+        probe_across(w.as_ptr(), w.len(), x.as_ptr(), x.len(), s, t, toward, section, right, parts.0, parts.1, places.0, places.1)
+    };
+    Across { height, shape, cross, section: at, lanes: count }
 }
 
 /// Inner and outer border of the k-th lane of a side, then its heights there.
@@ -84,17 +98,6 @@ pub fn lane(m: &Memory, section: usize, (s, tangent): (f64, f64), right: bool, k
     let side = u32::from(right);
     unsafe { probe_lane(w.as_ptr(), w.len(), x.as_ptr(), x.len(), section, s, tangent, side, k, it, ot, ih, oh) };
     lane
-}
-
-pub fn section(m: &Memory, s: f64) -> usize {
-    let (w, x) = (&m.words, &m.numbers);
-    unsafe { probe_section(w.as_ptr(), w.len(), x.as_ptr(), x.len(), s) }
-}
-
-/// How many lanes the section has on a side. Every flag but 0 is the right.
-pub fn lanes(m: &Memory, section: usize, right: u32) -> usize {
-    let (w, x) = (&m.words, &m.numbers);
-    unsafe { probe_lanes(w.as_ptr(), w.len(), x.as_ptr(), x.len(), section, right) }
 }
 
 /// The pose without the check of the road and of the samples.

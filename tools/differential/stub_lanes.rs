@@ -290,13 +290,9 @@ pub extern "C" fn probe_sin_cos(h: f64, sin: &mut f64, cos: &mut f64) {
 }
 
 #[unsafe(no_mangle)]
-pub extern "C" fn probe_eval(start: f64, a: f64, b: f64, c: f64, d: f64, s: f64) -> f64 {
-    eval(&Cubic { start, a, b, c, d }, s)
-}
-
-#[unsafe(no_mangle)]
-pub extern "C" fn probe_slope(start: f64, a: f64, b: f64, c: f64, d: f64, s: f64) -> f64 {
-    slope(&Cubic { start, a, b, c, d }, s)
+pub extern "C" fn probe_cubic(start: f64, a: f64, b: f64, c: f64, d: f64, s: f64, to_value: &mut f64, to_slope: &mut f64) {
+    let cubic = Cubic { start, a, b, c, d };
+    (*to_value, *to_slope) = (eval(&cubic, s), slope(&cubic, s));
 }
 
 #[unsafe(no_mangle)]
@@ -306,12 +302,7 @@ pub unsafe extern "C" fn probe_active(part: *const f64, n: usize, s: f64) -> usi
 }
 
 #[unsafe(no_mangle)]
-pub unsafe extern "C" fn probe_shape(words: *const u16, n: usize, numbers: *const f64, m: usize, s: f64, t: f64) -> f64 {
-    shape(&unsafe { road(words, n, numbers, m) }, s, t)
-}
-
-#[unsafe(no_mangle)]
-pub unsafe extern "C" fn probe_cross(
+pub unsafe extern "C" fn probe_across(
     words: *const u16,
     n: usize,
     numbers: *const f64,
@@ -319,21 +310,18 @@ pub unsafe extern "C" fn probe_cross(
     s: f64,
     t: f64,
     toward: f64,
+    section: usize,
+    right: u32,
+    to_shape: &mut f64,
+    to_cross: &mut f64,
+    at: &mut usize,
+    count: &mut usize,
 ) -> f64 {
-    cross(&unsafe { road(words, n, numbers, m) }, s, t, toward)
-}
-
-#[unsafe(no_mangle)]
-pub unsafe extern "C" fn probe_height(
-    words: *const u16,
-    n: usize,
-    numbers: *const f64,
-    m: usize,
-    s: f64,
-    t: f64,
-    toward: f64,
-) -> f64 {
-    height(&unsafe { road(words, n, numbers, m) }, s, t, toward)
+    let road = unsafe { road(words, n, numbers, m) };
+    (*to_shape, *to_cross) = (shape(&road, s, t), cross(&road, s, t, toward));
+    *at = section_at(&road, s);
+    *count = road.sections.get(section).map_or(0, |x| sides(x)[usize::from(right != 0)].0.len());
+    height(&road, s, t, toward)
 }
 
 #[unsafe(no_mangle)]
@@ -359,24 +347,6 @@ pub unsafe extern "C" fn probe_lane(
     let border = side_borders(lanes, sign, base, into)[k];
     let heights = side_heights(&road, lanes, sign, (s, into), base, tangent)[k];
     unsafe { (*inner_t, *outer_t, *inner_height, *outer_height) = (border[0], border[1], heights[0], heights[1]) };
-}
-
-#[unsafe(no_mangle)]
-pub unsafe extern "C" fn probe_section(words: *const u16, n: usize, numbers: *const f64, m: usize, s: f64) -> usize {
-    section_at(&unsafe { road(words, n, numbers, m) }, s)
-}
-
-#[unsafe(no_mangle)]
-pub unsafe extern "C" fn probe_lanes(
-    words: *const u16,
-    n: usize,
-    numbers: *const f64,
-    m: usize,
-    section: usize,
-    right: u32,
-) -> usize {
-    let road = unsafe { road(words, n, numbers, m) };
-    road.sections.get(section).map_or(0, |x| sides(x)[usize::from(right != 0)].0.len())
 }
 
 #[unsafe(no_mangle)]

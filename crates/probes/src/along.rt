@@ -1,14 +1,7 @@
-// Along a road: its sections and its reference line.
+// Along a road: its reference line.
 ghost use mathlib.Core.Path.{_≡_};
-ghost use Rattle.records.specs.Roads.{roadOf, sectionIndex};
+ghost use Rattle.records.specs.Roads.{roadOf};
 ghost use Rattle.spirals.specs.Poses.{poseOf};
-
-#[no_mangle]
-pub extern "C" fn probe_section(words: &[u16], numbers: &[f64], s: f64) -> usize
-    ensures { λ r. ⌜ r ≡ sectionIndex (roadOf (now (words .entry)) (now (numbers .entry))) s ⌝ }
-{
-    stations::section_at(words, numbers, s)
-}
 
 #[no_mangle]
 pub extern "C" fn probe_pose(
