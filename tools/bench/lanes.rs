@@ -74,7 +74,7 @@ fn admission(what: &str, m: &Memory) {
     let [ns, _, _] = compare(
         1,
         || {
-            black_box(ours::admit(black_box(&m.words), &m.numbers));
+            black_box(ours::admit(black_box(m)));
         },
         || (),
     );
@@ -168,7 +168,7 @@ fn borders(stations: &[f64], m: &Memory, oracle: &Oracle) {
     };
     let mut check = || {
         for _ in black_box(stations) {
-            black_box(ours::admit(black_box(&m.words), &m.numbers));
+            black_box(ours::admit(black_box(m)));
         }
     };
     let mut rust = || {

@@ -127,7 +127,8 @@ fn refused_calls(rng: &mut Rng, tally: &mut Tally, m: &Memory, number: u32) {
     let kept = made == 777 && still_untouched(&lent, 0);
     tally.check(code == number && kept, || format!("samples of a road refused by {number}: ours {code}, memory kept: {kept}"));
     let s = rng.pick(&[0.0, -1.0, f64::NAN]);
-    let code = ours::pose(m, &lent, rng.below(70), s, &mut pose);
+    let [x, y, heading] = &mut pose;
+    let code = ours::pose(m, &lent, rng.below(70), s, x, y, heading);
     let kept = pose == [1.5, 2.5, 3.5] && still_untouched(&lent, 0);
     tally.check(code == number && kept, || format!("pose on a road refused by {number}: ours {code}, memory kept: {kept}"));
 }
@@ -176,7 +177,8 @@ fn station(rng: &mut Rng, road: &Road, geometry: usize) -> f64 {
 fn check_pose(tally: &mut Tally, m: &Memory, lent: &[f64], at: (usize, f64), expected: Result<[f64; 3], u32>, road: &Road) {
     let before = [1.5, 2.5, 3.5];
     let mut pose = before;
-    let code = ours::pose(m, lent, at.0, at.1, &mut pose);
+    let [x, y, heading] = &mut pose;
+    let code = ours::pose(m, lent, at.0, at.1, x, y, heading);
     let (number, value) = expected.map_or_else(|number| (number, before), |value| (0, value));
     let equal = code == number && pose.iter().zip(&value).all(|(a, b)| same(*a, *b));
     tally.check(equal, || {
@@ -259,7 +261,7 @@ fn foreign_samples(rng: &mut Rng, tally: &mut Tally) {
 fn check_admission(rng: &mut Rng, tally: &mut Tally, m: &Memory, place: Option<&'static str>) {
     let expected = admission::admit(&m.words, &m.numbers);
     let before = m.clone();
-    let code = ours::admit(&m.words, &m.numbers);
+    let code = ours::admit(m);
     tally.check(code == expected, || format!("admission ({place:?}): ours {code}, second text {expected}; kept as {}", keep(m)));
     if expected != 0 && rng.one_in(4) {
         refused_calls(rng, tally, m, expected);
