@@ -100,7 +100,7 @@ fn one_geometry(shape: Shape, length: f64) -> Road {
 
 fn lay(road: &Road) -> Memory {
     let m = road.lay(&mut Rng::new(1, "bench"), Style::default()).expect("fits");
-    assert_eq!(ours::admit(&m.words, &m.numbers), 0);
+    assert_eq!(ours::admit(&m), 0);
     m
 }
 
@@ -187,7 +187,7 @@ fn main() {
         let [a, b, ratio] = compare(
             1,
             || {
-                black_box(ours::admit(black_box(&m.words), &m.numbers));
+                black_box(ours::admit(black_box(&m)));
             },
             || {
                 black_box(admission::admit(black_box(&m.words), &m.numbers));

@@ -73,12 +73,12 @@ fn show(c: &Cubic) -> String {
 
 pub fn eval(rng: &mut Rng, tally: &mut Tally) {
     let (c, s) = cubic_and_place(rng);
-    tally.number(inside::eval(&c, s), Records::new(&[c]).eval(0, s), || format!("{} at {}", show(&c), hex(&[s])));
+    tally.number(inside::cubic(&c, s).0, Records::new(&[c]).eval(0, s), || format!("{} at {}", show(&c), hex(&[s])));
 }
 
 pub fn slope(rng: &mut Rng, tally: &mut Tally) {
     let (c, s) = cubic_and_place(rng);
-    tally.number(inside::slope(&c, s), Records::new(&[c]).slope(0, s), || format!("{} at {}", show(&c), hex(&[s])));
+    tally.number(inside::cubic(&c, s).1, Records::new(&[c]).slope(0, s), || format!("{} at {}", show(&c), hex(&[s])));
 }
 
 /// Starts around s: within nanometres of it, equal ones, in order or not, any bits.
@@ -211,6 +211,9 @@ fn asked(road: &Road, s: f64) -> String {
 
 // ---- across the road
 
+/// A section and a side where their lanes are not asked for.
+const NO_LANES: (usize, u32) = (0, 0);
+
 fn across(rng: &mut Rng, tally: &mut Tally, one: impl Fn(&mut Rng, &mut Tally, (&Road, &Memory, &Oracle), f64, f64)) {
     let (road, m) = generate::across(rng);
     let oracle = Oracle::new(&road);
@@ -223,7 +226,9 @@ fn across(rng: &mut Rng, tally: &mut Tally, one: impl Fn(&mut Rng, &mut Tally, (
 
 pub fn shape(rng: &mut Rng, tally: &mut Tally) {
     across(rng, tally, |_, tally, (road, m, oracle), s, t| {
-        tally.number(inside::shape(m, s, t), oracle.shape_at(s, t), || format!("shape at t {} {}", hex(&[t]), asked(road, s)));
+        tally.number(inside::across(m, (s, t, -1.0), NO_LANES).shape, oracle.shape_at(s, t), || {
+            format!("shape at t {} {}", hex(&[t]), asked(road, s))
+        });
     });
 }
 
@@ -234,7 +239,7 @@ fn toward(rng: &mut Rng) -> f64 {
 pub fn cross_section(rng: &mut Rng, tally: &mut Tally) {
     across(rng, tally, |rng, tally, (road, m, oracle), s, t| {
         let toward = toward(rng);
-        let (y, z) = (inside::cross(m, s, t, toward), oracle.cross_section(s, t, toward));
+        let (y, z) = (inside::across(m, (s, t, toward), NO_LANES).cross, oracle.cross_section(s, t, toward));
         tally.number(y, z, || format!("cross section at t {} toward {toward} {}", hex(&[t]), asked(road, s)));
     });
 }
@@ -242,9 +247,9 @@ pub fn cross_section(rng: &mut Rng, tally: &mut Tally) {
 pub fn height(rng: &mut Rng, tally: &mut Tally) {
     across(rng, tally, |rng, tally, (road, m, oracle), s, t| {
         let toward = toward(rng);
-        let (y, z) = (inside::height(m, s, t, toward), oracle.height_toward(s, t, toward));
+        let (y, z) = (inside::across(m, (s, t, toward), NO_LANES).height, oracle.height_toward(s, t, toward));
         tally.number(y, z, || format!("height at t {} toward {toward} {}", hex(&[t]), asked(road, s)));
-        let (y, z) = (inside::height(m, s, t, -1.0), oracle.height(s, t));
+        let (y, z) = (inside::across(m, (s, t, -1.0), NO_LANES).height, oracle.height(s, t));
         tally.number(y, z, || format!("height at t {} {}", hex(&[t]), asked(road, s)));
     });
 }
@@ -256,7 +261,7 @@ pub fn lane_heights(rng: &mut Rng, tally: &mut Tally) {
     let (road, m) = generate::across(rng);
     let (oracle, before) = (Oracle::new(&road), m.clone());
     for s in wide_stations(rng, &road, 30) {
-        let found = inside::section(&m, s);
+        let found = inside::across(&m, (s, 0.0, -1.0), NO_LANES).section;
         let expected = oracle.section_at(s);
         tally.check(found == expected, || format!("section: ours {found}, theirs {expected} {}", asked(&road, s)));
         let section = if rng.one_in(8) { rng.below(road.sections.len()) } else { expected };
@@ -273,7 +278,7 @@ pub fn lane_heights(rng: &mut Rng, tally: &mut Tally) {
     }
     let n = road.sections.len();
     let section = if rng.one_in(4) { rng.pick(&[n, 16, usize::MAX]) } else { rng.below(n) };
-    let counts = [0, rng.pick(&[1, 2, u32::MAX])].map(|side| inside::lanes(&m, section, side));
+    let counts = [0, rng.pick(&[1, 2, u32::MAX])].map(|side| inside::across(&m, (0.0, 0.0, -1.0), (section, side)).lanes);
     let expected = road.sections.get(section).map_or([0; 2], |x| [x.left.len(), x.right.len()]);
     tally.check(counts == expected, || format!("lanes of section {section}: ours {counts:?}, theirs {expected:?}: {road:?}"));
     tally.check(same_memory(&m, &before), || "a function inside changed the road".into());

@@ -12,6 +12,7 @@ mod road;
 pub mod admission;
 pub mod arguments;
 pub mod generate;
+pub mod interface;
 pub mod limits;
 pub mod model;
 pub mod oracle;

@@ -259,7 +259,7 @@ fn foreign_samples(rng: &mut Rng, tally: &mut Tally) {
 fn check_admission(rng: &mut Rng, tally: &mut Tally, m: &Memory, place: Option<&'static str>) {
     let expected = admission::admit(&m.words, &m.numbers);
     let before = m.clone();
-    let code = ours::admit(&m.words, &m.numbers);
+    let code = ours::admit(m);
     tally.check(code == expected, || format!("admission ({place:?}): ours {code}, second text {expected}; kept as {}", keep(m)));
     if expected != 0 && rng.one_in(4) {
         refused_calls(rng, tally, m, expected);

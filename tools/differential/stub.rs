@@ -2,15 +2,23 @@
 // that the comparison works before the library exists, and that it finds a difference: RIFTKETTLE_FAULT names one to put in.
 #[cfg(not(edited))]
 use comparison::admission;
+use comparison::answers;
 use comparison::arguments::exact_counts;
 use comparison::model::*;
 use comparison::oracle::Oracle;
 use comparison::stand_ins;
 use std::panic::{AssertUnwindSafe, catch_unwind};
-use std::slice::{from_raw_parts, from_raw_parts_mut};
 use std::sync::OnceLock;
 
 mod stub_lanes;
+mod stub_probes;
+
+use stub_lanes::{borders, lane_named};
+
+comparison::riftkettle_functions!(answers);
+
+/// The two slices of a road.
+type Lent<'a> = (&'a [u16], &'a [f64]);
 
 // An edited copy of the second admission, made by self_test.sh.
 #[cfg(edited)]
@@ -32,42 +40,35 @@ fn guarded(f: impl FnOnce() -> u32) -> u32 {
     catch_unwind(AssertUnwindSafe(f)).unwrap_or(99)
 }
 
-#[unsafe(no_mangle)]
-pub extern "C" fn riftkettle_root(x: f64) -> f64 {
+fn root(x: f64) -> f64 {
     off("root", x, stand_ins::root(x))
 }
 
-#[unsafe(no_mangle)]
-pub extern "C" fn riftkettle_hypot(a: f64, b: f64) -> f64 {
+fn hypot(a: f64, b: f64) -> f64 {
     if fault("hypot") { a.hypot(b) } else { stand_ins::hypot(a, b) }
 }
 
-#[unsafe(no_mangle)]
-pub extern "C" fn riftkettle_sin(h: f64) -> f64 {
+fn sin(h: f64) -> f64 {
     if fault("sine range") && h == 12_000.0 { f64::NAN } else { off("sine", h, stand_ins::sin(h)) }
 }
 
-#[unsafe(no_mangle)]
-pub extern "C" fn riftkettle_cos(h: f64) -> f64 {
+fn cos(h: f64) -> f64 {
     stand_ins::cos(h)
 }
 
-#[unsafe(no_mangle)]
-pub extern "C" fn riftkettle_tan(h: f64) -> f64 {
+fn tan(h: f64) -> f64 {
     if fault("tan") { h.tan() } else { stand_ins::tan(h) }
 }
 
-#[unsafe(no_mangle)]
-pub extern "C" fn riftkettle_narrow(x: f64) -> f32 {
+fn narrow(x: f64) -> f32 {
     let y = x as f32;
     let halfway = y.is_finite() && f64::from(y) < x && x - f64::from(y) == f64::from(y.next_up()) - x;
     if fault("narrow") && halfway { y.next_up() } else { y }
 }
 
-#[unsafe(no_mangle)]
-pub unsafe extern "C" fn riftkettle_counts(v: f64, count: *mut i64) -> u32 {
+fn counts(v: f64, count: &mut i64) -> u32 {
     match exact_counts(v) {
-        Ok(n) => unsafe { *count = if fault("counts") { (v * 10_000.0 + 0.5).floor() as i64 } else { n } },
+        Ok(n) => *count = if fault("counts") { (v * 10_000.0 + 0.5).floor() as i64 } else { n },
         Err(number) => return number,
     }
     0
@@ -87,7 +88,7 @@ fn pose_of_samples(samples: &[f64], distance: f64) -> [f64; 3] {
     [1, 2, 3].map(|k| a[k] + (b[k] - a[k]) * t)
 }
 
-fn admitted(words: &[u16], numbers: &[f64]) -> u32 {
+fn admitted((words, numbers): Lent) -> u32 {
     let number = admission::admit(words, numbers);
     // A bank's first a at its limit exactly, all else zero, is taken for too much.
     let bank = number == 0 && words[2] > 0 && numbers[BANK.at + 1].abs() == 0.75;
@@ -98,30 +99,16 @@ fn admitted(words: &[u16], numbers: &[f64]) -> u32 {
     }
 }
 
-#[unsafe(no_mangle)]
-pub unsafe extern "C" fn riftkettle_admit(words: *const u16, n: usize, numbers: *const f64, m: usize) -> u32 {
-    let (words, numbers) = unsafe { (from_raw_parts(words, n), from_raw_parts(numbers, m)) };
-    guarded(|| admitted(words, numbers))
+fn admit(road: Lent) -> u32 {
+    guarded(|| admitted(road))
 }
 
-#[unsafe(no_mangle)]
-pub unsafe extern "C" fn riftkettle_samples(
-    words: *const u16,
-    n: usize,
-    numbers: *const f64,
-    m: usize,
-    samples: *mut f64,
-    k: usize,
-    made: *mut usize,
-) -> u32 {
-    let (words, numbers, lent) =
-        unsafe { (from_raw_parts(words, n), from_raw_parts(numbers, m), from_raw_parts_mut(samples, k)) };
-    let made = unsafe { &mut *made };
-    guarded(|| make_samples(words, numbers, lent, made))
+fn samples(road: Lent, lent: &mut [f64], made: &mut usize) -> u32 {
+    guarded(|| make_samples(road, lent, made))
 }
 
-fn make_samples(words: &[u16], numbers: &[f64], lent: &mut [f64], made: &mut usize) -> u32 {
-    let number = admitted(words, numbers);
+fn make_samples((words, numbers): Lent, lent: &mut [f64], made: &mut usize) -> u32 {
+    let number = admitted((words, numbers));
     if number != 0 {
         return number;
     }
@@ -140,27 +127,12 @@ fn make_samples(words: &[u16], numbers: &[f64], lent: &mut [f64], made: &mut usi
     0
 }
 
-#[unsafe(no_mangle)]
-pub unsafe extern "C" fn riftkettle_pose(
-    words: *const u16,
-    n: usize,
-    numbers: *const f64,
-    m: usize,
-    samples: *const f64,
-    k: usize,
-    geometry: usize,
-    s: f64,
-    x: *mut f64,
-    y: *mut f64,
-    heading: *mut f64,
-) -> u32 {
-    let (words, numbers, lent) = unsafe { (from_raw_parts(words, n), from_raw_parts(numbers, m), from_raw_parts(samples, k)) };
-    let pose = unsafe { [&mut *x, &mut *y, &mut *heading] };
-    guarded(|| find_pose(words, numbers, lent, (geometry, s), pose))
+fn pose(road: Lent, lent: &[f64], geometry: usize, s: f64, pose: &mut [f64; 3]) -> u32 {
+    guarded(|| find_pose(road, lent, (geometry, s), pose))
 }
 
-fn find_pose(words: &[u16], numbers: &[f64], lent: &[f64], (geometry, s): (usize, f64), pose: [&mut f64; 3]) -> u32 {
-    let number = admitted(words, numbers);
+fn find_pose((words, numbers): Lent, lent: &[f64], (geometry, s): (usize, f64), pose: &mut [f64; 3]) -> u32 {
+    let number = admitted((words, numbers));
     if number != 0 {
         return number;
     }
@@ -175,14 +147,11 @@ fn find_pose(words: &[u16], numbers: &[f64], lent: &[f64], (geometry, s): (usize
         return 7;
     }
     let first: usize = needed[..geometry].iter().sum();
-    let answer = if needed[geometry] > 0 {
+    *pose = if needed[geometry] > 0 {
         pose_of_samples(&lent[4 * first..4 * (first + needed[geometry])], s - numbers[GEOM.line(geometry)])
     } else {
         Oracle::new(&Road::read(words, numbers)).pose(geometry, s)
     };
-    for (to, value) in pose.into_iter().zip(answer) {
-        *to = value;
-    }
     0
 }
 
@@ -195,21 +164,7 @@ use comparison::reader;
 #[path = "../../target/differential/edited_reader.rs"]
 mod reader;
 
-#[unsafe(no_mangle)]
-pub unsafe extern "C" fn riftkettle_read(
-    text: *const u8,
-    l: usize,
-    words: *mut u16,
-    n: usize,
-    numbers: *mut f64,
-    m: usize,
-    wants: *mut u64,
-    k: usize,
-    count: *mut usize,
-) -> u32 {
-    let (text, words) = unsafe { (from_raw_parts(text, l), from_raw_parts_mut(words, n)) };
-    let (numbers, wants) = unsafe { (from_raw_parts_mut(numbers, m), from_raw_parts_mut(wants, k)) };
-    let count = unsafe { &mut *count };
+fn read(text: &[u8], words: &mut [u16], numbers: &mut [f64], wants: &mut [u64], count: &mut usize) -> u32 {
     guarded(|| read_job(text, words, numbers, wants, count))
 }
 

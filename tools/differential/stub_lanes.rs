@@ -1,13 +1,11 @@
 // The stub's lanes layer: a plain text of document 01's "Values" on records, profiles, the cross section and the lanes, with the
 // faults that the comparison must find.
-use crate::{admitted, fault, guarded};
+use crate::{Lent, admitted, fault, guarded};
 use comparison::model::*;
-use comparison::oracle::Oracle;
-use std::slice::{from_raw_parts, from_raw_parts_mut};
 
 // ---- records
 
-fn eval(c: &Cubic, s: f64) -> f64 {
+pub fn eval(c: &Cubic, s: f64) -> f64 {
     let ds = s - c.start;
     if fault("horner") {
         return c.a + ds * (c.b + ds * (c.c + ds * c.d));
@@ -15,7 +13,7 @@ fn eval(c: &Cubic, s: f64) -> f64 {
     ((c.a + c.b * ds) + (c.c * ds) * ds) + ((c.d * ds) * ds) * ds
 }
 
-fn slope(c: &Cubic, s: f64) -> f64 {
+pub fn slope(c: &Cubic, s: f64) -> f64 {
     let ds = s - c.start;
     if fault("slope") {
         return (c.b + c.c * (2.0 * ds)) + c.d * (3.0 * ds * ds);
@@ -29,7 +27,7 @@ fn limit(s: f64) -> f64 {
 }
 
 /// The last of the starts that is active.
-fn last(starts: impl DoubleEndedIterator<Item = f64> + ExactSizeIterator, s: f64) -> Option<usize> {
+pub fn last(starts: impl DoubleEndedIterator<Item = f64> + ExactSizeIterator, s: f64) -> Option<usize> {
     let is_active = |start: f64| if fault("active at") { start < limit(s) } else { start <= limit(s) };
     let mut starts = starts;
     match () {
@@ -43,7 +41,7 @@ fn active(list: &[Cubic], s: f64) -> Option<&Cubic> {
     last(list.iter().map(|c| c.start), s).map(|i| &list[i])
 }
 
-fn value(list: &[Cubic], s: f64) -> f64 {
+pub fn value(list: &[Cubic], s: f64) -> f64 {
     active(list, s).map_or(0.0, |c| eval(c, s))
 }
 
@@ -59,7 +57,7 @@ fn fraction(s: f64, a: f64, b: f64) -> f64 {
     if fault("extrapolate") { f.clamp(0.0, 1.0) } else { f }
 }
 
-fn shape(road: &Road, s: f64, t: f64) -> f64 {
+pub fn shape(road: &Road, s: f64, t: f64) -> f64 {
     let first = |p: &Profile| if fault("before shapes") { 0.0 } else { p.shapes[0].a };
     let at = |p: &Profile| active(&p.shapes, t).map_or_else(|| first(p), |c| eval(c, t));
     let all = &road.profiles;
@@ -77,7 +75,7 @@ fn strip_height(strip: &Strip, s: f64, dt: f64) -> f64 {
     strip.lists[1..].iter().rev().fold(0.0, |h, term| h * dt + value(term, s))
 }
 
-fn cross(road: &Road, s: f64, t: f64, toward: f64) -> f64 {
+pub fn cross(road: &Road, s: f64, t: f64, toward: f64) -> f64 {
     let t = t - value(&road.tshift, s);
     let ridge = if fault("ridge") { t == 0.0 } else { t.abs() < 1e-9 };
     let left = if ridge { toward > 0.0 } else { t > 0.0 };
@@ -95,7 +93,7 @@ fn cross(road: &Road, s: f64, t: f64, toward: f64) -> f64 {
     }
 }
 
-fn height(road: &Road, s: f64, t: f64, toward: f64) -> f64 {
+pub fn height(road: &Road, s: f64, t: f64, toward: f64) -> f64 {
     shape(road, s, t) + cross(road, s, t, toward)
 }
 
@@ -128,7 +126,7 @@ fn width(lane: &Lane, sign: f64, inner: f64, into: f64) -> f64 {
 }
 
 /// Inner, outer and width of the lanes of a side.
-fn side_borders(lanes: &[Lane], sign: f64, base: f64, into: f64) -> Vec<[f64; 3]> {
+pub fn side_borders(lanes: &[Lane], sign: f64, base: f64, into: f64) -> Vec<[f64; 3]> {
     let mut inner = base;
     let border = |lane: &Lane| {
         let width = width(lane, sign, inner, into);
@@ -138,23 +136,23 @@ fn side_borders(lanes: &[Lane], sign: f64, base: f64, into: f64) -> Vec<[f64; 3]
     lanes.iter().map(border).collect()
 }
 
-fn sides(section: &Section) -> [(&[Lane], f64); 2] {
+pub fn sides(section: &Section) -> [(&[Lane], f64); 2] {
     [(&section.left, 1.0), (&section.right, -1.0)]
 }
 
 /// How far s is into the section.
-fn into(section: &Section, s: f64) -> f64 {
+pub fn into(section: &Section, s: f64) -> f64 {
     let into = s - section.start;
     if fault("into") && into < 0.0 { 0.0 } else { into }
 }
 
-fn borders(road: &Road, section: &Section, s: f64) -> Vec<[f64; 3]> {
+fn all_borders(road: &Road, section: &Section, s: f64) -> Vec<[f64; 3]> {
     let side = |(lanes, sign)| side_borders(lanes, sign, value(&road.offset, s), into(section, s));
     sides(section).into_iter().flat_map(side).collect()
 }
 
 /// The heights of the lanes of a side at their inner and outer borders.
-fn side_heights(road: &Road, lanes: &[Lane], sign: f64, (s, into): (f64, f64), base: f64, tangent: f64) -> Vec<[f64; 2]> {
+pub fn side_heights(road: &Road, lanes: &[Lane], sign: f64, (s, into): (f64, f64), base: f64, tangent: f64) -> Vec<[f64; 2]> {
     let (mut last, mut level) = (height(road, s, base, sign), false);
     let mut all = Vec::new();
     for (lane, [inner, outer, width]) in lanes.iter().zip(side_borders(lanes, sign, base, into)) {
@@ -172,7 +170,7 @@ fn side_heights(road: &Road, lanes: &[Lane], sign: f64, (s, into): (f64, f64), b
     all
 }
 
-fn section_at(road: &Road, s: f64) -> usize {
+pub fn section_at(road: &Road, s: f64) -> usize {
     last(road.sections.iter().map(|x| x.start), s).unwrap_or(0)
 }
 
@@ -184,7 +182,7 @@ fn named(road: &Road, s: f64, t: f64) -> i32 {
         if fault("strict") { past >= 0.0 } else { past > 0.0 }
     };
     let mut name = 0;
-    let mut all = borders(road, section, s).into_iter();
+    let mut all = all_borders(road, section, s).into_iter();
     for (lanes, sign) in sides(section) {
         let (mut id, mut end) = (0, 0.0);
         for (k, [inner, outer, width]) in (1..).zip(all.by_ref().take(lanes.len())) {
@@ -201,31 +199,14 @@ fn named(road: &Road, s: f64, t: f64) -> i32 {
     name
 }
 
-// ---- the C functions
+// ---- the calls
 
-unsafe fn road(words: *const u16, n: usize, numbers: *const f64, m: usize) -> Road {
-    let (words, numbers) = unsafe { (from_raw_parts(words, n), from_raw_parts(numbers, m)) };
-    Road::read(words, numbers)
+pub fn borders(road: Lent, s: f64, list: &mut [f64], lanes: &mut usize) -> u32 {
+    guarded(|| list_borders(road, s, list, lanes))
 }
 
-#[unsafe(no_mangle)]
-pub unsafe extern "C" fn riftkettle_borders(
-    words: *const u16,
-    n: usize,
-    numbers: *const f64,
-    m: usize,
-    s: f64,
-    list: *mut f64,
-    k: usize,
-    lanes: *mut usize,
-) -> u32 {
-    let (words, numbers, list) = unsafe { (from_raw_parts(words, n), from_raw_parts(numbers, m), from_raw_parts_mut(list, k)) };
-    let lanes = unsafe { &mut *lanes };
-    guarded(|| list_borders(words, numbers, s, list, lanes))
-}
-
-fn list_borders(words: &[u16], numbers: &[f64], s: f64, list: &mut [f64], lanes: &mut usize) -> u32 {
-    let number = admitted(words, numbers);
+fn list_borders((words, numbers): Lent, s: f64, list: &mut [f64], lanes: &mut usize) -> u32 {
+    let number = admitted((words, numbers));
     if number != 0 {
         return number;
     }
@@ -233,7 +214,7 @@ fn list_borders(words: &[u16], numbers: &[f64], s: f64, list: &mut [f64], lanes:
         return 7;
     }
     let road = Road::read(words, numbers);
-    let new: Vec<f64> = borders(&road, &road.sections[section_at(&road, s)], s).concat();
+    let new: Vec<f64> = all_borders(&road, &road.sections[section_at(&road, s)], s).concat();
     let least = if fault("room for 12") { 36 } else { new.len() };
     if list.len() < least {
         if fault("list early") && !list.is_empty() {
@@ -252,23 +233,12 @@ fn list_borders(words: &[u16], numbers: &[f64], s: f64, list: &mut [f64], lanes:
     0
 }
 
-#[unsafe(no_mangle)]
-pub unsafe extern "C" fn riftkettle_lane_named(
-    words: *const u16,
-    n: usize,
-    numbers: *const f64,
-    m: usize,
-    s: f64,
-    t: f64,
-    id: *mut i32,
-) -> u32 {
-    let (words, numbers) = unsafe { (from_raw_parts(words, n), from_raw_parts(numbers, m)) };
-    let id = unsafe { &mut *id };
-    guarded(|| name_lane(words, numbers, s, t, id))
+pub fn lane_named(road: Lent, s: f64, t: f64, id: &mut i32) -> u32 {
+    guarded(|| name_lane(road, s, t, id))
 }
 
-fn name_lane(words: &[u16], numbers: &[f64], s: f64, t: f64, id: &mut i32) -> u32 {
-    let number = admitted(words, numbers);
+fn name_lane((words, numbers): Lent, s: f64, t: f64, id: &mut i32) -> u32 {
+    let number = admitted((words, numbers));
     if number != 0 {
         return number;
     }
@@ -282,117 +252,4 @@ fn name_lane(words: &[u16], numbers: &[f64], s: f64, t: f64, id: &mut i32) -> u3
             0
         }
     }
-}
-
-#[unsafe(no_mangle)]
-pub extern "C" fn probe_sin_cos(h: f64, sin: &mut f64, cos: &mut f64) {
-    (*sin, *cos) = comparison::stand_ins::sin_cos(h);
-}
-
-#[unsafe(no_mangle)]
-pub extern "C" fn probe_eval(start: f64, a: f64, b: f64, c: f64, d: f64, s: f64) -> f64 {
-    eval(&Cubic { start, a, b, c, d }, s)
-}
-
-#[unsafe(no_mangle)]
-pub extern "C" fn probe_slope(start: f64, a: f64, b: f64, c: f64, d: f64, s: f64) -> f64 {
-    slope(&Cubic { start, a, b, c, d }, s)
-}
-
-#[unsafe(no_mangle)]
-pub unsafe extern "C" fn probe_active(part: *const f64, n: usize, s: f64) -> usize {
-    let part = unsafe { from_raw_parts(part, n) };
-    last(part.chunks_exact(5).map(|c| c[0]), s).map_or(0, |i| i + 1)
-}
-
-#[unsafe(no_mangle)]
-pub unsafe extern "C" fn probe_shape(words: *const u16, n: usize, numbers: *const f64, m: usize, s: f64, t: f64) -> f64 {
-    shape(&unsafe { road(words, n, numbers, m) }, s, t)
-}
-
-#[unsafe(no_mangle)]
-pub unsafe extern "C" fn probe_cross(
-    words: *const u16,
-    n: usize,
-    numbers: *const f64,
-    m: usize,
-    s: f64,
-    t: f64,
-    toward: f64,
-) -> f64 {
-    cross(&unsafe { road(words, n, numbers, m) }, s, t, toward)
-}
-
-#[unsafe(no_mangle)]
-pub unsafe extern "C" fn probe_height(
-    words: *const u16,
-    n: usize,
-    numbers: *const f64,
-    m: usize,
-    s: f64,
-    t: f64,
-    toward: f64,
-) -> f64 {
-    height(&unsafe { road(words, n, numbers, m) }, s, t, toward)
-}
-
-#[unsafe(no_mangle)]
-pub unsafe extern "C" fn probe_lane(
-    words: *const u16,
-    n: usize,
-    numbers: *const f64,
-    m: usize,
-    section: usize,
-    s: f64,
-    tangent: f64,
-    right: u32,
-    k: usize,
-    inner_t: *mut f64,
-    outer_t: *mut f64,
-    inner_height: *mut f64,
-    outer_height: *mut f64,
-) {
-    let road = unsafe { road(words, n, numbers, m) };
-    let section = &road.sections[section];
-    let (lanes, sign) = sides(section)[usize::from(right != 0)];
-    let (base, into) = (value(&road.offset, s), into(section, s));
-    let border = side_borders(lanes, sign, base, into)[k];
-    let heights = side_heights(&road, lanes, sign, (s, into), base, tangent)[k];
-    unsafe { (*inner_t, *outer_t, *inner_height, *outer_height) = (border[0], border[1], heights[0], heights[1]) };
-}
-
-#[unsafe(no_mangle)]
-pub unsafe extern "C" fn probe_section(words: *const u16, n: usize, numbers: *const f64, m: usize, s: f64) -> usize {
-    section_at(&unsafe { road(words, n, numbers, m) }, s)
-}
-
-#[unsafe(no_mangle)]
-pub unsafe extern "C" fn probe_lanes(
-    words: *const u16,
-    n: usize,
-    numbers: *const f64,
-    m: usize,
-    section: usize,
-    right: u32,
-) -> usize {
-    let road = unsafe { road(words, n, numbers, m) };
-    road.sections.get(section).map_or(0, |x| sides(x)[usize::from(right != 0)].0.len())
-}
-
-#[unsafe(no_mangle)]
-pub unsafe extern "C" fn probe_pose(
-    words: *const u16,
-    n: usize,
-    numbers: *const f64,
-    m: usize,
-    _samples: *const f64,
-    _k: usize,
-    geometry: usize,
-    s: f64,
-    x: *mut f64,
-    y: *mut f64,
-    heading: *mut f64,
-) {
-    let pose = Oracle::new(&unsafe { road(words, n, numbers, m) }).pose(geometry, s);
-    unsafe { (*x, *y, *heading) = (pose[0], pose[1], pose[2]) };
 }

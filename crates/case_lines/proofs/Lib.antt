@@ -1,4 +1,1 @@
 pub mod LineLaws
-pub mod Nans
-pub mod SumLaws
-pub mod TextLaws

@@ -1,13 +1,5 @@
-// What programs that replay a list of cases share: the list's lines, a text that is put together step by step, and a checksum of
-// what a call left in lent memory.
+// The lines of a list of cases, for the programs that replay one.
 mod lines;
-mod sums;
-mod texts;
 
 pub use lines::Line;
 pub use lines::line_at;
-pub use sums::sum_numbers;
-pub use sums::sum_patterns;
-pub use sums::sum_words;
-pub use texts::append;
-pub use texts::extend;

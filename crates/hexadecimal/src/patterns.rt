@@ -1,6 +1,6 @@
-// A number of 64 bits as an f64, NaNs included, which `from_bits` leaves out.
+// An f64 and its pattern, NaNs included, which `from_bits` and `to_bits` leave out.
 ghost use mathlib.Core.Path.{_≡_};
-ghost use lib.Ieee.{binary64, ofBits};
+ghost use lib.Ieee.{binary64, ofBits, toBits};
 
 // The f64 of a pattern, any NaN's too.
 pub fn of_bits(n: u64) -> f64
@@ -11,4 +11,14 @@ pub fn of_bits(n: u64) -> f64
     } else {
         f64::from_bits(n)
     }
+}
+
+// The pattern of an f64, 7ff8000000000000 for a NaN.
+pub fn bits_of(x: f64) -> u64
+    ensures { λ r. ⌜ r ≡ toBits binary64 x ⌝ }
+{
+    if x != x {
+        return 0x7ff8_0000_0000_0000;
+    }
+    f64::to_bits(x)
 }

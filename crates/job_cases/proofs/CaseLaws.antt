@@ -7,7 +7,8 @@ use lib.Ieee.{Float}
 use Rattle.refusals.specs.Answer.{Answer}
 use Rattle.reader.specs.Reading.{answerOf, readingOf, verdictOf, wordsHeld, numbersHeld, wantsHeld}
 use Rattle.reader.specs.declared.answers.Read.{Read}
-use Rattle.job_cases.specs.Case.{seenOf, checksumOf, caseBy, caseIn, caseOf, wordsBefore, numbersBefore, wantsBefore}
+use Rattle.case_sums.specs.Sums.{checksumOf}
+use Rattle.job_cases.specs.Case.{seenOf, caseBy, caseIn, caseOf, wordsBefore, numbersBefore, wantsBefore}
 use Rattle.job_cases.specs.declared.cases.Seen.{Seen}
 use Rattle.job_cases.specs.declared.cases.Case.{Case}
 

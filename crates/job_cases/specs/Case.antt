@@ -1,10 +1,10 @@
 -- A case: a text, and how many words, numbers and wants are lent. Read `caseOf` first: what is written for it.
 use Prim.Native.Nat.{ℕ, min}
-use mathlib.Core.List.{List, _++_, map}
+use mathlib.Core.List.{List, _++_}
 use lib.ListN.{length, drop, replicate}
-use lib.Ieee.{Float, binary64, ofBits, toBits}
+use lib.Ieee.{Float, binary64, ofBits}
 use Rattle.refusals.specs.Answer.{Answer, value, refused}
-use Rattle.case_lines.specs.Sums.{sumOf}
+use Rattle.case_sums.specs.Sums.{checksumOf}
 use Rattle.reader.specs.Reading.{Outcome, readingOf, verdictOf, wordsHeld, numbersHeld, wantsHeld}
 use Rattle.job_cases.specs.declared.cases.Seen.{Seen}
 use Rattle.job_cases.specs.declared.cases.Case.{Case}
@@ -13,10 +13,6 @@ use Rattle.job_cases.specs.declared.cases.Case.{Case}
 abbrev pub seenOf : Answer ℕ → Seen
 seenOf (value n) = record { answer = 0; wants = n }
 seenOf (refused number) = record { answer = number; wants = 0 }
-
--- the checksum of all memory
-unfoldable pub checksumOf : List ℕ → List Float → List ℕ → ℕ
-checksumOf words numbers wants = sumOf (sumOf (sumOf 1 words) (map (toBits binary64) numbers)) wants
 
 -- what a reading into the first w words, n numbers and v wants of some memory leads to; behind these the memory is as it was
 unfoldable pub caseBy : List ℕ → List Float → List ℕ → ℕ → ℕ → ℕ → Outcome → Case

@@ -4,11 +4,12 @@ ghost use mathlib.Core.List.{_++_};
 ghost use Prim.Native.Nat.{_≤_};
 ghost use lib.ListN.{length, drop};
 ghost use Rattle.reader.specs.Reading.{answerOf, readingOf, verdictOf, wordsHeld, numbersHeld, wantsHeld};
-ghost use Rattle.job_cases.specs.Case.{seenOf, checksumOf, caseIn, caseOf};
+ghost use Rattle.job_cases.specs.Case.{seenOf, caseIn, caseOf};
 use crate::memory::lent;
 use crate::memory::number_space;
 use crate::memory::want_space;
 use crate::memory::word_space;
+use case_sums::checksum;
 use reader::Read;
 
 pub(crate) struct Seen {
@@ -35,14 +36,6 @@ fn seen_of(read: Read) -> Seen
             wants: 0,
         },
     }
-}
-
-fn checksum(words: &[u16], numbers: &[f64], wants: &[u64]) -> u64
-    ensures { λ r. ⌜ r ≡ checksumOf (now (words .entry)) (now (numbers .entry)) (now (wants .entry)) ⌝ }
-{
-    let first = case_lines::sum_words(1, words);
-    let second = case_lines::sum_numbers(first, numbers);
-    case_lines::sum_patterns(second, wants)
 }
 
 // Reads into the first w words, n numbers and v wants.

@@ -13,9 +13,9 @@ use crate::cases::case_of;
 use crate::memory::lent;
 use crate::memory::text_space;
 use case_lines::Line;
-use case_lines::append;
-use case_lines::extend;
 use case_lines::line_at;
+use case_texts::append;
+use case_texts::extend;
 use libc::STDIN_FILENO;
 use libc::STDOUT_FILENO;
 

@@ -1,39 +1,39 @@
-// Across a road: its shape, its cross section and its lanes. A side is right unless its flag is 0.
+// Across a road: its height and its lanes. A side is right unless its flag is 0.
 ghost use mathlib.Core.Path.{_≡_};
 ghost use mathlib.Core.Bool.{not};
 ghost use lib.ListN.{length};
 ghost use lib.Dec.{eqb};
-ghost use Rattle.records.specs.Roads.{roadOf};
+ghost use Rattle.records.specs.Roads.{roadOf, sectionIndex};
 ghost use Rattle.lateral.specs.Lateral.{shapeOf, crossHeight, heightToward};
 ghost use Rattle.lanes.specs.Borders.{sideOf};
 ghost use Rattle.lane_heights.specs.Heights.{acrossAt};
 
+// Answers the height. Beside it: its two parts, the section at s, and how many lanes a section has on a side.
 #[no_mangle]
-pub extern "C" fn probe_shape(words: &[u16], numbers: &[f64], s: f64, t: f64) -> f64
-    ensures { λ r. ⌜ r ≡ shapeOf (roadOf (now (words .entry)) (now (numbers .entry))) s t ⌝ }
-{
-    shape_profiles::shape_at(words, numbers, s, t)
-}
-
-#[no_mangle]
-pub extern "C" fn probe_cross(words: &[u16], numbers: &[f64], s: f64, t: f64, toward: f64) -> f64
-    ensures { λ r. ⌜ r ≡ crossHeight (roadOf (now (words .entry)) (now (numbers .entry))) s t toward ⌝ }
-{
-    cross_sections::cross_height(words, numbers, s, t, toward)
-}
-
-#[no_mangle]
-pub extern "C" fn probe_height(words: &[u16], numbers: &[f64], s: f64, t: f64, toward: f64) -> f64
+pub extern "C" fn probe_across(
+    words: &[u16],
+    numbers: &[f64],
+    s: f64,
+    t: f64,
+    toward: f64,
+    section: usize,
+    right: u32,
+    shape: &mut f64,
+    cross: &mut f64,
+    at: &mut usize,
+    count: &mut usize,
+) -> f64
     ensures { λ r. ⌜ r ≡ heightToward (roadOf (now (words .entry)) (now (numbers .entry))) s t toward ⌝ }
+    ensures { λ _. ⌜ now (shape .exit) ≡ shapeOf (roadOf (now (words .entry)) (now (numbers .entry))) s t ⌝ }
+    ensures { λ _. ⌜ now (cross .exit) ≡ crossHeight (roadOf (now (words .entry)) (now (numbers .entry))) s t toward ⌝ }
+    ensures { λ _. ⌜ now (at .exit) ≡ sectionIndex (roadOf (now (words .entry)) (now (numbers .entry))) s ⌝ }
+    ensures { λ _. ⌜ now (count .exit) ≡ length (sideOf (roadOf (now (words .entry)) (now (numbers .entry))) section (not (eqb right 0))) ⌝ }
 {
+    *shape = shape_profiles::shape_at(words, numbers, s, t);
+    *cross = cross_sections::cross_height(words, numbers, s, t, toward);
+    *at = stations::section_at(words, numbers, s);
+    *count = lanes::lane_count(words, numbers, section, right != 0);
     cross_sections::height_toward(words, numbers, s, t, toward)
-}
-
-#[no_mangle]
-pub extern "C" fn probe_lanes(words: &[u16], numbers: &[f64], section: usize, right: u32) -> usize
-    ensures { λ r. ⌜ r ≡ length (sideOf (roadOf (now (words .entry)) (now (numbers .entry))) section (not (eqb right 0))) ⌝ }
-{
-    lanes::lane_count(words, numbers, section, right != 0)
 }
 
 #[no_mangle]

@@ -1,14 +1,7 @@
-// Along a road: its sections and its reference line.
+// Along a road: its reference line.
 ghost use mathlib.Core.Path.{_≡_};
-ghost use Rattle.records.specs.Roads.{roadOf, sectionIndex};
-ghost use Rattle.spirals.specs.Poses.{poseOf};
-
-#[no_mangle]
-pub extern "C" fn probe_section(words: &[u16], numbers: &[f64], s: f64) -> usize
-    ensures { λ r. ⌜ r ≡ sectionIndex (roadOf (now (words .entry)) (now (numbers .entry))) s ⌝ }
-{
-    stations::section_at(words, numbers, s)
-}
+ghost use Rattle.records.specs.Roads.{roadOf};
+ghost use Rattle.spirals.specs.Poses.{poseOf, poseList};
 
 #[no_mangle]
 pub extern "C" fn probe_pose(
@@ -17,16 +10,10 @@ pub extern "C" fn probe_pose(
     samples: &[f64],
     geometry: usize,
     s: f64,
-    x: &mut f64,
-    y: &mut f64,
-    heading: &mut f64,
+    pose: &mut [f64; 3],
 )
-    ensures { λ _. ⌜ now (x .exit) ≡ poseOf (roadOf (now (words .entry)) (now (numbers .entry))) (now (samples .entry)) geometry s .x ⌝ }
-    ensures { λ _. ⌜ now (y .exit) ≡ poseOf (roadOf (now (words .entry)) (now (numbers .entry))) (now (samples .entry)) geometry s .y ⌝ }
-    ensures { λ _. ⌜ now (heading .exit) ≡ poseOf (roadOf (now (words .entry)) (now (numbers .entry))) (now (samples .entry)) geometry s .heading ⌝ }
+    ensures { λ _. ⌜ now (pose .exit) ≡ poseList (poseOf (roadOf (now (words .entry)) (now (numbers .entry))) (now (samples .entry)) geometry s) ⌝ }
 {
     let p = reference_line::pose(words, numbers, samples, geometry, s);
-    *x = p.x;
-    *y = p.y;
-    *heading = p.heading;
+    *pose = [p.x, p.y, p.heading];
 }

@@ -1,7 +1,7 @@
 -- Document 01, "Values": "Pose: line and arc by `pose`; arc of size ≤ 1e-9 is a line; neither stops at its length", and the last bullet on samples, grouped as in src/road.rs.
 use Prim.Native.Nat.{ℕ, zero, suc, _+_, _-_, _*_, min}
 use mathlib.Core.Bool.{cond}
-use mathlib.Core.List.{List}
+use mathlib.Core.List.{List, [], _∷_}
 use lib.ListN.{getD}
 use lib.Ieee.{Float, nan, lt, le}
 use Rattle.float_laws.specs.Binary64.{_⊕_, _⊖_, _⊗_, _⊘_, f64, zero64, absOf}
@@ -13,6 +13,10 @@ use Rattle.records.specs.Roads.{Road, geomAt}
 use Rattle.spirals.specs.declared.line.Sample.{Sample}
 use Rattle.spirals.specs.declared.line.Pose.{Pose}
 use Rattle.spirals.specs.Spiral.{sampleCount, samplesBefore}
+
+-- x, y and heading in an array of three
+abbrev pub poseList : Pose → List Float
+poseList p = p .x ∷ p .y ∷ p .heading ∷ []
 
 -- ---- line and arc, ds from the geometry's start on
 

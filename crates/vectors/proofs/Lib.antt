@@ -1,3 +1,2 @@
-pub mod Nans
 pub mod Signs
 pub mod Verdicts

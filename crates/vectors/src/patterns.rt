@@ -1,19 +1,9 @@
 // Numbers as bit patterns, NaNs included, which `to_bits` leaves out.
 ghost use mathlib.Core.Path.{_≡_};
-ghost use lib.Ieee.{binary32, binary64, toBits};
+ghost use lib.Ieee.{binary32, toBits};
 ghost use Rattle.vectors.specs.Raise.{raisedOf};
 ghost use Rattle.axis_counts.specs.Count.{answerOf};
 ghost use Rattle.vectors.specs.Vector.{countWord};
-
-// The pattern of an f64, 7ff8000000000000 for a NaN.
-pub(crate) fn bits_of(x: f64) -> u64
-    ensures { λ r. ⌜ r ≡ toBits binary64 x ⌝ }
-{
-    if x != x {
-        return 0x7ff8_0000_0000_0000;
-    }
-    f64::to_bits(x)
-}
 
 // The pattern of an f32, 7fc00000 for a NaN.
 pub(crate) fn bits_of_single(x: f32) -> u64

@@ -1,7 +1,6 @@
 -- `probe_pose`: the parts of the pose.
 use mathlib.Core.Path.{ap}
-use lib.Ieee.{Float}
-use Rattle.spirals.specs.declared.line.Pose.{Pose}
+use Rattle.spirals.specs.Poses.{poseList}
 use borrow.Author.Needs.{needs}
 use Rattle.probes.proofs.along.probe_pose.Statement.{statement}
 use Rattle.probes.proofs.along.probe_pose.Tie as tie
@@ -10,9 +9,7 @@ pose-requires : tie.Need-pose-requires
 pose-requires c κs = search needs
 
 returns : tie.Need-returns
-returns c =
-    let e = c .pose .ensures in
-    (ap (λ (p : Pose). p .x) e, (ap (λ (p : Pose). p .y) e, ap (λ (p : Pose). p .heading) e))
+returns c = ap poseList (c .pose .ensures)
 
 pub probe-pose-spec : {M : Type 1} → statement M
 probe-pose-spec = tie.close (tie.spec pose-requires returns)

@@ -4,8 +4,7 @@ use lib.Dec.{T}
 use lib.Ieee.{binary32, fits}
 use lib.Ieee.Bits.{toBits-lt}
 use borrow.Author.Needs.{needs}
-use Rattle.arithmetic.proofs.Fields.{no-nan}
-use Rattle.vectors.proofs.Nans.{nan-bits}
+use Rattle.hexadecimal.proofs.OneNan.{no-nan, nan-bits}
 use Rattle.vectors.proofs.patterns.bits_of_single.Statement.{statement}
 use Rattle.vectors.proofs.patterns.bits_of_single.Tie as tie
 

@@ -1,0 +1,95 @@
+-- Pieces of a text.
+use Prim.Native.Nat.{ℕ, _+_, _-_, _<_, _≤_, min}
+use mathlib.Core.Path.{_≡_, refl, sym, ap, _∙_}
+use mathlib.Core.Bool.{Bool, true, false}
+use mathlib.Core.List.{List, [], _++_}
+use native.Mathlib.Omega.{arith}
+use native.Mathlib.Numerals.{add-one}
+use borrow.Author.Tests.{leb-true, leb-false, eq-eqb, ne-eqb}
+use lib.Dec.{leb}
+use lib.ListN.{length, getD, set, take, drop, length-drop, drop-of-length-le}
+use lib.Seq.{paste, paste-suc, take-all, take-nil}
+use Rattle.case_texts.specs.Texts.{fitting, appended, heldThen, partOf, bytesOf, pieceOf}
+use Rattle.case_lines.specs.declared.lines.Line.{Line}
+
+pub paste-more : (d : List ℕ) (at : ℕ) (s : List ℕ) (j : ℕ) → at + j < length d → j < length s → set (paste d at s j) (at + j) (getD s j 0) ≡ paste d at s (j + 1)
+paste-more d at s j h k = rw add-one (paste-suc d at s j 0 h k)
+
+-- n is what fits
+module _ (text : List ℕ) (held : ℕ) (piece : List ℕ) {n : ℕ} (e : n ≡ fitting text held piece) where
+  pub held-is : held + n ≡ heldThen text held piece
+  unfolding heldThen
+  held-is = rw e
+
+  pub appended-is : {after : List ℕ} → after ≡ paste text held piece n → after ≡ appended text held piece
+  unfolding appended
+  appended-is f = f ∙ ap (λ (k : ℕ). paste text held piece k) e
+
+-- the part that there is of a list, cut to the list's length
+pub part-is : (l : List ℕ) (first last e s : ℕ) → e ≡ min last (length l) → s ≡ min first e → take (e - s) (drop s l) ≡ partOf l first last
+unfolding partOf
+part-is l first last e s p q = go (leb first e) (leb last (length l)) refl refl
+  where
+    go : (a b : Bool) → leb first e ≡ a → leb last (length l) ≡ b → take (e - s) (drop s l) ≡ take (last - first) (drop first l)
+    go true true h k =
+        let u = leb-true first e h in
+        let v = leb-true last (length l) k in
+        let f : s ≡ first = omega arith in
+        let g : e ≡ last = omega arith in
+        rw (f, g)
+    go true false h k =
+        let u = leb-true first e h in
+        let v = leb-false last (length l) k in
+        let f : s ≡ first = omega arith in
+        let m = length-drop first l in
+        let x : length (drop first l) ≤ e - first = omega arith in
+        let y : length (drop first l) ≤ last - first = omega arith in
+        rw (f, take-all (e - first) (drop first l) x, take-all (last - first) (drop first l) y)
+    go false true h k =
+        let u = leb-false first e h in
+        let v = leb-true last (length l) k in
+        let f : e - s ≡ 0 = omega arith in
+        let g : last - first ≡ 0 = omega arith in
+        rw (f, g)
+    go false false h k =
+        let u = leb-false first e h in
+        let v = leb-false last (length l) k in
+        let f : e - s ≡ 0 = omega arith in
+        let x : length l ≤ first = omega arith in
+        rw (f, drop-of-length-le l x, take-nil (last - first))
+
+-- a slice appended, where the piece is known by an equation
+module _ (text : List ℕ) (held : ℕ) {piece other : List ℕ} (e : piece ≡ other) where
+  pub held-same : {n : ℕ} → n ≡ heldThen text held piece → n ≡ heldThen text held other
+  held-same f = f ∙ ap (λ (p : List ℕ). heldThen text held p) e
+
+  pub appended-same : {after : List ℕ} → after ≡ appended text held piece → after ≡ appended text held other
+  appended-same f = f ∙ ap (λ (p : List ℕ). appended text held p) e
+
+-- a word's bytes from a place on
+pub rest-is : (w k i : ℕ) (l : List ℕ) → l ≡ bytesOf w → i ≡ 8 - k → take (8 - i) (drop i l) ≡ drop (8 - k) (bytesOf w)
+unfolding bytesOf
+rest-is w k i l p q =
+    let m = length-drop i (bytesOf w) in
+    let x : length (drop i (bytesOf w)) ≤ 8 - i = omega arith in
+    rw (p, ← q) (take-all (8 - i) (drop i (bytesOf w)) x)
+
+-- the piece of a line, by its letter
+module _ (line : Line) (base : List ℕ) where
+  pub both-piece : line .letter ≡ 116 → bytesOf (line .a) ++ bytesOf (line .b) ≡ pieceOf line base
+  unfolding pieceOf
+  both-piece h = rw (eq-eqb (line .letter) 116 h)
+
+  module _ (t : line .letter ≡ 116 → ⊥) where
+    pub word-piece : line .letter ≡ 120 → drop (8 - line .a) (bytesOf (line .b)) ≡ pieceOf line base
+    unfolding pieceOf
+    word-piece h = rw (ne-eqb (line .letter) 116 t, eq-eqb (line .letter) 120 h)
+
+    module _ (x : line .letter ≡ 120 → ⊥) where
+      pub part-piece : line .letter ≡ 99 → partOf base (line .a) (line .b) ≡ pieceOf line base
+      unfolding pieceOf
+      part-piece h = rw (ne-eqb (line .letter) 116 t, ne-eqb (line .letter) 120 x, eq-eqb (line .letter) 99 h)
+
+      pub no-piece : (line .letter ≡ 99 → ⊥) → [] ≡ pieceOf line base
+      unfolding pieceOf
+      no-piece h = rw (ne-eqb (line .letter) 116 t, ne-eqb (line .letter) 120 x, ne-eqb (line .letter) 99 h)
