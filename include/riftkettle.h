@@ -108,9 +108,9 @@ uint32_t riftkettle_samples(const uint16_t *words, size_t n, const double *numbe
 
 /* x, y and heading on the geometry of that number (from 0) at s. Lines and arcs run on past their length and before their start;
  * a spiral stays at its ends. The samples are those that riftkettle_samples made of this road; the answer follows what they hold.
- * Writes *x, *y and *heading. Refusals: 3, 4, 5, 6; 3 where the road has no geometry of that number; 7. */
+ * Writes x, y and heading to pose. Refusals: 3, 4, 5, 6; 3 where the road has no geometry of that number; 7. */
 uint32_t riftkettle_pose(const uint16_t *words, size_t n, const double *numbers, size_t m, const double *samples, size_t k,
-                         size_t geometry, double s, double *x, double *y, double *heading);
+                         size_t geometry, double s, double pose[3]);
 
 /* The borders of the lanes of the section at s: three numbers a lane (t of its inner border, t of its outer border, its width), the
  * left lanes from the center outward, then the right ones from the center outward. Writes them from list[0] on and the number of

@@ -97,10 +97,9 @@ int main(void) {
 
   const double stations[3] = {4, 11.5, 13};
   for (int i = 0; i < 3; i++) {
-    double x = 0, y = 0, heading = 0;
-    refusal = riftkettle_pose(words, RIFTKETTLE_WORDS, numbers, RIFTKETTLE_NUMBERS, samples, 4 * made, i > 0, stations[i], &x, &y,
-                              &heading);
-    printf("pose at %g: %" PRIu32 ", x %.6f y %.6f heading %.6f\n", stations[i], refusal, x, y, heading);
+    double pose[3] = {0, 0, 0};
+    refusal = riftkettle_pose(words, RIFTKETTLE_WORDS, numbers, RIFTKETTLE_NUMBERS, samples, 4 * made, i > 0, stations[i], pose);
+    printf("pose at %g: %" PRIu32 ", x %.6f y %.6f heading %.6f\n", stations[i], refusal, pose[0], pose[1], pose[2]);
   }
 
   int64_t count = 0;

@@ -9,7 +9,7 @@ pose-requires : tie.Need-pose-requires
 pose-requires c κs = search needs
 
 returns : tie.Need-returns
-returns c = ap poseList (c .pose .ensures)
+returns c = ap poseList (c .before .pose .ensures)
 
 pub probe-pose-spec : {M : Type 1} → statement M
 probe-pose-spec = tie.close (tie.spec pose-requires returns)
