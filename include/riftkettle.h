@@ -18,7 +18,7 @@
 extern "C" {
 #endif
 
-/* ---- refusals: the numbers of document 01 */
+/* ---- refusals: the numbers of document 01 that a function here gives; 9 and 10 are those of calls that are to come */
 
 #define RIFTKETTLE_REFUSED_FORM 1          /* a line of the job text breaks its form */
 #define RIFTKETTLE_REFUSED_CAPACITY 2      /* the text, or a table of it, is too long, or a slice to read it into is too short */

@@ -28,9 +28,11 @@ abbrev pub pass : List Row → Bool
 pass [] = true
 pass (r ∷ rs) = r .passes && pass rs
 
+-- "a call that takes a road checks 3 to 5": nothing where all pass, else the first that fails
 unfoldable pub admissionOf : List ℕ → List Float → Answer (Unit {0})
 admissionOf words numbers = checked (roadRows words numbers) (value tt)
 
+-- "A road is admitted when it passes rows 3 to 5"
 unfoldable pub admitted : List ℕ → List Float → Bool
 admitted words numbers = pass (roadRows words numbers)
 

@@ -14,6 +14,7 @@ use Rattle.admission.specs.declared.sampling.Sampled.the-variants.{Made,
 use Rattle.admission.specs.Admission.{roadRows}
 
 module _ (words : List ℕ) (numbers : List Float) where
+  -- the samples that the road needs
   abbrev pub needed : ℕ
   needed = samplesNeeded (roadOf words numbers)
 
@@ -25,6 +26,7 @@ module _ (words : List ℕ) (numbers : List Float) where
   unfoldable pub sampledOf : ℕ → Answer ℕ
   sampledOf len = checked (roadRows words numbers ++ (sampleRow len ∷ [])) (value needed)
 
+  -- "Samples .. past those written stay unchanged"; "any other refusal changes no memory"
   abbrev pub writtenBy : Answer ℕ → List Float → List Float
   writtenBy (value n) xs = samplesOf (roadOf words numbers) ++ drop (4 * n) xs
   writtenBy (refused n) xs = xs
@@ -34,6 +36,7 @@ module _ (words : List ℕ) (numbers : List Float) where
   unfolding sampledOf
   sampledList xs = writtenBy (sampledOf (length xs)) xs
 
+-- the value of a `Made`, and the number of a refusal
 abbrev pub answerOf : Sampled → Answer ℕ
 answerOf (Made n) = value n
 answerOf (Refused r) = refused (numberOf r)

@@ -32,7 +32,7 @@ rootUnits f a =
     let r = wholeRoot (size n) n in
     round f false (2 * r + cond (eqb (r * r) n) 0 1) (2 * 2 ^ low f)
 
--- NaN of a NaN and below 0; a zero and the infinity are their own; else the root of the value in smallest values
+-- "the f64 nearest the exact root (NaN below 0; infinity its own)"; NaN of a NaN, a zero is its own; else the root of the value in smallest values
 unfoldable pub rootOf : Format → Float → Float
 unfolding rootUnits
 rootOf f nan = nan
@@ -40,7 +40,7 @@ rootOf f (inf s) = cond s nan (inf s)
 rootOf f (fin s zero e) = fin s zero e
 rootOf f (fin s (suc m) e) = cond s nan (rootUnits f (suc m * up e * 2 ^ low f / down e))
 
--- each operation rounded
+-- "root of a×a + b×b", each operation rounded
 unfoldable pub hypotOf : Float → Float → Float
 hypotOf a b = rootOf binary64 (add binary64 (mul binary64 a a) (mul binary64 b b))
 

@@ -7,7 +7,7 @@ use lib.Ieee.{Float}
 use Rattle.records.specs.Roads.{Road}
 use Rattle.lanes.specs.Borders.{borderList}
 
--- "three f64 a lane .. whole threes": written where a list has room for every lane, the rest kept; else all of it
+-- Written where the list has room for every lane; "borders past those written stay unchanged". Else all of it stays.
 abbrev pub listedBy : Bool → Road → ℕ → Float → List Float → List Float
 listedBy true road i s xs = borderList road i s ++ drop (length (borderList road i s)) xs
 listedBy false road i s xs = xs

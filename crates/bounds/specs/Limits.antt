@@ -14,7 +14,7 @@ use Rattle.lent.specs.Lists.{allBelow}
 use Rattle.records.specs.Roads.{Road, Lane, Strip, geomAt, unusedZero, sectionOf, laneOf, profileAt, stripAt, columnOf, heightDefAt}
 use Rattle.ranges.specs.Bounds.{inRange, sized, largest, finite64, cubicsWithin, slopesWithin, greatestBound}
 
--- 0.01 and 10,000
+-- "Length 0.01..10,000", "geom length 0.01..10,000"
 abbrev pub lengthOk : Float → Bool
 lengthOk x = inRange (f64 0x3f84_7ae1_47ae_147b) (f64 0x40c3_8800_0000_0000) x
 
@@ -22,7 +22,7 @@ lengthOk x = inRange (f64 0x3f84_7ae1_47ae_147b) (f64 0x40c3_8800_0000_0000) x
 abbrev pub onRoad : Road → Float → Bool
 onRoad road x = inRange zero64 (road .length) x
 
--- cubics along the road
+-- cubics along the road: "The end is the road length"
 abbrev pub roadCubicsWithin : Road → List Cubic → Float → Bool
 roadCubicsWithin road cs limit = cubicsWithin cs zero64 (road .length) (road .length) limit
 
@@ -51,13 +51,14 @@ unfoldable pub heightsLimited : List HeightDef → Bool
 unfolding allBelow heightLimited
 heightsLimited hs = allBelow (λ i. heightLimited (heightDefAt hs i)) (length hs)
 
--- "width lanes 8; border lanes 36"
+-- "width lanes 8; border lanes 36", to "the section's extent for lane lists"
 unfoldable pub laneLimited : Float → Lane → Bool
 unfolding cubicsWithin heightsLimited
 laneLimited extent lane =
     cubicsWithin (lane .extents) (neg largest) largest extent (cond (lane .border) (f64 0x4042_0000_0000_0000) (f64 0x4020_0000_0000_0000))
     && heightsLimited (lane .heights)
 
+-- a section's start and its lanes
 unfoldable pub sectionLimited : Road → ℕ → Bool
 unfolding allBelow laneLimited sectionExtent
 sectionLimited road i =
@@ -92,7 +93,7 @@ stripLimited road strip =
     && allBelow (λ term. roadCubicsWithin road (columnOf strip (term + 1)) largest) 4
     && le (termsBound road strip) (f64 0x4044_0000_0000_0000)
 
--- "B at most: elev 10,000; bank 0.75; offset, tshift .. 8"; "Elev also .. ≤ 1"
+-- row 4, "a number not finite or outside its limit", of the whole road. "B at most: elev 10,000; bank 0.75; offset, tshift, .. 8"; "Elev also .. ≤ 1"
 unfoldable pub limited : Road → Bool
 unfolding allBelow geomLimited cubicsWithin slopesWithin sectionLimited profileLimited stripLimited
 limited road =

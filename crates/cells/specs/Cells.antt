@@ -20,10 +20,11 @@ unfoldable pub digitOf : ℕ → ℕ
 digitOf b =
     cond (ltb b 48) 16 (cond (leb b 57) (b - 48) (cond (ltb b 97) 16 (cond (leb b 102) (b - 87) 16)))
 
+-- a value, and the place after it
 abbrev pub span : ℕ → ℕ → Span
 span v at = record { value = v; next = at }
 
--- A word: its bytes up to a space, an LF or the end, at most eight, as one number, base 256. No byte of it is 0, so the number tells the word.
+-- A word: its bytes up to one that is at most 32 (a space, an LF, any control byte, or the end), at most eight, as one number, base 256. No byte of it is 0, so the number tells the word.
 unfoldable pub nameFrom : ℕ → List ℕ → ℕ → ℕ → Span
 nameFrom zero text at v = span v at
 nameFrom (suc n) text at v =
@@ -32,12 +33,13 @@ nameFrom (suc n) text at v =
 unfoldable pub nameAt : List ℕ → ℕ → Span
 nameAt text at = nameFrom 8 text at 0
 
--- "decimal, up to 4 digits, no leading zeros": a number that begins with 0 is 0 and ends there
+-- "decimal, up to 4 digits": at most n more of them
 unfoldable pub decimalFrom : ℕ → List ℕ → ℕ → ℕ → Span
 decimalFrom zero text at v = span v at
 decimalFrom (suc n) text at v =
     cond (leb 10 (digitOf (byteAt text at))) (span v at) (decimalFrom n text (at + 1) (v * 10 + digitOf (byteAt text at)))
 
+-- "no leading zeros": a number that begins with 0 is 0 and ends there
 unfoldable pub naturalAt : List ℕ → ℕ → Span
 naturalAt text at = cond (eqb (byteAt text at) 48) (span 0 (at + 1)) (decimalFrom 4 text at 0)
 
@@ -48,6 +50,7 @@ negative n = cond (eqb (n .value) 0) Broken (Value (10000 - n .value) (n .next))
 abbrev pub positive : ℕ → Span → Cell
 positive at n = cond (eqb (n .next) at) Broken (Value (10000 + n .value) (n .next))
 
+-- "a whole number is decimal, up to 4 digits, no leading zeros, `-` if negative"
 unfoldable pub wholeAt : List ℕ → ℕ → Cell
 wholeAt text at = cond (eqb (byteAt text at) 45) (negative (naturalAt text (at + 1))) (positive at (naturalAt text at))
 
@@ -60,7 +63,7 @@ hexFrom (suc n) text at v =
 unfoldable pub hexAt : List ℕ → ℕ → Cell
 hexAt text at = hexFrom 16 text at 0
 
--- one of a list's words, kept as its place there
+-- "A word outside a column's listed ones is 1": one of the list's words, kept as its place there, else broken
 abbrev pub listedBy : ℕ → Span → Cell
 listedBy list w = cond (ltb (placeOf list (w .value)) (countOf list)) (Value (placeOf list (w .value)) (w .next)) Broken
 

@@ -9,7 +9,7 @@ pub struct Span {
     pub next: usize,
 }
 
-// The word at a place: its bytes up to a space, an LF or the end, at most eight. What stands after it is the caller's to test.
+// The word at a place: its bytes up to one that is at most 32, or the end, at most eight. What stands after it is the caller's to test.
 pub fn name_at(text: &[u8], at: usize) -> Span
     ensures { λ r. ⌜ r ≡ nameAt (now (text .entry)) at ⌝ }
 {

@@ -10,7 +10,7 @@ abbrev pub codeOf : {A : Type 0} → Answer A → ℕ
 codeOf (value a) = 0
 codeOf (refused n) = n
 
--- what is behind a pointer afterwards, where the part f of the answer belongs there
+-- what is behind a pointer afterwards, where the part f of the answer belongs there; a refusal "changes no memory"
 abbrev pub leftBy : {A B : Type 0} → (A → B) → Answer A → B → B
 leftBy f (value a) before = f a
 leftBy f (refused n) before = before

@@ -239,9 +239,9 @@ module _ (road : Road) (a : Admits road) (s : Float) (o : OnRoad road s) (right 
     after-kept k h = at-most-within binary64 (heightAfter road at s tangent right k) border-most (121 + k * 119) 840 (after k h) (most k count h (a .few at right)) border-whole
 
     -- a lane's heights at its borders
-    pub borders-kept : (k : ℕ) → k < count → Within binary64 (heightsAt road at s tangent right k .inner) border-most × Within binary64 (heightsAt road at s tangent right k .outer) border-most
+    pub border-heights-kept : (k : ℕ) → k < count → Within binary64 (heightsAt road at s tangent right k .inner) border-most × Within binary64 (heightsAt road at s tangent right k .outer) border-most
     unfolding heightsAt
-    borders-kept k h =
+    border-heights-kept k h =
         let u = under k count h (a .few at right) in
         let w = heights-most k h (heightAfter road at s tangent right k) (121 + k * 119) (after k (before k count h)) (from k) u in
         let b = heightsAt road at s tangent right k in (

@@ -28,7 +28,7 @@ use Rattle.lanes.proofs.Outward.{Ahead}
 use Rattle.lanes.proofs.BorderLaws.{eighty}
 use Rattle.height_laws.proofs.AdmittedRoad.{Admits, admits, on-road, across-of, within-across}
 use Rattle.height_laws.proofs.RoadHeights.{shape-kept, cross-kept, toward-kept, own-kept}
-use Rattle.height_laws.proofs.BorderHeights.{border-most, inner-kept, outer-kept, after-kept, borders-kept}
+use Rattle.height_laws.proofs.BorderHeights.{border-most, inner-kept, outer-kept, after-kept, border-heights-kept}
 use Rattle.height_laws.proofs.LaneHeights.{LaneKept, across-most, within-most, between-most}
 
 point-76-own : Within binary64 point-76 point-76
@@ -79,7 +79,7 @@ module _ (words : List ℕ) (numbers : List Float) (fitting : Fitting numbers) (
 
       pub heights-kept : (k : ℕ) → k < length (sideOf road at right)
           → Within binary64 (heightsAt road at s tangent right k .inner) border-most × Within binary64 (heightsAt road at s tangent right k .outer) border-most
-      heights-kept k l = borders-kept road a s o right tangent slope k l
+      heights-kept k l = border-heights-kept road a s o right tangent slope k l
 
       -- ---- across it
       module _ (k : ℕ) (l : k < length (sideOf road at right)) where

@@ -33,6 +33,7 @@ module _ (words : List ℕ) (numbers : List Float) where
   abbrev pub spaceRow : Float → ℕ → Row
   spaceRow s len = row BorderSpace (leb (lanesAt s) (len / 3))
 
+  -- the rows of the borders after the road's: 7, 11
   abbrev pub listRows : Float → ℕ → List Row
   listRows s len = stationRow (roadOf words numbers) s ∷ spaceRow s len ∷ []
 
@@ -40,6 +41,7 @@ module _ (words : List ℕ) (numbers : List Float) where
   unfoldable pub bordersOf : Float → ℕ → Answer ℕ
   bordersOf s len = checked (roadRows words numbers ++ listRows s len) (value (lanesAt s))
 
+  -- "borders past those written stay unchanged"; "any other refusal changes no memory"
   abbrev pub writtenBy : Answer ℕ → Float → List Float → List Float
   writtenBy (value n) s xs = listedBy true (roadOf words numbers) (sectionAt s) s xs
   writtenBy (refused n) s xs = xs
@@ -49,9 +51,11 @@ module _ (words : List ℕ) (numbers : List Float) where
   unfolding bordersOf
   bordersList s xs = writtenBy (bordersOf s (length xs)) s xs
 
+  -- the rows of the name after the road's: 7, 8
   abbrev pub nameRows : Float → Float → List Row
   nameRows s t = stationRow (roadOf words numbers) s ∷ offsetRow t ∷ []
 
+  -- "Lane named at t", in the section at s
   abbrev pub nameAt : Float → Float → LaneName
   nameAt s t = laneNamed (roadOf words numbers) (sectionAt s) s t
 
@@ -59,6 +63,7 @@ module _ (words : List ℕ) (numbers : List Float) where
   unfoldable pub namedOf : Float → Float → Answer LaneName
   namedOf s t = checked (roadRows words numbers ++ nameRows s t) (value (nameAt s t))
 
+-- "this paper's number and values for each case of the enum", of both answers
 abbrev pub lanesAnswer : Bordered → Answer ℕ
 lanesAnswer (bordered.Lanes n) = value n
 lanesAnswer (bordered.Refused r) = refused (numberOf r)

@@ -14,15 +14,16 @@ use Rattle.lane_heights.specs.declared.across.Across.{Across}
 use Rattle.lateral.specs.Lateral.{heightOf, heightToward}
 use Rattle.lanes.specs.Borders.{signOf, baseAt, sideOf, bordersOf}
 
--- the k-th lane or one inside it is level
+-- "Level holds from its lane outward": the k-th lane or one inside it is level
 unfoldable pub levelUpTo : List Lane → ℕ → Bool
 levelUpTo lanes zero = getD lanes 0 noLane .level
 levelUpTo lanes (suc k) = levelUpTo lanes k || getD lanes (suc k) noLane .level
 
--- a lane's heights, from its own and, level, from where its inner neighbour ends
+-- a level lane's heights: its own on top of where its inner neighbour ends, outer
 abbrev pub levelHeights : Pair → Float → Float → Float → Float → Pair
 levelHeights own outer sign width tangent = record { inner = outer ⊕ own .inner; outer = (outer ⊖ sign ⊗ width ⊗ tangent) ⊕ own .outer }
 
+-- any other lane's: its own, and the road's at each border
 abbrev pub tiltedHeights : Road → Float → Pair → LaneBorders → Float → Pair
 tiltedHeights road s own b sign = record { inner = own .inner ⊕ heightToward road s (b .inner) sign; outer = own .outer ⊕ heightToward road s (b .outer) sign }
 
@@ -33,9 +34,11 @@ acrossBy road s own b outer sign tangent level =
     record { «inner_t» = b .inner; «outer_t» = b .outer; «inner_height» = h .inner; «outer_height» = h .outer }
 
 module _ (road : Road) (i : ℕ) (s : Float) (tangent : Float) (right : Bool) where
+  -- `height_at` of the k-th lane
   abbrev pub ownHeights : ℕ → Pair
   ownHeights k = heightOf (getD (sideOf road i right) k noLane .heights) (s ⊖ sectionOf road i .start)
 
+  -- the k-th lane's heights, its inner neighbour ending at outer
   abbrev pub heightsFrom : Float → ℕ → Pair
   heightsFrom outer k =
       cond (levelUpTo (sideOf road i right) k)
@@ -53,6 +56,7 @@ module _ (road : Road) (i : ℕ) (s : Float) (tangent : Float) (right : Bool) wh
   unfolding heightAfter levelUpTo heightOf heightToward
   heightsAt k = heightsFrom (heightAfter k) k
 
+  -- `Across`: its borders and its heights there
   unfoldable pub acrossAt : ℕ → Across
   unfolding heightsAt
   acrossAt k =
@@ -65,6 +69,7 @@ module _ (road : Road) (i : ℕ) (s : Float) (tangent : Float) (right : Bool) wh
 abbrev pub isRaised : Lane → Bool
 isRaised lane = ltb 0 (length (lane .heights)) || lane .level
 
+-- the test passes at some index below n
 unfoldable pub anyBelow : (ℕ → Bool) → ℕ → Bool
 anyBelow p zero = false
 anyBelow p (suc n) = anyBelow p n || p n

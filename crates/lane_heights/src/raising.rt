@@ -1,4 +1,4 @@
-// How high the lanes of a section stand off the road: at their borders, and straight across between them.
+// How high the lanes of a section stand off the road at their borders.
 // tangent is that of the road's bank, by which a level lane is turned back; every f64 is answered for.
 use crate::across::Across;
 use cross_sections::height_toward;

@@ -1,4 +1,4 @@
-// A road's sections, lanes, profiles and strips in the lent words and numbers. Where each table stands is said in specs/Layout.antt of crate records, and in
+// The lanes of a section in the lent words and numbers. Where each table stands is said in specs/Layout.antt of crate records, and in
 // docs/MEMORY.md for whoever lends a road. Nothing here trusts the slices: what is not there is empty, NaN or 0.
 use lent::part;
 use lent::word;

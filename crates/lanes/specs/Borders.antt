@@ -1,5 +1,5 @@
 -- Document 01, "Values": "Lanes by `side_borders`": the t of each lane's borders, from the center outward.
--- sign is 1 for the left side and -1 for the right, base the t of the center, s the distance into the section.
+-- sign is 1 for the left side and -1 for the right, base the t of the center. s is the distance into the section; from `baseAt` on it is the station.
 use Prim.Native.Nat.{ℕ, zero, suc, _+_}
 use mathlib.Core.Bool.{Bool, true, false, cond}
 use mathlib.Core.List.{List, [], _∷_, _++_}
@@ -18,7 +18,7 @@ abbrev pub signOf : Bool → Float
 signOf false = f64 0x3ff0_0000_0000_0000
 signOf true = f64 0xbff0_0000_0000_0000
 
--- a border lane's width: from its inner border to the border record's t; none active is no width
+-- a border lane's width: from its inner border to the border record's t; none active is 0 wide, not a border at 0
 abbrev pub borderWidth : Lane → Float → Float → Float → Found → Float
 borderWidth lane sign inner s (At i) = sign ⊗ (evalAt (cubicAt (lane .extents) i) s ⊖ inner)
 borderWidth lane sign inner s Nothing = zero64
@@ -47,6 +47,7 @@ bordersAt lanes sign base s k = bordersFrom (getD lanes k noLane) sign (outerAft
 
 -- ---- a section of a road at s
 
+-- the t of the center, by the table "offset"
 abbrev pub baseAt : Road → Float → Float
 baseAt road s = valueIn (road .offsets) s
 
@@ -57,6 +58,7 @@ sideOf road i right = cond right (sectionOf road i .right) (sectionOf road i .le
 abbrev pub lanesOf : Road → ℕ → ℕ
 lanesOf road i = length (sectionOf road i .left) + length (sectionOf road i .right)
 
+-- the borders of the k-th lane of a side of section i
 abbrev pub bordersOf : Road → ℕ → Float → Bool → ℕ → LaneBorders
 bordersOf road i s right k = bordersAt (sideOf road i right) (signOf right) (baseAt road s) (s ⊖ sectionOf road i .start) k
 

@@ -21,7 +21,7 @@ blend a b f = a ⊕ (b ⊖ a) ⊗ f
 
 -- ---- profiles
 
--- one profile at t: its active shape; before the first shape the first one's a
+-- one profile at t: its active shape; "before a profile's first shape its a counts"
 abbrev pub shapeBy : List Cubic → Float → Found → Float
 shapeBy cs t (At i) = evalAt (cubicAt cs i) t
 shapeBy cs t Nothing = cubicAt cs 0 .a
@@ -30,28 +30,31 @@ unfoldable pub profileHeight : Road → ℕ → Float → Float
 unfolding activeIn
 profileHeight road i t = shapeBy (profileAt road i .shapes) t (activeIn (profileAt road i .shapes) t)
 
--- between the profiles i and i + 1
+-- "linear between neighbours", the profiles i and i + 1
 unfoldable pub shapeBetween : Road → ℕ → Float → Float → Float
 unfolding profileHeight
 shapeBetween road i s t =
     blend (profileHeight road i t) (profileHeight road (i + 1) t) ((s ⊖ profileAt road i .s) ⊘ (profileAt road (i + 1) .s ⊖ profileAt road i .s))
 
--- i is the last profile at or before s + 1e-9
+-- i is the last profile at or before s + 1e-9; "constant outside"; 0 without profiles
 abbrev pub shapeFrom : Road → Float → Float → Found → Float
 shapeFrom road s t (At i) = cond (ltb (i + 1) (length (road .profiles))) (shapeBetween road i s t) (profileHeight road i t)
 shapeFrom road s t Nothing = cond (eqb (length (road .profiles)) 0) zero64 (profileHeight road 0 t)
 
+-- `shape_at`
 unfoldable pub shapeOf : Road → Float → Float → Float
 unfolding lastStart shapeBetween profileHeight
 shapeOf road s t = shapeFrom road s t (lastStart (λ i. profileAt road i .s) (reached s) (length (road .profiles)))
 
--- ---- a lane's heights, s metres into its section
+-- ---- `height_at`: a lane's heights, s metres into its section, by the same rule
 
+-- "linear between neighbours"
 abbrev pub heightBetween : HeightDef → HeightDef → Float → Pair
 heightBetween a b s =
     let f = (s ⊖ a .«s_offset») ⊘ (b .«s_offset» ⊖ a .«s_offset») in
     record { inner = blend (a .inner) (b .inner) f; outer = blend (a .outer) (b .outer) f }
 
+-- "constant outside"; (0, 0) without heights
 abbrev pub heightHeld : HeightDef → Pair
 heightHeld h = record { inner = h .inner; outer = h .outer }
 
@@ -81,10 +84,11 @@ unfoldable pub stripHeight : StripDef → Float → Float → Float
 unfolding valueIn
 stripHeight d s dt = (((zero64 ⊗ dt ⊕ termAt d s 3) ⊗ dt ⊕ termAt d s 2) ⊗ dt ⊕ termAt d s 1) ⊗ dt ⊕ termAt d s 0
 
--- "Outer only beyond the inner's width": the outer strip, from the inner one's edge sign×w on; relative, it stands on the inner one there
+-- the outer strip, from the inner one's edge sign×w on; relative, it stands on the inner one there
 abbrev pub outerHeight : StripDef → StripDef → Float → Float → Float → Float → Float
 outerHeight inner outer s t sign w = cond (outer .relative) (stripHeight inner s (sign ⊗ w)) zero64 ⊕ stripHeight outer s (t ⊖ sign ⊗ w)
 
+-- "Outer only beyond the inner's width"; without an outer the inner runs on
 abbrev pub pastWidth : StripDef → Strip → Float → Float → Float → Float → Float
 pastWidth inner absent s t sign w = stripHeight inner s t
 pastWidth inner (present outer) s t sign w = cond (lt w (sign ⊗ t)) (outerHeight inner outer s t sign w) (stripHeight inner s t)
@@ -103,16 +107,17 @@ bySide (present inner) outer s t sign = byWidth inner outer s t sign (activeIn (
 abbrev pub isLeft : Float → Float → Bool
 isLeft t toward = cond (lt (absOf t) (f64 0x3e11_2e0b_e826_d695)) (lt zero64 toward) (lt zero64 t)
 
+-- the strips of the side: left inner and outer, or right inner and outer
 abbrev pub crossBy : Road → Float → Float → Bool → Float
 crossBy road s t left =
     cond left (bySide (stripAt road 0) (stripAt road 1) s t (f64 0x3ff0_0000_0000_0000)) (bySide (stripAt road 2) (stripAt road 3) s t (f64 0xbff0_0000_0000_0000))
 
--- with no strip it is 0, so it need not be asked whether there is a cross section
+-- "t - offset" is t less the value of tshift. With no strip the height is 0, so it need not be asked whether there is a cross section
 unfoldable pub crossHeight : Road → Float → Float → Float → Float
 unfolding stripHeight activeIn valueIn
 crossHeight road s t toward = let shifted = t ⊖ valueIn (road .tshifts) s in crossBy road s shifted (isLeft shifted toward)
 
--- ---- both
+-- ---- profiles and cross section together: `Lateral::height_toward`, and `Lateral::height`
 
 unfoldable pub heightToward : Road → Float → Float → Float → Float
 unfolding shapeOf crossHeight

@@ -1,4 +1,4 @@
--- Document 01: the pose call, rows 3 4 5 6 7 and the geometry's own.
+-- The pose call of the C interface. Document 01 has no such call: its rows are those of a call with samples (3 4 5 6), the geometry's own, and 7.
 use Prim.Native.Nat.{ℕ}
 use mathlib.Core.List.{List, [], _∷_, _++_}
 use lib.ListN.{length}
@@ -29,6 +29,7 @@ module _ (words : List ℕ) (numbers : List Float) (samples : List Float) (geome
       ∷ stationRow (roadOf words numbers) s
       ∷ []
 
+  -- the pose of that geometry at s
   abbrev pub placeOf : Pose
   placeOf = poseOf (roadOf words numbers) samples geometry s
 
@@ -36,6 +37,7 @@ module _ (words : List ℕ) (numbers : List Float) (samples : List Float) (geome
   unfoldable pub posedBy : Answer Pose
   posedBy = checked (roadRows words numbers ++ ownRows) (value placeOf)
 
+-- the value of a `Pose`, and the number of a refusal
 abbrev pub poseAnswer : Posed → Answer Pose
 poseAnswer (posed.Pose p) = value p
 poseAnswer (posed.Refused r) = refused (numberOf r)

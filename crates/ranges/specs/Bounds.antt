@@ -22,6 +22,7 @@ sized m x = le (absOf x) m
 abbrev pub largest : Float
 largest = f64 0x7fef_ffff_ffff_ffff
 
+-- "a number not finite" fails
 abbrev pub finite64 : Float → Bool
 finite64 x = sized largest x
 
@@ -29,7 +30,7 @@ finite64 x = sized largest x
 abbrev pub atLeastZero : Float → Float
 atLeastZero x = cond (lt x zero64) zero64 x
 
--- "next start less its own (after the last: list's end less its own), at least 0, plus 0.001"
+-- "Reach D of a cubic: next start less its own (after the last: list's end less its own), at least 0, plus 0.001"
 abbrev pub endAt : List Cubic → Float → ℕ → Float
 endAt cs end i = cond (ltb (i + 1) (length cs)) (cubicAt cs (i + 1) .start) end
 
@@ -62,7 +63,7 @@ unfoldable pub slopesWithin : List Cubic → Float → Float → Bool
 unfolding allBelow reachAt slopeBoundOf
 slopesWithin cs end limit = allBelow (λ i. le (slopeBoundOf (cubicAt cs i) (reachAt cs end i)) limit) (length cs)
 
--- the greatest of the first n values, 0 for none
+-- "at its greatest B (0 for none)": the greatest of the first n values
 unfoldable pub greatest : (ℕ → Float) → ℕ → Float
 greatest f zero = zero64
 greatest f (suc n) = cond (lt (greatest f n) (f n)) (f n) (greatest f n)

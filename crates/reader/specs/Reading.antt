@@ -62,6 +62,7 @@ tableAt table text at track ws ns vs =
 unfoldable pub countedTrack : ℕ → ℕ → Track → Track
 countedTrack table lines track = cond (eqb table 0 && eqb lines 0) (unsoundTrack track) track
 
+-- by an outcome: what the tables so far lead to, or the refusal
 abbrev pub byOutcome : Outcome → (ℕ → ℕ → Track → List ℕ → List Float → List ℕ → Outcome) → Outcome
 byOutcome (done at lines track ws ns vs) f = f at lines track ws ns vs
 byOutcome (stop m) f = stop m
@@ -83,7 +84,7 @@ abbrev pub judge : Outcome → Outcome
 judge (done at lines track ws ns vs) = cond (track .sound) (admittedAs (admissionOf ws ns) (done at lines track ws ns vs) stop) (stop 3)
 judge (stop m) = stop m
 
--- a reading into slices that hold zeros: the slices' and the text's lengths first
+-- A reading into slices that hold zeros. "Row 2's slice and length tests precede all lines": "a lent road slice is shorter than the limits need, or the text is over 65,536 bytes".
 unfoldable pub readingBy : List ℕ → List ℕ → List Float → List ℕ → Outcome
 readingBy text ws ns vs =
     cond ((leb 1347 (length ws) && leb 7937 (length ns)) && leb 32 (length vs))
@@ -96,7 +97,7 @@ zeros n = replicate n 0
 unfoldable pub zeroNumbers : ℕ → List Float
 zeroNumbers n = replicate n (ofBits binary64 0)
 
--- a text read into slices of n words, m numbers and l wants, whatever they held before
+-- a text read into slices of n words, m numbers and l wants, whatever they held before; so an accepted reading leaves "zeros past the last line"
 unfoldable pub readingOf : List ℕ → ℕ → ℕ → ℕ → Outcome
 readingOf text n m l = readingBy text (zeros n) (zeroNumbers m) (zeros l)
 
@@ -105,7 +106,7 @@ abbrev pub verdictOf : Outcome → Answer ℕ
 verdictOf (done at lines track ws ns vs) = value lines
 verdictOf (stop m) = refused m
 
--- what the slices hold after it: zeros alone after a refusal
+-- what the slices hold after it: "A refused reading leaves zeros in all road slices"
 abbrev pub wordsHeld : ℕ → Outcome → List ℕ
 wordsHeld n (done at lines track ws ns vs) = ws
 wordsHeld n (stop m) = zeros n
@@ -128,6 +129,7 @@ abbrev pub Agrees : Outcome → Taken → List ℕ → List Float → List ℕ �
 Agrees (done at lines track ws ns vs) r us xs ys = (r ≡ record { number = 0; next = at; lines = lines; track = track }) × (us ≡ ws) × (xs ≡ ns) × (ys ≡ vs)
 Agrees (stop m) r us xs ys = (r .number ≡ m) × (0 < m) × (m ≤ 2)
 
+-- the answer after the last line, by its refusal, by references and order, or by admission
 unfoldable pub judgedBy : Taken → List ℕ → List Float → Answer ℕ
 judgedBy taken ws ns =
     cond (eqb (taken .number) 1) (refused 1)

@@ -28,16 +28,17 @@ unfoldable pub foundOf : ℕ → Found
 foundOf zero = Nothing
 foundOf (suc n) = At n
 
+-- "the last with start ≤ s + 1e-9"
 unfoldable pub activeIn : List Cubic → Float → Found
 unfolding lastStart
 activeIn cs s = lastStart (λ i. cubicAt cs i .start) (reached s) (length cs)
 
--- geometry and section: the first where none is active
+-- "(geometry, section: the first)" where none is active
 abbrev pub orFirst : Found → ℕ
 orFirst (At i) = i
 orFirst Nothing = 0
 
--- value and slope at s of the active cubic, 0 where none is
+-- value and slope at s of the active cubic; "none gives value and slope 0"
 abbrev pub valueBy : List Cubic → Float → Found → Float
 valueBy cs s (At i) = evalAt (cubicAt cs i) s
 valueBy cs s Nothing = zero64

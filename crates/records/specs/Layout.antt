@@ -40,6 +40,7 @@ shapeBase = 5857
 abbrev pub cubicBase : ℕ
 cubicBase = 7137
 
+-- "a lent road slice is shorter than the limits need": the numbers that they need
 abbrev pub numbersNeeded : ℕ
 numbersNeeded = 7937
 
@@ -83,5 +84,6 @@ stripWords = 1303
 abbrev pub stripStride : ℕ
 stripStride = 11
 
+-- likewise the words
 abbrev pub wordsNeeded : ℕ
 wordsNeeded = 1347

@@ -30,16 +30,18 @@ pub record Lane : Type 0 where
   pub extents : List Cubic
   pub heights : List HeightDef
 
+-- "section: start", with its lanes left and right, each side from the center outward
 pub record Section : Type 0 where
   pub start : Float
   pub left : List Lane
   pub right : List Lane
 
+-- "profile: s", with its shapes
 pub record Profile : Type 0 where
   pub s : Float
   pub shapes : List Cubic
 
--- a strip that is there, with its width's cubics and those of its terms 0 to 3
+-- "strip: side place relative": one that is there, with its width's cubics and those of its terms 0 to 3; side and place are its place in the road's list
 pub record StripDef : Type 0 where
   pub relative : Bool
   pub width : List Cubic
@@ -49,7 +51,7 @@ pub data Strip : Type 0 where
   absent : Strip
   present : StripDef → Strip
 
--- `unused`: for each geometry the columns k0, k1 that its kind does not use
+-- The tables of "The job text", parents with their children. `unused`: for each geometry the columns k0, k1 that its kind does not use
 pub record Road : Type 0 where
   pub length : Float
   pub geoms : List GeomRec
@@ -68,6 +70,7 @@ pub record Road : Type 0 where
 abbrev pub shapeOf : ℕ → Float → Float → GeomShape
 shapeOf kind k0 k1 = cond (eqb kind 1) (Arc k0) (cond (eqb kind 2) (Spiral k0 k1) Line)
 
+-- "unused k0, k1 zero": those that are, both of a line and k1 of an arc
 abbrev pub unusedOf : ℕ → Float → Float → List Float
 unusedOf kind k0 k1 = cond (eqb kind 1) (k1 ∷ []) (cond (eqb kind 2) [] (k0 ∷ k1 ∷ []))
 
@@ -113,12 +116,14 @@ module _ (words : List ℕ) (numbers : List Float) where
   abbrev pub cubicsIn : ℕ → ℕ → ℕ → List Cubic
   cubicsIn base first count = cubicsOf (span numbers (base + first * cubicStride) (count * cubicStride))
 
+  -- the i-th geometry, and its unused columns
   unfoldable pub geomIn : ℕ → GeomRec
   geomIn i = geomFrom (span numbers (geomBase + i * geomStride) geomStride) (wordAt (kindBase + i))
 
   unfoldable pub unusedIn : ℕ → List Float
   unusedIn i = unusedOf (wordAt (kindBase + i)) (numberAt (geomBase + i * geomStride + 5)) (numberAt (geomBase + i * geomStride + 6))
 
+  -- count heights, from the first on
   abbrev pub heightsIn : ℕ → ℕ → List HeightDef
   heightsIn first count = heightsOf (span numbers (heightBase + first * heightStride) (count * heightStride))
 
@@ -145,6 +150,7 @@ module _ (words : List ℕ) (numbers : List Float) where
         right = table (λ j. laneIn (wordAt k + wordAt (k + 1) + j)) (wordAt (k + 2));
       }
 
+  -- a profile with its range of shapes
   unfoldable pub profileIn : ℕ → Profile
   unfolding cubicsOf
   profileIn i =
@@ -163,6 +169,7 @@ module _ (words : List ℕ) (numbers : List Float) where
       let k = wordAt (stripWords + i * stripStride) in
       cond (eqb k 0) absent (present (record { relative = eqb k 2; width = columnIn i 0; terms = table (λ j. columnIn i (j + 1)) 4 }))
 
+  -- the road of the two lent lists: words 0 to 6 are the counts, number 0 is the length
   unfoldable pub roadOf : Road
   unfolding table cubicsOf geomIn unusedIn sectionIn profileIn stripIn
   roadOf =
@@ -184,6 +191,7 @@ module _ (words : List ℕ) (numbers : List Float) where
 abbrev pub geomAt : Road → ℕ → GeomRec
 geomAt road i = getD (road .geoms) i noGeom
 
+-- "unused k0, k1 zero", of the i-th geometry
 abbrev pub allZero : List Float → Bool
 allZero [] = true
 allZero (x ∷ xs) = eq x zero64 && allZero xs
@@ -222,6 +230,7 @@ abbrev pub kindOf : Strip → StripKind
 kindOf absent = Absent
 kindOf (present d) = cond (d .relative) Relative Absolute
 
+-- column 0 is the width's cubics, column j + 1 those of term j
 abbrev pub columnBy : StripDef → ℕ → List Cubic
 columnBy d zero = d .width
 columnBy d (suc j) = getD (d .terms) j []
@@ -230,7 +239,7 @@ abbrev pub columnOf : Strip → ℕ → List Cubic
 columnOf absent c = []
 columnOf (present d) c = columnBy d c
 
--- ---- the geometry and the section at s
+-- ---- the geometry and the section at s: "the last with start ≤ s + 1e-9; .. (geometry, section: the first)"
 
 unfoldable pub geomIndex : Road → Float → ℕ
 unfolding lastStart

@@ -24,6 +24,7 @@ allDue n = record { of = ltb 0 n ∷ ltb 1 n ∷ ltb 2 n ∷ ltb 3 n ∷ ltb 4 n
 abbrev pub isDue : Due → ℕ → Bool
 isDue due column = getD (due .of) column false
 
+-- with a column named
 abbrev pub metIn : Due → ℕ → Due
 metIn due column = record { of = set (due .of) column false }
 
@@ -31,6 +32,7 @@ metIn due column = record { of = set (due .of) column false }
 abbrev pub columnOf : Order → ℕ → ℕ
 columnOf order i = getD (order .of) i 0
 
+-- with word i in that column
 abbrev pub orderedBy : Order → ℕ → ℕ → Order
 orderedBy order i column = record { of = set (order .of) i column }
 
@@ -38,5 +40,6 @@ orderedBy order i column = record { of = set (order .of) i column }
 abbrev pub cellOf : Cells → ℕ → ℕ
 cellOf cells column = getD (cells .of) column 0
 
+-- with a value in that column
 abbrev pub valuedBy : Cells → ℕ → ℕ → Cells
 valuedBy cells column v = record { of = set (cells .of) column v }

@@ -13,6 +13,7 @@ use Rattle.rows.specs.declared.columns.Due.{Due}
 use Rattle.rows.specs.declared.names_line.Named.{Named}
 use Rattle.rows.specs.declared.names_line.Head.{Head}
 
+-- a broken line of names
 abbrev pub noHead : Head
 noHead = record { good = false; next = 0; order = noOrder }
 

@@ -12,6 +12,7 @@ use Rattle.rows.specs.declared.columns.Order.{Order}
 use Rattle.rows.specs.declared.columns.Cells.{Cells}
 use Rattle.rows.specs.declared.values_line.Row.{Row}
 
+-- a broken line of values
 abbrev pub noRow : Row
 noRow = record { good = false; next = 0; cells = noCells }
 
@@ -20,7 +21,7 @@ abbrev pub byCell : Cell → (ℕ → ℕ → Row) → Row
 byCell (Value v q) f = f v q
 byCell Broken f = noRow
 
--- the byte after a cell, by how many cells there are after it: LF after the last, a space after any other
+-- "Lines end in one LF; one space parts words": the byte after a cell, by how many cells there are after it
 unfoldable pub stopOf : ℕ → ℕ
 stopOf zero = 10
 stopOf (suc n) = 32

@@ -14,11 +14,13 @@ pub record Column : Type 0 where
   pub kind : ℕ
   pub title : String
 
+-- a table: its name, its limit of lines, its columns
 pub record Table : Type 0 where
   pub name : String
   pub limit : ℕ
   pub columns : List Column
 
+-- a column of f64, and one of whole numbers
 abbrev pub number : String → Column
 number s = record { kind = 0; title = s }
 
@@ -35,6 +37,7 @@ keywords =
     ("width" ∷ "0" ∷ "1" ∷ "2" ∷ "3" ∷ []) ∷
     []
 
+-- a column of the words of each of these lists
 abbrev pub shapeKind : String → Column
 shapeKind s = record { kind = 15; title = s }
 
@@ -56,6 +59,7 @@ abcd = number "a" ∷ number "b" ∷ number "c" ∷ number "d" ∷ []
 abbrev pub table : String → ℕ → List Column → Table
 table s n cs = record { name = s; limit = n; columns = cs }
 
+-- "Tables come in the order below": their columns, and the counts of lines given
 abbrev pub tables : List Table
 tables =
     table "road" 1 (number "length" ∷ []) ∷
@@ -83,6 +87,7 @@ codeFrom v (text._∷_ c s) = codeFrom (v * 256 + code c) s
 abbrev pub numberOf : String → ℕ
 numberOf s = codeFrom 0 s
 
+-- the tables' names, as numbers
 unfoldable pub names : List ℕ
 names = map (λ (t : Table). numberOf (t .name)) tables
 
@@ -105,6 +110,7 @@ abbrev pub joined : {A : Type 0} → List (List A) → List A
 joined [] = []
 joined (xs ∷ xss) = xs ++ joined xss
 
+-- all words of all lists, one list after another
 unfoldable pub words : List ℕ
 words = map numberOf (joined lists)
 
@@ -136,10 +142,11 @@ eight xs =
 unfoldable pub kinds : List (List ℕ)
 kinds = map (λ (t : Table). eight (map (λ (c : Column). c .kind) (t .columns))) tables
 
+-- what a column of a table holds
 unfoldable pub kindOf : ℕ → ℕ → ℕ
 kindOf table column = cond (ltb column 8) (getD (getD kinds table []) column 0) 0
 
--- the place of a word among n words from a place on, counted from i; n and i where it is not there
+-- the place of a word among n words from a place on, counted from i; n + i where it is not there
 unfoldable pub seek : ℕ → ℕ → ℕ → ℕ → ℕ
 seek zero first word i = i
 seek (suc n) first word i = cond (eqb (wordOf (first + i)) word) i (seek n first word (i + 1))

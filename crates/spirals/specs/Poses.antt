@@ -18,7 +18,7 @@ use Rattle.spirals.specs.Spiral.{sampleCount, samplesBefore}
 abbrev pub poseList : Pose → List Float
 poseList p = p .x ∷ p .y ∷ p .heading ∷ []
 
--- ---- line and arc, ds from the geometry's start on
+-- ---- "line and arc by `pose`; .. neither stops at its length": at ds from the geometry's start, whatever ds is
 
 unfoldable pub linePose : GeomRec → Float → Pose
 linePose g ds = record { x = g .x ⊕ ds ⊗ cosineOf (g .hdg); y = g .y ⊕ ds ⊗ sineOf (g .hdg); heading = g .hdg }
@@ -61,6 +61,7 @@ segment lead n = min (lead - 1) (n - 2)
 abbrev pub fractionOf : Float → Float → Float → Float
 fractionOf a b d = cond (lt a b) ((d ⊖ a) ⊘ (b ⊖ a)) zero64
 
+-- straight from one sample to the next
 abbrev pub between : Sample → Sample → Float → Pose
 between a b f =
     record {
@@ -69,6 +70,7 @@ between a b f =
       heading = a .heading ⊕ (b .heading ⊖ a .heading) ⊗ f;
     }
 
+-- "answers follow what it holds", the caller's slice
 unfoldable pub spiralPose : List Float → ℕ → ℕ → Float → Pose
 unfolding leading
 spiralPose samples first n ds =
@@ -80,6 +82,7 @@ spiralPose samples first n ds =
 
 -- ---- the i-th geometry of a road at s, with the lent samples
 
+-- "arc of size ≤ 1e-9 is a line"
 abbrev pub poseBy : Road → List Float → ℕ → Float → GeomShape → Pose
 poseBy road samples i ds Line = linePose (geomAt road i) ds
 poseBy road samples i ds (Arc k) = cond (lt (f64 0x3e11_2e0b_e826_d695) (absOf k)) (arcPose (geomAt road i) k ds) (linePose (geomAt road i) ds)

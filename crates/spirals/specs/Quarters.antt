@@ -11,6 +11,6 @@ use Rattle.float_laws.specs.Binary64.{_⊗_, f64}
 abbrev pub quarters : ℕ → Float
 quarters n = ofInt binary64 (pos n) ⊗ f64 0x3fd0_0000_0000_0000
 
--- no steps, or n that end below x, which is at most 10,000
+-- no steps, or at most 2,000 that end below x, which is at most 10,000
 abbrev pub QuartersBelow : Float → ℕ → Type 0
 QuartersBelow x n = (n ≤ 2000) × ((n ≡ 0) ⊎ (T (lt (quarters n) x) × T (le x (f64 0x40c3_8800_0000_0000))))

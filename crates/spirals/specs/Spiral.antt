@@ -34,10 +34,12 @@ stepsFrom (suc n) true len u = suc (stepsFrom n (goesOn len (u ⊕ stepAt len u)
 abbrev pub mostSteps : ℕ
 mostSteps = 2001
 
+-- the steps of a spiral of some length
 unfoldable pub spiralSteps : Float → ℕ
 unfolding stepsFrom goesOn
 spiralSteps len = stepsFrom mostSteps (goesOn len zero64) len zero64
 
+-- n steps make n + 1 samples; a line or an arc has none
 abbrev pub countBy : GeomShape → ℕ → ℕ
 countBy Line n = 0
 countBy (Arc k) n = 0
@@ -53,17 +55,18 @@ unfolding sampleCount
 samplesBefore road zero = 0
 samplesBefore road (suc i) = samplesBefore road i + sampleCount (geomAt road i)
 
+-- what rows 5 and 6 count: "spirals need over 2,000 samples", "fewer samples than the road needs"
 unfoldable pub samplesNeeded : Road → ℕ
 unfolding samplesBefore
 samplesNeeded road = samplesBefore road (length (road .geoms))
 
 -- ---- the samples
 
--- "(curv_end - curv_start) / length", 0 where the length is 1e-9 or less
+-- `c_dot` of `bake_spiral`: (k1 - k0) / length, 0 where the length is 1e-9 or less
 abbrev pub turnRate : Float → Float → Float → Float
 turnRate len k0 k1 = cond (lt (f64 0x3e11_2e0b_e826_d695) len) ((k1 ⊖ k0) ⊘ len) zero64
 
--- (hdg + k0×u) + ((0.5×c')×u)×u
+-- `heading` of `bake_spiral`: (hdg + k0×u) + ((0.5×c_dot)×u)×u
 abbrev pub headingAt : GeomRec → Float → Float → Float → Float
 headingAt g k0 k1 u = (g .hdg ⊕ k0 ⊗ u) ⊕ f64 0x3fe0_0000_0000_0000 ⊗ turnRate (g .length) k0 k1 ⊗ u ⊗ u
 
@@ -88,6 +91,7 @@ unfolding nextSample
 samplesAfter g k0 k1 zero p = []
 samplesAfter g k0 k1 (suc n) p = nextSample g k0 k1 p ∷ samplesAfter g k0 k1 n (nextSample g k0 k1 p)
 
+-- the samples of one geometry
 abbrev pub samplesBy : GeomRec → GeomShape → List Sample
 samplesBy g Line = []
 samplesBy g (Arc k) = []
@@ -103,11 +107,12 @@ unfolding geomSamples
 samplesUpTo road zero = []
 samplesUpTo road (suc i) = samplesUpTo road i ++ geomSamples (geomAt road i)
 
--- "four f64 each (distance, x, y, heading)"
+-- "four f64 each (distance, x, y, heading; ..)"
 unfoldable pub flat : List Sample → List Float
 flat [] = []
 flat (p ∷ ps) = p .distance ∷ p .x ∷ p .y ∷ p .heading ∷ flat ps
 
+-- "the samples made from it", as the caller's slice holds them
 unfoldable pub samplesOf : Road → List Float
 unfolding samplesUpTo flat
 samplesOf road = flat (samplesUpTo road (length (road .geoms)))

@@ -15,33 +15,39 @@ use Rattle.records.specs.Roads.{Road, Lane, Strip, geomAt, sectionOf, laneOf, p
 abbrev pub margin : Float
 margin = f64 0x3f50_624d_d2f1_a9fc
 
--- of n starts, each and the next
+-- "other starts never fall": of n starts, each and the next
 unfoldable pub neverFall : (ℕ → Float) → ℕ → Bool
 unfolding allBelow
 neverFall start n = allBelow (λ i. le (start i) (start (i + 1))) (n - 1)
 
+-- "sections rise strictly"
 unfoldable pub riseStrictly : (ℕ → Float) → ℕ → Bool
 unfolding allBelow
 riseStrictly start n = allBelow (λ i. lt (start i) (start (i + 1))) (n - 1)
 
+-- "at least 0.001 apart"
 unfoldable pub apart : (ℕ → Float) → ℕ → Bool
 unfolding allBelow
 apart start n = allBelow (λ i. le margin (start (i + 1) ⊖ start i)) (n - 1)
 
+-- of cubics: "other starts never fall"
 unfoldable pub cubicsInOrder : List Cubic → Bool
 unfolding neverFall
 cubicsInOrder cs = neverFall (λ i. cubicAt cs i .start) (length cs)
 
+-- "heights of a lane, are at least 0.001 apart"; its extents never fall
 unfoldable pub laneInOrder : Lane → Bool
 unfolding cubicsInOrder apart
 laneInOrder lane = cubicsInOrder (lane .extents) && apart (λ i. heightDefAt (lane .heights) i .«s_offset») (length (lane .heights))
 
+-- a section's lanes, left and right
 unfoldable pub sectionInOrder : Road → ℕ → Bool
 unfolding allBelow laneInOrder
 sectionInOrder road i =
     allBelow (λ k. laneInOrder (laneOf road i false k)) (length (sectionOf road i .left))
     && allBelow (λ k. laneInOrder (laneOf road i true k)) (length (sectionOf road i .right))
 
+-- "profiles, .. are at least 0.001 apart"; the shapes of each never fall
 unfoldable pub profilesInOrder : Road → Bool
 unfolding allBelow apart cubicsInOrder
 profilesInOrder road =
@@ -53,6 +59,7 @@ unfoldable pub stripInOrder : Strip → Bool
 unfolding allBelow cubicsInOrder
 stripInOrder strip = allBelow (λ c. cubicsInOrder (columnOf strip c)) 5
 
+-- "First geom and first section start at 0", and the order of every list
 unfoldable pub ordered : Road → Bool
 unfolding allBelow neverFall riseStrictly cubicsInOrder sectionInOrder profilesInOrder stripInOrder
 ordered road =

@@ -11,18 +11,20 @@ use Rattle.lent.specs.Lists.{allBelow}
 use Rattle.records.specs.Roads.{wordAt}
 use Rattle.records.specs.Layout.{kindBase, sectionWords, sectionStride, laneWords, laneStride, profileWords, profileStride, stripWords, stripStride, wordsNeeded, numbersNeeded}
 
--- least to most lines, inside a table of limit lines
+-- "a range past its slice's end, is 3": least to most lines, inside a table of limit lines
 abbrev pub rangeOk : ℕ → ℕ → ℕ → ℕ → ℕ → Bool
 rangeOk least most limit first count = leb least count && leb count most && leb (first + count) limit
 
 module _ (words : List ℕ) (numbers : List Float) where
+  -- a lent word
   abbrev pub w : ℕ → ℕ
   w = wordAt words numbers
 
+  -- both slices as long as the layout
   abbrev pub slicesOk : Bool
   slicesOk = leb wordsNeeded (length words) && leb numbersNeeded (length numbers)
 
-  -- geom 1..64; elev, bank, offset, tshift 0..64; section 1..16; profile 0..16
+  -- "geom: .. (1..64)", "elev, bank, offset, tshift: .. (0..64 each)", "section: start (1..16)", "profile: s (0..16)"
   unfoldable pub countsOk : Bool
   countsOk = leb 1 (w 0) && leb (w 0) 64 && leb (w 1) 64 && leb (w 2) 64 && leb (w 3) 64 && leb (w 4) 64 && leb 1 (w 5) && leb (w 5) 16 && leb (w 6) 16
 
@@ -31,7 +33,7 @@ module _ (words : List ℕ) (numbers : List Float) where
   unfolding allBelow
   kindsOk = allBelow (λ i. ltb (w (kindBase + i)) 3) (w 0)
 
-  -- "extent width or border, level 0 or 1"; "extent (0..16 a lane)", 512 in all; "height (0..8 a lane)", 512 in all
+  -- "extent width or border, level 0 or 1"; "extent: .. (0..16 a lane)", "height: .. (0..8 a lane)", 512 in all of each
   unfoldable pub laneOk : ℕ → Bool
   laneOk j =
       let k = laneWords + j * laneStride in
@@ -44,18 +46,20 @@ module _ (words : List ℕ) (numbers : List Float) where
       let k = sectionWords + i * sectionStride in
       leb (w (k + 1)) 6 && leb (w (k + 2)) 6 && leb (w k + (w (k + 1) + w (k + 2))) 192 && allBelow (λ j. laneOk (w k + j)) (w (k + 1) + w (k + 2))
 
-  -- "shape (1..16 a profile)", 256 in all
+  -- "shape: .. (1..16 a profile; ..)", 256 in all
   unfoldable pub profileOk : ℕ → Bool
   profileOk i = let k = profileWords + i * profileStride in rangeOk 1 16 256 (w k) (w (k + 1))
 
-  -- presence 0, 1 or 2; "cubic (term width or 0..3; 0..8 a term)", 160 in all
+  -- "cubic: .. (term width or 0..3, .. 0..8 a term)", 160 in all: column 0 is the width, column c the term c - 1
   unfoldable pub columnOk : ℕ → ℕ → Bool
   columnOk i c = let k = stripWords + i * stripStride + 1 + c * 2 in rangeOk 0 8 160 (w k) (w (k + 1))
 
+  -- presence 0, 1 or 2; the ranges of a strip that is absent are not read
   unfoldable pub stripOk : ℕ → Bool
   unfolding allBelow columnOk
   stripOk i = let code = w (stripWords + i * stripStride) in ltb code 3 && (eqb code 0 || allBelow (columnOk i) 5)
 
+  -- "counts, references or order wrong", but for the order
   unfoldable pub structured : Bool
   unfolding allBelow countsOk kindsOk sectionOk profileOk stripOk
   structured = slicesOk && countsOk && kindsOk && allBelow sectionOk (w 5) && allBelow profileOk (w 6) && allBelow stripOk 4

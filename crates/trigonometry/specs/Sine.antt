@@ -39,10 +39,11 @@ half = ofBits binary64 0x3fe0_0000_0000_0000
 abbrev pub one : Float
 one = ofBits binary64 0x3ff0_0000_0000_0000
 
--- "n = floor(h×I + 0.5)": what the floor is taken of
+-- h×I + 0.5, what the floor is taken of
 unfoldable pub turn : Float → Float
 turn h = h ⊗ I ⊕ half
 
+-- "n = floor(h×I + 0.5)"
 unfoldable pub turns : Float → Float
 turns h = floorOf binary64 (turn h)
 
@@ -83,9 +84,11 @@ sineBy k s c = cond (eqb k 0) s (cond (eqb k 1) c (cond (eqb k 2) (neg s) (neg c
 unfoldable pub cosineBy : ℕ → Float → Float → Float
 cosineBy k s c = cond (eqb k 0) c (cond (eqb k 1) (neg s) (cond (eqb k 2) (neg c) s))
 
+-- "NaN beyond ±12,000"; both comparisons have to pass, so a NaN is outside
 unfoldable pub inRange : Float → Bool
 inRange h = le (neg sineRange) h && le h sineRange
 
+-- "Sine and cosine: NaN beyond ±12,000"; else from n and r
 unfoldable pub sineOf : Float → Float
 sineOf h =
     let n = turns h in

@@ -1,4 +1,4 @@
-// Document 01's stand-ins for floor, sine, cosine and tangent. In f64 and integer work alone, so that every answer is the same bits on every machine.
+// Document 01's stand-ins for sine, cosine and tangent, and the floor that they take. In f64 and integer work alone, so that every answer is the same bits on every machine.
 mod quotients;
 mod trigonometry;
 mod whole;

@@ -1,5 +1,6 @@
-// Replays a list of vectors from standard input against the crate `arithmetic`. It writes a line for each vector that
-// differs, then for each function how many lines named it and how many of these differ. tools/vectors makes the list.
+// Replays a list of vectors from standard input against the crates `arithmetic`, `trigonometry` and `axis_counts`. It writes a
+// line for each vector that differs, then for each function how many lines named it and how many of these differ. tools/vectors
+// makes the list.
 mod patterns;
 mod replay;
 
