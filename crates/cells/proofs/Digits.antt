@@ -1,11 +1,15 @@
 -- Words and numbers, one byte at a time: a law for each way out of the loops that read them, and that one digit more fits 64 bits.
-use Prim.Native.Nat.{ℕ, suc, _+_, _-_, _*_, _^_, _<_, _≤_}
-use mathlib.Core.Path.{_≡_}
+use Prim.Native.Nat.{ℕ, zero, suc, _+_, _-_, _*_, _^_, _<_, _≤_}
+use mathlib.Core.Path.{_≡_, refl, _∙_}
+use mathlib.Core.Bool.{Bool, true, false, cond}
 use mathlib.Core.List.{List}
 use native.Mathlib.Numerals.{add-one}
 use native.Mathlib.Nat.{pow-suc, pow-le-pow-right, mul-le-mul-right, suc-mul}
 use native.Mathlib.Omega.{arith}
-use borrow.Author.Tests.{eq-eqb, ne-eqb, le-leb, lt-leb}
+use borrow.Author.Tests.{eq-eqb, ne-eqb, le-leb, lt-leb, ltb-true, ltb-false, eqb-true, eqb-false}
+use lib.Dec.{eqb, ltb, leb}
+use lib.ListN.{length, getD, set, List·getD-eq-default}
+use lib.Seq.{getD-set-same, getD-set-other}
 use Rattle.cells.specs.Cells.{digitOf, byteAt, span, nameFrom, nameAt, decimalFrom, naturalAt, hexFrom, hexAt}
 use Rattle.cells.specs.declared.values.Cell.the-variants.{Value, Broken}
 
@@ -90,6 +94,40 @@ hex-whole text from n v h = let z : 16 - n ≡ 0 = omega arith in rw z
 pub hex-is : (text : List ℕ) (from : ℕ) → hexAt text from ≡ hexFrom (16 - 0) text (from + 0) 0
 unfolding hexAt
 hex-is text from = let z : from + 0 ≡ from = omega arith in rw z
+
+-- a text that ends within the sixteen digits: the byte past its end is no digit
+either : (b : Bool) → cond b Broken Broken ≡ Broken
+either true = refl
+either false = refl
+
+hex-end : (n : ℕ) (text : List ℕ) (at v : ℕ) → length text ≤ at → hexFrom (suc n) text at v ≡ Broken
+unfolding hexFrom digitOf
+hex-end n text at v h = rw (List·getD-eq-default text 0 h)
+
+hex-more : (n : ℕ) (text : List ℕ) (at v : ℕ) → hexFrom n text (at + 1) (v * 16 + digitOf (byteAt text at)) ≡ Broken → hexFrom (suc n) text at v ≡ Broken
+unfolding hexFrom
+hex-more n text at v e = rw e (either (leb 16 (digitOf (byteAt text at))))
+
+hex-short-from : (n : ℕ) (text : List ℕ) (at v : ℕ) → 0 < n → length text < at + n → hexFrom n text at v ≡ Broken
+hex-short-from zero text at v o h = absurd (omega (arith, o))
+hex-short-from (suc n) text at v o h = go (ltb at (length text)) refl (λ p. hex-short-from n text (at + 1) (v * 16 + digitOf (byteAt text at)) p (omega (arith, h)))
+  where
+    go : (t : Bool) → ltb at (length text) ≡ t → (0 < n → hexFrom n text (at + 1) (v * 16 + digitOf (byteAt text at)) ≡ Broken) → hexFrom (suc n) text at v ≡ Broken
+    go true q more = let l : at < length text = ltb-true at (length text) q in hex-more n text at v (more (omega (arith, l, h)))
+    go false q more = hex-end n text at v (ltb-false at (length text) q)
+
+pub hex-short : (text : List ℕ) (at : ℕ) → length text < at + 16 → hexAt text at ≡ Broken
+unfolding hexAt
+hex-short text at h = hex-short-from 16 text at 0 (omega arith) h
+
+-- one digit more of a list of them
+pub more-digits : (of : List ℕ) (n : ℕ) (f : ℕ → ℕ) {d : ℕ} → n < length of → d ≡ f n → ((i : ℕ) → i < n → getD of i 0 ≡ f i)
+    → (i : ℕ) → i < n + 1 → getD (set of n d) i 0 ≡ f i
+more-digits of n f {d} l e h i k = go (eqb i n) refl
+  where
+    go : (t : Bool) → eqb i n ≡ t → getD (set of n d) i 0 ≡ f i
+    go true q = rw (eqb-true i n q, ← e) (getD-set-same of n d 0 l)
+    go false q = let z = eqb-false i n q in getD-set-other of n i d 0 z ∙ h i (omega (arith, k, z))
 
 -- a digit more fits in 64 bits
 pub fits : (b n m v d : ℕ) → n < m → 0 < b → b ^ m ≤ 2 ^ 64 → v < b ^ n → d < b → v * b + d < 2 ^ 64

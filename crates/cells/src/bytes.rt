@@ -10,21 +10,16 @@ pub fn byte_at(text: &[u8], at: usize) -> u8
     if at < text.len() { text[at] } else { 0 }
 }
 
-// The value of a hexadecimal digit in lower case, 16 for any other byte.
-pub(crate) fn digit(b: u8) -> u64
+// The value of a hexadecimal digit in lower case, 16 for any other byte. Both ends are tested together, so that no branch of the
+// machine's goes by what digits the text has.
+pub(crate) fn digit(b: u8) -> u8
     ensures { λ r. ⌜ r ≡ digitOf b ⌝ }
 {
-    if b < 48 {
-        return 16;
+    if (48 <= b) & (b <= 57) {
+        return b - 48;
     }
-    if b <= 57 {
-        return (b - 48) as u64;
-    }
-    if b < 97 {
-        return 16;
-    }
-    if b <= 102 {
-        return (b - 87) as u64;
+    if (97 <= b) & (b <= 102) {
+        return b - 87;
     }
     16
 }

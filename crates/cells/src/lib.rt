@@ -1,6 +1,7 @@
 // Cells of the job text.
 mod bytes;
 mod names;
+mod sixteen;
 mod values;
 
 pub use bytes::byte_at;

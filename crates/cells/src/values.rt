@@ -3,6 +3,7 @@ use crate::bytes::byte_at;
 use crate::bytes::digit;
 use crate::names::Span;
 use crate::names::name_at;
+use crate::sixteen::digits_at;
 use schema::count_of;
 use schema::place_of;
 ghost use mathlib.Core.Path.{_≡_};
@@ -29,7 +30,7 @@ fn natural_at(text: &[u8], at: usize) -> Span
         };
     }
     while n < 4 {
-        let d = digit(byte_at(text, at + n));
+        let d = digit(byte_at(text, at + n)) as u64;
         if 10 <= d {
             return Span {
                 value,
@@ -49,10 +50,17 @@ fn natural_at(text: &[u8], at: usize) -> Span
 fn hex_at(text: &[u8], at: usize) -> Cell
     ensures { λ r. ⌜ r ≡ hexAt (now (text .entry)) at ⌝ }
 {
+    if text.len() < 16 {
+        return Cell::Broken;
+    }
+    if text.len() - 16 < at {
+        return Cell::Broken;
+    }
+    let digits = digits_at(text, at);
     let mut value: u64 = 0;
     let mut n = 0;
     while n < 16 {
-        let d = digit(byte_at(text, at + n));
+        let d = digits.of[n] as u64;
         if 16 <= d {
             return Cell::Broken;
         }

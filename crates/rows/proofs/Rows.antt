@@ -11,6 +11,7 @@ use Rattle.cells.specs.Cells.{byteAt, cellAt}
 use Rattle.cells.specs.declared.values.Cell.{Cell}
 use Rattle.cells.specs.declared.values.Cell.the-variants.{Value, Broken}
 use Rattle.cells.proofs.Inside.{inside}
+use Rattle.rows.proofs.Past.{set-past}
 use Rattle.rows.specs.Columns.{noCells, columnOf, valuedBy}
 use Rattle.rows.specs.ValuesLine.{noRow, stopOf, rowFrom, rowAt}
 use Rattle.rows.specs.declared.columns.Order.{Order}
@@ -57,6 +58,10 @@ module _ (text : List ℕ) (at table : ℕ) (order : Order) (i n : ℕ) (cells :
         → rowFrom (n - i) text at table order i cells ≡ rowFrom (n - (i + 1)) text (q + 1) table order (i + 1) cells'
     unfolding rowFrom
     row-next p y = rw (next, ← f, ← g, ← h, k, ← e, ← st, eq-eqb b s p, y)
+
+-- past the eighth place nothing is kept
+pub valued-past : (cells : Cells) (col v : ℕ) → length (cells .of) ≡ 8 → 8 ≤ col → valuedBy cells col v ≡ cells
+valued-past cells col v e h = let l : length (cells .of) ≤ col = omega (arith, e) in rw (set-past (cells .of) col v l)
 
 pub stop-inside : (text : List ℕ) (q m : ℕ) {b s : ℕ} → b ≡ byteAt text q → s ≡ stopOf m → b ≡ s → q < length text
 stop-inside text q m e st p = inside text q e (rw (p, st) (stop-positive m))

@@ -1,7 +1,7 @@
 // A table's columns: which are still to be named, in which order the text has them, and a line's cells by column.
 // Eight places serve every table. Past the eighth a read gives the default, and a write changes nothing.
 ghost use mathlib.Core.Path.{_≡_};
-ghost use Rattle.rows.specs.Columns.{noOrder, noCells, allDue, isDue, metIn, columnOf, orderedBy, cellOf, valuedBy};
+ghost use Rattle.rows.specs.Columns.{noOrder, noCells, allDue, isDue, metIn, columnOf, orderedBy, cellOf};
 
 // The column of each word of a line, in the text's order.
 pub struct Order {
@@ -83,15 +83,4 @@ pub fn cell_of(cells: Cells, column: usize) -> u64
     ensures { λ r. ⌜ r ≡ cellOf cells column ⌝ }
 {
     if column < 8 { cells.of[column] } else { 0 }
-}
-
-// The same with a column's cell.
-pub(crate) fn valued(cells: Cells, column: usize, v: u64) -> Cells
-    ensures { λ r. ⌜ r ≡ valuedBy cells column v ⌝ }
-{
-    let mut r = cells;
-    if column < 8 {
-        r.of[column] = v;
-    }
-    r
 }

@@ -6,7 +6,6 @@ use crate::columns::Cells;
 use crate::columns::Order;
 use crate::columns::column_of;
 use crate::columns::no_cells;
-use crate::columns::valued;
 use cells::Cell;
 
 // Whether a line of values is right, the place after it, and its cells by column.
@@ -52,7 +51,10 @@ pub fn row_at(text: &[u8], at: usize, table: usize, order: Order) -> Row
         if cells::byte_at(text, q) != stop_of(i, n) {
             return no_row();
         }
-        values = valued(values, column, v);
+        // in place: a function of all cells would copy them for each one
+        if column < 8 {
+            values.of[column] = v;
+        }
         p = q + 1;
     }
     Row {

@@ -42,8 +42,8 @@ const LIMITS: [u16; 15] = [
     16, // want
 ];
 
-// The words of all lists, one list after another: each table's columns, then the words of each keyword column.
-const WORDS: [u64; 80] = [
+// The words of all lists, one list after another: first each table's columns.
+const COLUMNS: [u64; 66] = [
     // road
     0x6c656e677468, // length
     // geom
@@ -125,6 +125,10 @@ const WORDS: [u64; 80] = [
     // want
     0x73, // s
     0x74, // t
+];
+
+// Then the words of each keyword column. They are sought cell by cell, and a constant is made anew where it is read, so the short one is kept apart.
+const KEYWORDS: [u64; 14] = [
     // kind
     0x6c696e65, // line
     0x617263, // arc
@@ -146,7 +150,7 @@ const WORDS: [u64; 80] = [
     0x33, // 3
 ];
 
-// Where each list starts in WORDS, and how many words it has.
+// Where each list starts among the words, and how many words it has.
 const FIRSTS: [u8; 20] = [
     0, // road
     1, // geom
@@ -193,24 +197,21 @@ const COUNTS: [u8; 20] = [
     5, // term
 ];
 
-// What each column holds, eight to a table: 0 an f64, 1 a whole number, else the list of its words.
-const KINDS: [[u8; 8]; 15] = [
-    [0, 0, 0, 0, 0, 0, 0, 0], // road
-    [0, 0, 0, 0, 0, 15, 0, 0], // geom
-    [0, 0, 0, 0, 0, 0, 0, 0], // elev
-    [0, 0, 0, 0, 0, 0, 0, 0], // bank
-    [0, 0, 0, 0, 0, 0, 0, 0], // offset
-    [0, 0, 0, 0, 0, 0, 0, 0], // tshift
-    [0, 0, 0, 0, 0, 0, 0, 0], // section
-    [1, 1, 16, 17, 0, 0, 0, 0], // lane
-    [1, 1, 0, 0, 0, 0, 0, 0], // extent
-    [1, 1, 0, 0, 0, 0, 0, 0], // height
-    [0, 0, 0, 0, 0, 0, 0, 0], // profile
-    [1, 0, 0, 0, 0, 0, 0, 0], // shape
-    [18, 17, 17, 0, 0, 0, 0, 0], // strip
-    [18, 17, 19, 0, 0, 0, 0, 0], // cubic
-    [0, 0, 0, 0, 0, 0, 0, 0], // want
-];
+// What each column of a table holds: 0 an f64, 1 a whole number, else the list of its words. The other tables hold f64 alone.
+// Each table has a constant of its own, again a short one.
+const GEOM: [u8; 8] = [0, 0, 0, 0, 0, 15, 0, 0];
+
+const LANE: [u8; 8] = [1, 1, 16, 17, 0, 0, 0, 0];
+
+const EXTENT: [u8; 8] = [1, 1, 0, 0, 0, 0, 0, 0];
+
+const HEIGHT: [u8; 8] = [1, 1, 0, 0, 0, 0, 0, 0];
+
+const SHAPE: [u8; 8] = [1, 0, 0, 0, 0, 0, 0, 0];
+
+const STRIP: [u8; 8] = [18, 17, 17, 0, 0, 0, 0, 0];
+
+const CUBIC: [u8; 8] = [18, 17, 19, 0, 0, 0, 0, 0];
 
 // The name of a table as a number; 0, which no word is, past the last table.
 pub fn table_name(table: usize) -> u64
@@ -230,7 +231,10 @@ pub fn limit_of(table: usize) -> u16
 fn word_of(i: usize) -> u64
     ensures { λ r. ⌜ r ≡ wordOf i ⌝ }
 {
-    if i < 80 { WORDS[i] } else { 0 }
+    if i < 66 {
+        return COLUMNS[i];
+    }
+    if i < 80 { KEYWORDS[i - 66] } else { 0 }
 }
 
 // Where a list of words starts.
@@ -254,7 +258,16 @@ pub fn kind_of(table: usize, column: usize) -> u8
     if 8 <= column {
         return 0;
     }
-    if table < 15 { KINDS[table][column] } else { 0 }
+    match table {
+        1 => GEOM[column],
+        7 => LANE[column],
+        8 => EXTENT[column],
+        9 => HEIGHT[column],
+        11 => SHAPE[column],
+        12 => STRIP[column],
+        13 => CUBIC[column],
+        _ => 0,
+    }
 }
 
 // The place of a word in a list, the list's count where it is not there.

@@ -39,8 +39,11 @@ byte-at-requires-2 c κs = search needs
 digit-requires : tie.Need-digit-requires Inv-loop μ-loop
 digit-requires c κs = search needs
 
-add-t12 : tie.Need-add-t12 Inv-loop μ-loop
-add-t12 c = search needs
+cast-d : tie.Need-cast-d Inv-loop μ-loop
+cast-d c = search needs
+
+add-t13 : tie.Need-add-t13 Inv-loop μ-loop
+add-t13 c = search needs
 
 returns-2 : tie.Need-returns-2 Inv-loop μ-loop
 returns-2 c =
@@ -70,8 +73,8 @@ loop-again c =
       at .inv .3 ∙ decimal-next (a .text .now) (a .at) (at .n) (at .value) (c .before .before .byte-at2 .ensures) (c .before .digit .ensures) (c .before .before .before .loop-test .taken) (c .if2 .left),
     )
 
-add-t14 : tie.Need-add-t14 Inv-loop μ-loop
-add-t14 c = search needs
+add-t15 : tie.Need-add-t15 Inv-loop μ-loop
+add-t15 c = search needs
 
 returns-3 : tie.Need-returns-3 Inv-loop μ-loop
 returns-3 c =
@@ -91,12 +94,13 @@ natural-at-spec =
     add-byte-at
     byte-at-requires-2
     digit-requires
-    add-t12
+    cast-d
+    add-t13
     returns-2
     mul-value
     add-value
     add-n
     loop-less
     loop-again
-    add-t14
+    add-t15
     returns-3)

@@ -1,15 +1,17 @@
--- The invariant: the cells read on from cell i give the whole line. The byte that stops a cell stands in the text, so the place after it fits.
+-- The invariant: the cells read on from cell i give the whole line, and there is room for eight. The byte that stops a cell stands in the text, so the place after it fits.
 use mathlib.Core.Path.{_≡_, sym, _∙_}
+use mathlib.Core.Logic.{⊎-elim}
 use Prim.Native.Nat.{_≤_, _-_}
 use native.Mathlib.Omega.{arith}
 use Rattle.rows.specs.ValuesLine.{rowFrom, rowAt}
-use Rattle.rows.proofs.Rows.{row-is, row-end, row-broken, row-stop, row-next, stop-inside}
+use lib.ListN.{length}
+use Rattle.rows.proofs.Rows.{valued-past, row-is, row-end, row-broken, row-stop, row-next, stop-inside}
 use borrow.Author.Needs.{needs}
 use Rattle.rows.proofs.values_line.row_at.Statement.{statement}
 use Rattle.rows.proofs.values_line.row_at.Tie as tie
 
 abbrev Inv-loop : tie.InvT-loop
-Inv-loop text at table order n values₀ p₀ i₀ values p i = (i ≤ n) × (rowAt text at table order ≡ rowFrom (n - i) text p table order i values)
+Inv-loop text at table order n values₀ p₀ i₀ values p i = (i ≤ n) × (rowAt text at table order ≡ rowFrom (n - i) text p table order i values) × (length (values .of) ≡ 8)
 
 abbrev μ-loop : tie.MeasureT-loop
 μ-loop text at table order n values₀ p₀ i₀ values p i = n - i
@@ -24,7 +26,7 @@ no-cells-requires : tie.Need-no-cells-requires Inv-loop μ-loop
 no-cells-requires c κs = search needs
 
 loop-holds : tie.Need-loop-holds Inv-loop μ-loop
-loop-holds c = let a = c .before .before .before .args in (search needs, row-is (a .text .now) (a .at) (a .table) (a .order) (c .before .count-of .ensures) (c .no-cells .ensures))
+loop-holds c = let a = c .before .before .before .args in (search needs, row-is (a .text .now) (a .at) (a .table) (a .order) (c .before .count-of .ensures) (c .no-cells .ensures), rw (c .no-cells .ensures))
 
 column-of-requires : tie.Need-column-of-requires Inv-loop μ-loop
 column-of-requires c κs = search needs
@@ -69,8 +71,11 @@ returns-2 c =
     let a = c .before .before .before .before .before .before .before .before .before .before .before .before .before .before .before .args in let at = c .before .before .before .before .before .before .before .before .before .before .before .loop in
     c .no-row2 .ensures ∙ sym (at .inv .1 ∙ row-stop (a .text .now) (at .p) (a .table) (a .order) (at .i) _ (at .values) (c .before .before .before .before .before .before .before .before .before .column-of .ensures) (c .before .before .before .before .before .before .before .before .kind-of .ensures) (c .before .before .before .before .before .before .before .cell-at .ensures) (c .before .before .before .before .before .before .before .before .before .before .loop-test .taken) (c .before .before .before .before .before .cell .given .1) (c .before .before .before .byte-at .ensures) (c .before .before .stop-of .ensures) (c .before .if1 .taken))
 
-valued-requires : tie.Need-valued-requires Inv-loop μ-loop
-valued-requires c κs = search needs
+mul-values : tie.Need-mul-values Inv-loop μ-loop
+mul-values c = search needs
+
+element-write-values : tie.Need-element-write-values Inv-loop μ-loop
+element-write-values c = search needs
 
 add-p : tie.Need-add-p Inv-loop μ-loop
 add-p c = let h = stop-inside (c .before .before .before .before .before .before .before .before .before .before .before .before .before .before .before .args .text .now) _ _ (c .before .before .before .byte-at .ensures) (c .before .before .stop-of .ensures) (c .before .if1 .left) in record { fits = omega (arith, h) }
@@ -82,7 +87,8 @@ loop-again : tie.Need-loop-again Inv-loop μ-loop
 loop-again c =
     let a = c .before .before .before .before .before .before .before .before .before .before .before .before .before .before .before .args in let at = c .before .before .before .before .before .before .before .before .before .before .before .loop in (
       search needs,
-      at .inv .1 ∙ row-next (a .text .now) (at .p) (a .table) (a .order) (at .i) _ (at .values) (c .before .before .before .before .before .before .before .before .before .column-of .ensures) (c .before .before .before .before .before .before .before .before .kind-of .ensures) (c .before .before .before .before .before .before .before .cell-at .ensures) (c .before .before .before .before .before .before .before .before .before .before .loop-test .taken) (c .before .before .before .before .before .cell .given .1) (c .before .before .before .byte-at .ensures) (c .before .before .stop-of .ensures) (c .before .if1 .left) (c .valued .ensures),
+      at .inv .1 ∙ row-next (a .text .now) (at .p) (a .table) (a .order) (at .i) _ (at .values) (c .before .before .before .before .before .before .before .before .before .column-of .ensures) (c .before .before .before .before .before .before .before .before .kind-of .ensures) (c .before .before .before .before .before .before .before .cell-at .ensures) (c .before .before .before .before .before .before .before .before .before .before .loop-test .taken) (c .before .before .before .before .before .cell .given .1) (c .before .before .before .byte-at .ensures) (c .before .before .stop-of .ensures) (c .before .if1 .left) (⊎-elim (λ w. w .1) (λ w. w .1 ∙ sym (valued-past (at .values) _ _ (at .inv .2) (w .0 .left))) (c .if2 .came)),
+      ⊎-elim (λ w. rw (w .1) (search needs)) (λ w. rw (w .1) (at .inv .2)) (c .if2 .came),
     )
 
 returns-3 : tie.Need-returns-3 Inv-loop μ-loop
@@ -113,7 +119,8 @@ row-at-spec =
     stop-of-requires
     no-row-requires-2
     returns-2
-    valued-requires
+    mul-values
+    element-write-values
     add-p
     loop-less
     loop-again
