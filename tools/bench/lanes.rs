@@ -8,8 +8,8 @@ use comparison::riftkettle as ours;
 use std::hint::black_box;
 
 #[inline(never)]
-fn rust_cubic(list: &Records, i: usize, s: f64) -> (f64, f64) {
-    (list.eval(i, s), list.slope(i, s))
+fn rust_eval(list: &Records, i: usize, s: f64) -> f64 {
+    list.eval(i, s)
 }
 
 #[inline(never)]
@@ -40,18 +40,17 @@ pub fn cubics(rng: &mut Rng) {
         })
         .collect();
     let at = |i: usize| i as f64 + 0.7;
-    let sum = |(value, slope)| value + slope;
     let theirs = Records::new(&list);
     let times = compare(
         list.len(),
         || {
-            black_box(black_box(&list).iter().enumerate().map(|(i, c)| sum(inside::cubic(c, at(i)))).sum::<f64>());
+            black_box(black_box(&list).iter().enumerate().map(|(i, c)| inside::eval(c, at(i))).sum::<f64>());
         },
         || {
-            black_box((0..list.len()).map(|i| sum(rust_cubic(black_box(&theirs), i, at(i)))).sum::<f64>());
+            black_box((0..list.len()).map(|i| rust_eval(black_box(&theirs), i, at(i))).sum::<f64>());
         },
     );
-    row("`Cubic::eval` and `Cubic::slope` in one call", times);
+    row("`Cubic::eval`", times);
     for n in [4, 64] {
         let part: Vec<f64> = list[..n].iter().flat_map(|c| [c.start, c.a, c.b, c.c, c.d]).collect();
         let theirs = Records::new(&list[..n]);

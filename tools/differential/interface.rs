@@ -32,9 +32,8 @@ macro_rules! probe_functions {
     ($give:ident) => {
         $give! {
             probe_sin_cos: sin_cos(h: f64, sin: (mut f64), cos: (mut f64)) -> ();
-            probe_cubic: cubic(
-                start: f64, a: f64, b: f64, c: f64, d: f64, s: f64, value: (mut f64), slope: (mut f64)
-            ) -> ();
+            probe_eval: eval(start: f64, a: f64, b: f64, c: f64, d: f64, s: f64) -> f64;
+            probe_slope: slope(start: f64, a: f64, b: f64, c: f64, d: f64, s: f64) -> f64;
             probe_active: active(part: [f64], s: f64) -> usize;
             probe_across: across(
                 m: Road, s: f64, t: f64, toward: f64, section: usize, right: u32,

@@ -73,12 +73,12 @@ fn show(c: &Cubic) -> String {
 
 pub fn eval(rng: &mut Rng, tally: &mut Tally) {
     let (c, s) = cubic_and_place(rng);
-    tally.number(inside::cubic(&c, s).0, Records::new(&[c]).eval(0, s), || format!("{} at {}", show(&c), hex(&[s])));
+    tally.number(inside::eval(&c, s), Records::new(&[c]).eval(0, s), || format!("{} at {}", show(&c), hex(&[s])));
 }
 
 pub fn slope(rng: &mut Rng, tally: &mut Tally) {
     let (c, s) = cubic_and_place(rng);
-    tally.number(inside::cubic(&c, s).1, Records::new(&[c]).slope(0, s), || format!("{} at {}", show(&c), hex(&[s])));
+    tally.number(inside::slope(&c, s), Records::new(&[c]).slope(0, s), || format!("{} at {}", show(&c), hex(&[s])));
 }
 
 /// Starts around s: within nanometres of it, equal ones, in order or not, any bits.

@@ -13,11 +13,12 @@ pub fn sin_cos(h: f64) -> (f64, f64) {
     (sin, cos)
 }
 
-/// Value and slope.
-pub fn cubic(c: &Cubic, s: f64) -> (f64, f64) {
-    let (mut value, mut slope) = (1.5, 1.5);
-    c::cubic(c.start, c.a, c.b, c.c, c.d, s, &mut value, &mut slope);
-    (value, slope)
+pub fn eval(c: &Cubic, s: f64) -> f64 {
+    c::eval(c.start, c.a, c.b, c.c, c.d, s)
+}
+
+pub fn slope(c: &Cubic, s: f64) -> f64 {
+    c::slope(c.start, c.a, c.b, c.c, c.d, s)
 }
 
 /// The number of the active record of a part of `numbers`, five a record.

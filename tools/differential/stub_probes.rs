@@ -1,6 +1,6 @@
 // The stub's functions inside the library.
 use crate::Lent;
-use crate::stub_lanes::*;
+use crate::stub_lanes::{self, *};
 use comparison::answers;
 use comparison::model::*;
 use comparison::oracle::Oracle;
@@ -11,9 +11,12 @@ fn sin_cos(h: f64, sin: &mut f64, cos: &mut f64) {
     (*sin, *cos) = comparison::stand_ins::sin_cos(h);
 }
 
-fn cubic(start: f64, a: f64, b: f64, c: f64, d: f64, s: f64, to_value: &mut f64, to_slope: &mut f64) {
-    let cubic = Cubic { start, a, b, c, d };
-    (*to_value, *to_slope) = (eval(&cubic, s), slope(&cubic, s));
+fn eval(start: f64, a: f64, b: f64, c: f64, d: f64, s: f64) -> f64 {
+    stub_lanes::eval(&Cubic { start, a, b, c, d }, s)
+}
+
+fn slope(start: f64, a: f64, b: f64, c: f64, d: f64, s: f64) -> f64 {
+    stub_lanes::slope(&Cubic { start, a, b, c, d }, s)
 }
 
 fn active(part: &[f64], s: f64) -> usize {

@@ -7,12 +7,11 @@ mod memory;
 use libc::STDOUT_FILENO;
 
 fn main() {
-    let mut state = [1347u64, 7937, 8004, 0, 0, 0];
-    lists::run(&mut state);
-    io::print_decimal(STDOUT_FILENO, state[3]);
+    let end = lists::run();
+    io::print_decimal(STDOUT_FILENO, end.cases);
     io::write_all(STDOUT_FILENO, b" cases, ");
-    io::print_decimal(STDOUT_FILENO, state[4]);
+    io::print_decimal(STDOUT_FILENO, end.differ);
     io::write_all(STDOUT_FILENO, b" differ, ");
-    io::print_decimal(STDOUT_FILENO, state[5]);
+    io::print_decimal(STDOUT_FILENO, end.broken);
     io::write_all(STDOUT_FILENO, b" broken lines\n");
 }

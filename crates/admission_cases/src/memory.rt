@@ -90,3 +90,10 @@ pub(crate) fn sample_space() -> [f64; 8004]
 {
     [0.0; 8004]
 }
+
+// No whole number of lines, so that a list which is too long shows a broken line.
+pub(crate) fn text_space() -> [u8; 400000]
+    ensures { λ r. ⌜ 400000 ≡ length r ⌝ }
+{
+    [0; 400000]
+}

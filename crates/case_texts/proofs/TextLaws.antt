@@ -2,13 +2,13 @@
 use Prim.Native.Nat.{ℕ, _+_, _-_, _<_, _≤_, min}
 use mathlib.Core.Path.{_≡_, refl, sym, ap, _∙_}
 use mathlib.Core.Bool.{Bool, true, false}
-use mathlib.Core.List.{List, [], _++_}
+use mathlib.Core.List.{List, [], _++_, append-assoc}
 use native.Mathlib.Omega.{arith}
 use native.Mathlib.Numerals.{add-one}
 use borrow.Author.Tests.{leb-true, leb-false, eq-eqb, ne-eqb}
 use lib.Dec.{leb}
-use lib.ListN.{length, getD, set, take, drop, length-drop, drop-of-length-le}
-use lib.Seq.{paste, paste-suc, take-all, take-nil}
+use lib.ListN.{length, getD, set, take, drop, length-append, length-drop, drop-of-length-le}
+use lib.Seq.{paste, paste-zero, paste-suc, length-paste, take-paste, drop-paste, take-all, take-nil, take-append-le, take-append-add, drop-drop}
 use Rattle.case_texts.specs.Texts.{fitting, appended, heldThen, partOf, bytesOf, pieceOf}
 use Rattle.case_lines.specs.declared.lines.Line.{Line}
 
@@ -24,6 +24,78 @@ module _ (text : List ℕ) (held : ℕ) (piece : List ℕ) {n : ℕ} (e : n ≡ 
   pub appended-is : {after : List ℕ} → after ≡ paste text held piece n → after ≡ appended text held piece
   unfolding appended
   appended-is f = f ∙ ap (λ (k : ℕ). paste text held piece k) e
+
+-- one piece appended after another
+module _ (text : List ℕ) (held : ℕ) (p q : List ℕ) where
+  same-length : length (appended text held p) ≡ length text
+  unfolding appended
+  same-length = go (leb held (length text)) refl
+    where
+      go : (b : Bool) → leb held (length text) ≡ b → length (paste text held p (fitting text held p)) ≡ length text
+      go true h = let u = leb-true held (length text) h in length-paste text held p (fitting text held p) (omega arith) (omega arith)
+      go false h =
+          let u = leb-false held (length text) h in
+          let z : fitting text held p ≡ 0 = omega arith in
+          ap (λ (k : ℕ). length (paste text held p k)) z ∙ ap (λ (l : List ℕ). length l) (sym (paste-zero text held p))
+
+  held-twice : heldThen (appended text held p) (heldThen text held p) q ≡ heldThen text held (p ++ q)
+  unfolding heldThen
+  held-twice = let l = same-length in let m = length-append p q in omega arith
+
+  -- the first piece fits
+  whole : (n m k : ℕ) → held ≤ length text → n ≡ length p → k ≡ n + m → paste (paste text held p n) (held + n) q m ≡ paste text held (p ++ q) k
+  whole n m k h e f =
+      let t : List ℕ = paste text held p n in
+      let a : take (held + n) t ≡ take held text ++ p = take-paste text held p n h (omega arith) ∙ ap (λ (r : List ℕ). take held text ++ r) (take-all n p (omega arith)) in
+      let g : k ≡ length p + m = omega arith in
+      let b : take k (p ++ q) ≡ p ++ take m q = ap (λ (j : ℕ). take j (p ++ q)) g ∙ take-append-add p q m in
+      let i : held + n + m ≡ held + k = omega arith in
+      let d : drop (held + n + m) t ≡ drop (held + k) text =
+      sym (drop-drop m (held + n) t) ∙ ap (λ (l : List ℕ). drop m l) (drop-paste text held p n h (omega arith)) ∙ drop-drop m (held + n) text
+      ∙ ap (λ (j : ℕ). drop j text) i in
+      let c : take (held + n) t ++ take m q ≡ take held text ++ take k (p ++ q) =
+      ap (λ (l : List ℕ). l ++ take m q) a ∙ append-assoc (take held text) p (take m q) ∙ ap (λ (r : List ℕ). take held text ++ r) (sym b) in
+      ap (λ (l : List ℕ). l ++ drop (held + n + m) t) c ∙ ap (λ (r : List ℕ). take held text ++ take k (p ++ q) ++ r) d
+
+  -- the text is full after the first piece
+  part : (n m k : ℕ) → n ≤ length p → m ≡ 0 → k ≡ n → paste (paste text held p n) (held + n) q m ≡ paste text held (p ++ q) k
+  part n m k h e f =
+      ap (λ (j : ℕ). paste (paste text held p n) (held + n) q j) e ∙ sym (paste-zero (paste text held p n) (held + n) q)
+      ∙ ap (λ (l : List ℕ). take held text ++ l ++ drop (held + n) text) (sym (take-append-le n p q h)) ∙ ap (λ (j : ℕ). paste text held (p ++ q) j) (sym f)
+
+  appended-twice : appended (appended text held p) (heldThen text held p) q ≡ appended text held (p ++ q)
+  unfolding appended heldThen
+  appended-twice = go (leb held (length text)) (leb (length p) (length text - held)) refl refl
+    where
+      l : length (paste text held p (fitting text held p)) ≡ length text
+      l = same-length
+
+      go : (a b : Bool) → leb held (length text) ≡ a → leb (length p) (length text - held) ≡ b
+          → paste (paste text held p (fitting text held p)) (held + fitting text held p) q (fitting (paste text held p (fitting text held p)) (held + fitting text held p) q)
+          ≡ paste text held (p ++ q) (fitting text held (p ++ q))
+      go true true h k =
+          let u = leb-true held (length text) h in
+          let v = leb-true (length p) (length text - held) k in
+          let x = l in
+          let y = length-append p q in
+          whole (fitting text held p) (fitting (paste text held p (fitting text held p)) (held + fitting text held p) q) (fitting text held (p ++ q)) u (omega arith) (omega arith)
+      go true false h k =
+          let v = leb-false (length p) (length text - held) k in
+          let x = l in
+          let y = length-append p q in
+          part (fitting text held p) (fitting (paste text held p (fitting text held p)) (held + fitting text held p) q) (fitting text held (p ++ q)) (omega arith) (omega arith) (omega arith)
+      go false b h k =
+          let u = leb-false held (length text) h in
+          let x = l in
+          let y = length-append p q in
+          part (fitting text held p) (fitting (paste text held p (fitting text held p)) (held + fitting text held p) q) (fitting text held (p ++ q)) (omega arith) (omega arith) (omega arith)
+
+  module _ {then : ℕ} {t : List ℕ} (e : then ≡ heldThen text held p) (f : t ≡ appended text held p) where
+    pub both-held : {r : ℕ} → r ≡ heldThen t then q → r ≡ heldThen text held (p ++ q)
+    both-held g = g ∙ ap (λ (l : List ℕ). heldThen l then q) f ∙ ap (λ (k : ℕ). heldThen (appended text held p) k q) e ∙ held-twice
+
+    pub both-appended : {after : List ℕ} → after ≡ appended t then q → after ≡ appended text held (p ++ q)
+    both-appended g = g ∙ ap (λ (l : List ℕ). appended l then q) f ∙ ap (λ (k : ℕ). appended (appended text held p) k q) e ∙ appended-twice
 
 -- the part that there is of a list, cut to the list's length
 pub part-is : (l : List ℕ) (first last e s : ℕ) → e ≡ min last (length l) → s ≡ min first e → take (e - s) (drop s l) ≡ partOf l first last

@@ -1,6 +1,5 @@
 // A text that is put together in a slice: it fills the first `held` bytes, and a piece is appended to it. What does not fit is left off.
 ghost use mathlib.Core.Path.{_≡_};
-ghost use mathlib.Core.List.{_++_};
 ghost use Prim.Native.Nat.{_+_, _-_, _≤_, min};
 ghost use lib.ListN.{length, take, drop};
 ghost use lib.Seq.{paste};
@@ -66,38 +65,6 @@ fn bytes_of(word: u64) -> [u8; 8]
     ]
 }
 
-fn both_of(a: u64, b: u64) -> [u8; 16]
-    ensures { λ r. ⌜ r ≡ bytesOf a ++ bytesOf b ⌝ }
-{
-    [
-        (a / 0x100_0000_0000_0000) as u8,
-        (a / 0x1_0000_0000_0000 % 256) as u8,
-        (a / 0x100_0000_0000 % 256) as u8,
-        (a / 0x1_0000_0000 % 256) as u8,
-        (a / 0x100_0000 % 256) as u8,
-        (a / 0x1_0000 % 256) as u8,
-        (a / 256 % 256) as u8,
-        (a % 256) as u8,
-        (b / 0x100_0000_0000_0000) as u8,
-        (b / 0x1_0000_0000_0000 % 256) as u8,
-        (b / 0x100_0000_0000 % 256) as u8,
-        (b / 0x1_0000_0000 % 256) as u8,
-        (b / 0x100_0000 % 256) as u8,
-        (b / 0x1_0000 % 256) as u8,
-        (b / 256 % 256) as u8,
-        (b % 256) as u8,
-    ]
-}
-
-// The sixteen bytes of two words.
-fn append_both(text: &mut [u8], held: usize, a: u64, b: u64) -> usize
-    ensures { λ r. ⌜ r ≡ heldThen (now (text .entry)) held (bytesOf a ++ bytesOf b) ⌝ }
-    ensures { λ _. ⌜ now (text .exit) ≡ appended (now (text .entry)) held (bytesOf a ++ bytesOf b) ⌝ }
-{
-    let bytes = both_of(a, b);
-    append(text, held, &bytes)
-}
-
 // The low k of a word's eight bytes, the most significant of them first; all eight where k is more.
 fn append_word(text: &mut [u8], held: usize, k: usize, word: u64) -> usize
     ensures { λ r. ⌜ r ≡ heldThen (now (text .entry)) held (drop (8 - k) (bytesOf word)) ⌝ }
@@ -116,7 +83,8 @@ pub fn extend(line: Line, text: &mut [u8], held: usize, base: &[u8]) -> usize
 {
     let letter = line.letter;
     if letter == b't' {
-        return append_both(text, held, line.a, line.b);
+        let then = append_word(text, held, 8, line.a);
+        return append_word(text, then, 8, line.b);
     }
     if letter == b'x' {
         return append_word(text, held, line.a as usize, line.b);

@@ -6,22 +6,19 @@ ghost use Rattle.cubics.specs.Cubics.{evalAt, slopeAt, cubicsOf};
 ghost use Rattle.records.specs.Active.{activeIn, foundOf};
 
 #[no_mangle]
-pub extern "C" fn probe_cubic(
-    start: f64,
-    a: f64,
-    b: f64,
-    c: f64,
-    d: f64,
-    s: f64,
-    value: &mut f64,
-    slope: &mut f64,
-)
-    ensures { λ _. ⌜ now (value .exit) ≡ evalAt (record { start = start; a = a; b = b; c = c; d = d }) s ⌝ }
-    ensures { λ _. ⌜ now (slope .exit) ≡ slopeAt (record { start = start; a = a; b = b; c = c; d = d }) s ⌝ }
+pub extern "C" fn probe_eval(start: f64, a: f64, b: f64, c: f64, d: f64, s: f64) -> f64
+    ensures { λ r. ⌜ r ≡ evalAt (record { start = start; a = a; b = b; c = c; d = d }) s ⌝ }
 {
     let cubic = Cubic { start, a, b, c, d };
-    *value = cubic.eval(s);
-    *slope = cubic.slope(s);
+    cubic.eval(s)
+}
+
+#[no_mangle]
+pub extern "C" fn probe_slope(start: f64, a: f64, b: f64, c: f64, d: f64, s: f64) -> f64
+    ensures { λ r. ⌜ r ≡ slopeAt (record { start = start; a = a; b = b; c = c; d = d }) s ⌝ }
+{
+    let cubic = Cubic { start, a, b, c, d };
+    cubic.slope(s)
 }
 
 // The place of the active cubic and one, or 0.

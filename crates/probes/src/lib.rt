@@ -9,4 +9,5 @@ pub use across::probe_lane;
 pub use along::probe_pose;
 pub use angles::probe_sin_cos;
 pub use curves::probe_active;
-pub use curves::probe_cubic;
+pub use curves::probe_eval;
+pub use curves::probe_slope;
