@@ -1,9 +1,8 @@
 // The active record: the last whose start is at most s + 1e-9. Scanned from the end, since the one wanted is mostly the last or near it.
 use cubics::cubic_at;
-use lent::number;
 use records::Found;
 ghost use mathlib.Core.Path.{_≡_};
-ghost use Prim.Native.Nat.{ℕ, _+_, _*_, _<_};
+ghost use Prim.Native.Nat.{ℕ, _+_, _-_, _*_, _<_};
 ghost use lib.ListN.{getD, length};
 ghost use lib.Ieee.{nan};
 ghost use Rattle.cubics.specs.Cubics.{cubicsOf};
@@ -20,15 +19,15 @@ pub fn found_of(reach: usize) -> Found
     }
 }
 
-// Of count starts, stride places apart from base on, one more than the place of the last that is at most the limit; 0 where none is.
+// Of count starts, stride places apart from base on, one more than the place of the last that is at most the limit; 0 where none is. The slice holds them all, so a turn has one test.
 pub(crate) fn reach(numbers: &[f64], base: usize, stride: usize, count: usize, limit: f64) -> usize
-    requires { ⌜ (base < 65536) × (stride < 16) × (count < 1152921504606846976) ⌝ }
+    requires { ⌜ (0 < count → base + (count - 1) * stride < length (now numbers)) ⌝ }
     ensures { λ r. ⌜ foundOf r ≡ lastStart (λ (i : ℕ). getD (now (numbers .entry)) (base + i * stride) nan) limit count ⌝ }
 {
     let mut i = count;
     while 0 < i {
         let j = i - 1;
-        if number(numbers, base + j * stride) <= limit {
+        if numbers[base + j * stride] <= limit {
             return i;
         }
         i = j;
