@@ -14,7 +14,7 @@ ghost use Rattle.records.specs.Roads.{roadOf, profileAt, geomIndex, sectionInde
 pub fn geom_at(words: &[u16], numbers: &[f64], s: f64) -> usize
     ensures { λ r. ⌜ r ≡ geomIndex (roadOf (now (words .entry)) (now (numbers .entry))) s ⌝ }
 {
-    less_one(held_reach(numbers, 1, 7, word(words, 0), s + 1e-9))
+    started(numbers, 1, 7, word(words, 0), s + 1e-9)
 }
 
 // How many of count places, stride apart from base on, lie below len: all, unless the slice ends before the table does.
@@ -49,10 +49,19 @@ fn held_reach(numbers: &[f64], base: usize, stride: usize, count: usize, limit: 
     )
 }
 
-fn less_one(n: usize) -> usize
-    ensures { λ r. ⌜ r ≡ orFirst (foundOf n) ⌝ }
+// The place itself, the first where none has started.
+fn started(numbers: &[f64], base: usize, stride: usize, count: usize, limit: f64) -> usize
+    requires { ⌜ (base < 65536) × (stride < 16) × (count < 65536) ⌝ }
+    ensures { λ r. ⌜ r ≡ orFirst (lastStart (λ (i : ℕ). getD (now (numbers .entry)) (base + i * stride) nan) limit count) ⌝ }
 {
-    if n == 0 { 0 } else { n - 1 }
+    let mut i = held(numbers.len(), base, stride, count);
+    while 0 < i {
+        i -= 1;
+        if numbers[base + i * stride] <= limit {
+            return i;
+        }
+    }
+    0
 }
 
 // ---- sections and profiles
@@ -60,7 +69,7 @@ fn less_one(n: usize) -> usize
 pub fn section_at(words: &[u16], numbers: &[f64], s: f64) -> usize
     ensures { λ r. ⌜ r ≡ sectionIndex (roadOf (now (words .entry)) (now (numbers .entry))) s ⌝ }
 {
-    less_one(held_reach(numbers, 1729, 1, word(words, 5), s + 1e-9))
+    started(numbers, 1729, 1, word(words, 5), s + 1e-9)
 }
 
 // The last profile that stands at or before s + 1e-9.

@@ -1,13 +1,13 @@
 -- `reach`: the starts from i on are all past the limit, so those below i decide. A turn looks at start i - 1, and returns at the first that is not past it.
 use Prim.Native.Nat.{ℕ, _≤_, _<_, _+_, _-_, _*_, _^_}
 use native.Mathlib.Omega.{arith}
-use native.Mathlib.Nat.{mul-le-mul-right}
 use mathlib.Core.Path.{_≡_, refl, _∙_, sym, ap}
 use lib.ListN.{getD, length}
 use lib.Ieee.{Float, nan, le}
 use borrow.Author.Needs.{needs}
 use Rattle.records.specs.Active.{lastStart, foundOf}
 use Rattle.records.proofs.ScanLaws.{scan-none, scan-hit, scan-miss}
+use Rattle.stations.proofs.PastEnd.{place-within}
 use Rattle.stations.proofs.scan.reach.Statement.{statement}
 use Rattle.stations.proofs.scan.reach.Tie as tie
 
@@ -17,12 +17,6 @@ Inv-loop numbers base stride count limit i₀ i =
 
 abbrev μ-loop : tie.MeasureT-loop
 μ-loop numbers base stride count limit i₀ i = i
-
--- a place of the table is at most its last
-place-within : (j count stride base len : ℕ) → j ≤ count - 1 → base + (count - 1) * stride < len → base + j * stride < len
-place-within j count stride base len h k =
-    let a = mul-le-mul-right stride h in
-    omega arith
 
 zero-is : (i : ℕ) → i ≤ 0 → 0 ≡ i
 zero-is i h = omega arith
@@ -61,7 +55,7 @@ returns : tie.Need-returns Inv-loop μ-loop
 returns c =
     let a = c .before .before .before .before .args in
     let at = c .before .before .before .loop in
-    scan-hit (λ (k : ℕ). getD (a .numbers .now) (a .base + k * a .stride) nan) (a .limit) (at .i) (omega arith) (c .if1 .taken) ∙ at .inv .1
+    (scan-hit (λ (k : ℕ). getD (a .numbers .now) (a .base + k * a .stride) nan) (a .limit) (at .i) (omega arith) (c .if1 .taken) ∙ at .inv .1, at .inv .0)
 
 loop-less : tie.Need-loop-less Inv-loop μ-loop
 loop-less c = search needs
@@ -78,7 +72,7 @@ returns-2 : tie.Need-returns-2 Inv-loop μ-loop
 returns-2 c =
     let a = c .before .before .args in
     let at = c .before .loop in
-    ap foundOf (zero-is (at .i) (omega arith)) ∙ scan-none (λ (k : ℕ). getD (a .numbers .now) (a .base + k * a .stride) nan) (a .limit) (at .i) (omega arith) ∙ at .inv .1
+    (ap foundOf (zero-is (at .i) (omega arith)) ∙ scan-none (λ (k : ℕ). getD (a .numbers .now) (a .base + k * a .stride) nan) (a .limit) (at .i) (omega arith) ∙ at .inv .1, omega arith)
 
 pub reach-spec : {M : Type 1} → statement M
 reach-spec =
