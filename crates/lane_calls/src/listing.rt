@@ -26,10 +26,11 @@ fn list_at(words: &[u16], numbers: &[f64], s: f64, list: &mut [f64]) -> Bordered
         return Bordered::Refused(Refusal::Station);
     }
     let section = section_at(words, numbers, s);
+    let lanes = section_lanes(words, numbers, section);
     if !list_borders(words, numbers, section, s, list) {
         return Bordered::Refused(Refusal::BorderSpace);
     }
-    Bordered::Lanes(section_lanes(words, numbers, section))
+    Bordered::Lanes(lanes)
 }
 
 // Writes the borders at s of the section's lanes, left outward, then right; rows 3, 4, 5, 7 and 11. The rest of the list, and all of it on a refusal, stays as it was.

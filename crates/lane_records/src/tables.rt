@@ -5,12 +5,22 @@ use lent::word;
 use records::Found;
 use records::HeightDef;
 ghost use mathlib.Core.Path.{_≡_};
-ghost use Prim.Native.Nat.{ℕ, _<_};
+ghost use Prim.Native.Nat.{ℕ, _+_, _*_, _<_};
+ghost use mathlib.Core.Bool.{cond};
 ghost use mathlib.Core.List.{List};
+ghost use lib.ListN.{length};
 ghost use lib.Ieee.{Float};
 ghost use Rattle.records.specs.declared.points.Found.the-variants.{At};
+ghost use Rattle.lent.specs.Lists.{span};
 ghost use Rattle.cubics.specs.Cubics.{cubicsOf};
-ghost use Rattle.records.specs.Roads.{roadOf, laneBy, heightDefAt, heightsOf, laneOf};
+ghost use Rattle.records.specs.Roads.{roadOf, sectionOf, laneIn, laneBy, heightDefAt, heightsOf, laneOf};
+
+// Whether a lane has borders in place of widths, and where they stand in the numbers: the first place, and how many.
+pub struct LaneExtent {
+    pub border: bool,
+    pub start: u32,
+    pub count: u16,
+}
 
 // The line of the lane table that has the k-th lane of a section's side.
 fn lane_line(words: &[u16], section: usize, right: bool, k: usize) -> Found
@@ -32,6 +42,43 @@ fn lane_line(words: &[u16], section: usize, right: bool, k: usize) -> Found
         return Found::At(first + k);
     }
     Found::Nothing
+}
+
+// The line of the lane table where a side's lanes begin, for callers that go over them all.
+pub fn side_line(words: &[u16], section: usize, right: bool) -> usize
+    ensures { λ r. ⌜ ((numbers : List Float) (k : ℕ) → k < length (cond right (sectionOf (roadOf (now (words .entry)) numbers) section .right) (sectionOf (roadOf (now (words .entry)) numbers) section .left)) → laneOf (roadOf (now (words .entry)) numbers) section right k ≡ laneIn (now (words .entry)) numbers (r + k)) ⌝ }
+    ensures small { λ r. ⌜ r < 131072 ⌝ }
+{
+    if word(words, 5) <= section {
+        return 0;
+    }
+    let start = word(words, 71 + section * 3);
+    if right {
+        start + word(words, 72 + section * 3)
+    } else {
+        start
+    }
+}
+
+// What a line says of its lane's widths or borders. A line that the words cut short has none.
+pub fn line_extent(words: &[u16], line: u32) -> LaneExtent
+    ensures { λ r. ⌜ ((numbers : List Float) → r .border ≡ laneIn (now (words .entry)) numbers line .border) ⌝ }
+    ensures { λ r. ⌜ ((numbers : List Float) → cubicsOf (span numbers (r .start) (r .count * 5)) ≡ laneIn (now (words .entry)) numbers line .extents) ⌝ }
+{
+    let at = 119 + line as usize * 6;
+    if at + 3 < words.len() {
+        LaneExtent {
+            border: words[at] == 1,
+            start: 1745 + words[at + 2] as u32 * 5,
+            count: words[at + 3],
+        }
+    } else {
+        LaneExtent {
+            border: word(words, at) == 1,
+            start: 0,
+            count: 0,
+        }
+    }
 }
 
 // Whether the lane has borders in place of widths.

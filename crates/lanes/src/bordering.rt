@@ -3,6 +3,8 @@ use crate::across::LaneBorders;
 use cubics::cubic_at;
 use lane_records::extents;
 use lane_records::lane_is_border;
+use lane_records::line_extent;
+use lent::part;
 use records::Found;
 use records::offsets;
 use section_records::left_count;
@@ -10,12 +12,13 @@ use section_records::right_count;
 use section_records::section_start;
 use stations::active;
 use stations::value;
+use stations::value_from;
 ghost use mathlib.Core.Path.{_≡_};
 ghost use Prim.Native.Nat.{_<_};
 ghost use lib.ListN.{length};
 ghost use Rattle.cubics.specs.Cubics.{cubicsOf};
 ghost use Rattle.records.specs.Active.{activeIn};
-ghost use Rattle.records.specs.Roads.{Lane, roadOf, laneOf};
+ghost use Rattle.records.specs.Roads.{Lane, roadOf, laneIn, laneOf};
 ghost use Rattle.lateral.specs.Lateral.{notBelowZero};
 ghost use Rattle.lanes.specs.Borders.{signOf, borderWidth, widthOf, outerAfter, bordersFrom, baseAt, sideOf, lanesOf, bordersOf};
 
@@ -88,6 +91,19 @@ fn lane_width(
         not_below_zero(border_width(part, sign_of(right), inner, s))
     } else {
         not_below_zero(value(part, s))
+    }
+}
+
+// The width of the lane that a line of the lane table has, s metres into its section, for callers that go over a side's lines.
+pub fn line_width(words: &[u16], numbers: &[f64], line: u32, s: f64, right: bool, inner: f64) -> f64
+    ensures { λ r. ⌜ r ≡ widthOf (laneIn (now (words .entry)) (now (numbers .entry)) line) (signOf right) inner s ⌝ }
+{
+    let e = line_extent(words, line);
+    if e.border {
+        let borders = part(numbers, e.start as usize, e.count as usize * 5);
+        not_below_zero(border_width(borders, sign_of(right), inner, s))
+    } else {
+        not_below_zero(value_from(numbers, e.start, e.count, s))
     }
 }
 

@@ -4,8 +4,9 @@ use crate::scan::reach;
 use lent::word;
 use records::Found;
 ghost use mathlib.Core.Path.{_≡_};
-ghost use Prim.Native.Nat.{ℕ};
-ghost use lib.ListN.{length};
+ghost use Prim.Native.Nat.{ℕ, _+_, _-_, _*_, _<_, _≤_};
+ghost use lib.ListN.{getD, length};
+ghost use lib.Ieee.{nan};
 ghost use Rattle.records.specs.Active.{foundOf, lastStart, orFirst, reached};
 ghost use Rattle.records.specs.Roads.{roadOf, profileAt, geomIndex, sectionIndex};
 
@@ -13,13 +14,54 @@ ghost use Rattle.records.specs.Roads.{roadOf, profileAt, geomIndex, sectionInde
 pub fn geom_at(words: &[u16], numbers: &[f64], s: f64) -> usize
     ensures { λ r. ⌜ r ≡ geomIndex (roadOf (now (words .entry)) (now (numbers .entry))) s ⌝ }
 {
-    less_one(reach(numbers, 1, 7, word(words, 0), s + 1e-9))
+    started(numbers, 1, 7, word(words, 0), s + 1e-9)
 }
 
-fn less_one(n: usize) -> usize
-    ensures { λ r. ⌜ r ≡ orFirst (foundOf n) ⌝ }
+// How many of count places, stride apart from base on, lie below len: all, unless the slice ends before the table does.
+fn held(len: usize, base: usize, stride: usize, count: usize) -> usize
+    requires { ⌜ (base < 65536) × (stride < 16) × (count < 65536) ⌝ }
+    ensures { λ r. ⌜ r ≤ count ⌝ }
+    ensures inside { λ r. ⌜ (0 < r → base + (r - 1) * stride < len) ⌝ }
+    ensures past { λ r. ⌜ ((i : ℕ) → r ≤ i → i < count → len ≤ base + i * stride) ⌝ }
 {
-    if n == 0 { 0 } else { n - 1 }
+    let mut n = count;
+    while 0 < n {
+        let j = n - 1;
+        if base + j * stride < len {
+            return n;
+        }
+        n = j;
+    }
+    0
+}
+
+// `reach` for a table that the slice may cut short: what is not there has not started.
+fn held_reach(numbers: &[f64], base: usize, stride: usize, count: usize, limit: f64) -> usize
+    requires { ⌜ (base < 65536) × (stride < 16) × (count < 65536) ⌝ }
+    ensures { λ r. ⌜ foundOf r ≡ lastStart (λ (i : ℕ). getD (now (numbers .entry)) (base + i * stride) nan) limit count ⌝ }
+{
+    reach(
+        numbers,
+        base,
+        stride,
+        held(numbers.len(), base, stride, count),
+        limit,
+    )
+}
+
+// The place itself, the first where none has started.
+fn started(numbers: &[f64], base: usize, stride: usize, count: usize, limit: f64) -> usize
+    requires { ⌜ (base < 65536) × (stride < 16) × (count < 65536) ⌝ }
+    ensures { λ r. ⌜ r ≡ orFirst (lastStart (λ (i : ℕ). getD (now (numbers .entry)) (base + i * stride) nan) limit count) ⌝ }
+{
+    let mut i = held(numbers.len(), base, stride, count);
+    while 0 < i {
+        i -= 1;
+        if numbers[base + i * stride] <= limit {
+            return i;
+        }
+    }
+    0
 }
 
 // ---- sections and profiles
@@ -27,12 +69,12 @@ fn less_one(n: usize) -> usize
 pub fn section_at(words: &[u16], numbers: &[f64], s: f64) -> usize
     ensures { λ r. ⌜ r ≡ sectionIndex (roadOf (now (words .entry)) (now (numbers .entry))) s ⌝ }
 {
-    less_one(reach(numbers, 1729, 1, word(words, 5), s + 1e-9))
+    started(numbers, 1729, 1, word(words, 5), s + 1e-9)
 }
 
 // The last profile that stands at or before s + 1e-9.
 pub fn profile_at(words: &[u16], numbers: &[f64], s: f64) -> Found
     ensures { λ r. ⌜ r ≡ lastStart (λ (i : ℕ). profileAt (roadOf (now (words .entry)) (now (numbers .entry))) i .s) (reached s) (length (roadOf (now (words .entry)) (now (numbers .entry)) .profiles)) ⌝ }
 {
-    found_of(reach(numbers, 5841, 1, word(words, 6), s + 1e-9))
+    found_of(held_reach(numbers, 5841, 1, word(words, 6), s + 1e-9))
 }

@@ -10,3 +10,4 @@ pub use scan::active_height;
 pub use scan::found_of;
 pub use scan::slope;
 pub use scan::value;
+pub use scan::value_from;

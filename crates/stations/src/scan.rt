@@ -1,11 +1,13 @@
 // The active record: the last whose start is at most s + 1e-9. Scanned from the end, since the one wanted is mostly the last or near it.
+use cubics::Cubic;
 use cubics::cubic_at;
-use lent::number;
+use lent::part;
 use records::Found;
 ghost use mathlib.Core.Path.{_≡_};
-ghost use Prim.Native.Nat.{ℕ, _+_, _*_, _<_};
+ghost use Prim.Native.Nat.{ℕ, _+_, _-_, _*_, _<_, _≤_};
 ghost use lib.ListN.{getD, length};
 ghost use lib.Ieee.{nan};
+ghost use Rattle.lent.specs.Lists.{span};
 ghost use Rattle.cubics.specs.Cubics.{cubicsOf};
 ghost use Rattle.records.specs.Roads.{heightsOf, heightDefAt};
 ghost use Rattle.records.specs.Active.{lastStart, foundOf, activeIn, valueIn, slopeIn, reached};
@@ -20,15 +22,16 @@ pub fn found_of(reach: usize) -> Found
     }
 }
 
-// Of count starts, stride places apart from base on, one more than the place of the last that is at most the limit; 0 where none is.
+// Of count starts, stride places apart from base on, one more than the place of the last that is at most the limit; 0 where none is. The slice holds them all, so a turn has one test.
 pub(crate) fn reach(numbers: &[f64], base: usize, stride: usize, count: usize, limit: f64) -> usize
-    requires { ⌜ (base < 65536) × (stride < 16) × (count < 1152921504606846976) ⌝ }
+    requires { ⌜ (0 < count → base + (count - 1) * stride < length (now numbers)) ⌝ }
     ensures { λ r. ⌜ foundOf r ≡ lastStart (λ (i : ℕ). getD (now (numbers .entry)) (base + i * stride) nan) limit count ⌝ }
+    ensures small { λ r. ⌜ r ≤ count ⌝ }
 {
     let mut i = count;
     while 0 < i {
         let j = i - 1;
-        if number(numbers, base + j * stride) <= limit {
+        if numbers[base + j * stride] <= limit {
             return i;
         }
         i = j;
@@ -61,6 +64,30 @@ pub fn value(part: &[f64], s: f64) -> f64
         }
         Found::Nothing => 0.0,
     }
+}
+
+// The value at s of the active one of count cubics from a place on, 0 where none is. Where the slice has them all they are read in place.
+pub fn value_from(numbers: &[f64], start: u32, count: u16, s: f64) -> f64
+    ensures { λ r. ⌜ r ≡ valueIn (cubicsOf (span (now (numbers .entry)) start (count * 5))) s ⌝ }
+{
+    let first = start as usize;
+    let n = count as usize;
+    if numbers.len() < first + n * 5 {
+        return value(part(numbers, first, n * 5), s);
+    }
+    let i = reach(numbers, first, 5, n, s + 1e-9);
+    if i == 0 {
+        return 0.0;
+    }
+    let k = first + (i - 1) * 5;
+    let found = Cubic {
+        start: numbers[k],
+        a: numbers[k + 1],
+        b: numbers[k + 2],
+        c: numbers[k + 3],
+        d: numbers[k + 4],
+    };
+    found.eval(s)
 }
 
 // Its slope at s, 0 where none is.

@@ -11,14 +11,14 @@ section-start-requires c κs = search needs
 base-at-requires : tie.Need-base-at-requires
 base-at-requires c κs = search needs
 
-lane-count-requires : tie.Need-lane-count-requires
-lane-count-requires c κs = search needs
-
-lane-count-requires-2 : tie.Need-lane-count-requires-2
-lane-count-requires-2 c κs = search needs
+sign-of-requires : tie.Need-sign-of-requires
+sign-of-requires c κs = search needs
 
 write-side-requires : tie.Need-write-side-requires
 write-side-requires c κs = search needs
+
+sign-of-requires-2 : tie.Need-sign-of-requires-2
+sign-of-requires-2 c κs = search needs
 
 mul-write-side : tie.Need-mul-write-side
 mul-write-side c = search needs
@@ -31,11 +31,15 @@ same-length c = search needs
 
 returns : tie.Need-returns
 returns c =
-    let d = c .before .before .before .before .before .before .before .before in
-    let a = d .before .before .before .before .before .before .before .args in
+    let second = c .before .before in
+    let first = second .before .before .before .before .before in
+    let d = first .before .before .before in
+    let begun = d .before .before .before .before .before in
+    let a = begun .args in
+    let counts = begun .pre .0 in
     borders-written (roadOf (a .words .now) (a .numbers .now)) (a .section) (a .s) (a .list .now) _ _
-    (d .before .before .before .section-start .ensures) (d .before .before .base-at .ensures) (d .before .lane-count .ensures .0) (d .lane-count2 .ensures .0)
-    (c .before .before .before .before .before .before .write-side .ensures) (c .before .before .write-side2 .ensures)
+    (d .before .section-start .ensures) (d .base-at .ensures) (counts .0) (counts .1)
+    (first .write-side .ensures) (second .write-side2 .ensures)
 
 pub write-borders-spec : {M : Type 1} → statement M
 write-borders-spec =
@@ -43,9 +47,9 @@ write-borders-spec =
     (tie.spec
     section-start-requires
     base-at-requires
-    lane-count-requires
-    lane-count-requires-2
+    sign-of-requires
     write-side-requires
+    sign-of-requires-2
     mul-write-side
     write-side-requires-2
     same-length

@@ -4,26 +4,38 @@ use mathlib.Core.List.{_++_}
 use Prim.Native.Nat.{_≤_, _+_, _-_, _*_}
 use native.Mathlib.Omega.{arith}
 use lib.ListN.{length, take, drop, length-set}
-use Rattle.records.specs.Roads.{roadOf}
-use Rattle.lanes.specs.Borders.{signOf, sideOf, outerAfter, bordersAt, sideList}
+use lib.Ieee.{Float}
+use Rattle.float_laws.specs.Binary64.{_⊕_, _⊗_}
+use Rattle.records.specs.Roads.{Lane, roadOf}
+use Rattle.lanes.specs.declared.across.LaneBorders.{LaneBorders}
+use Rattle.lanes.specs.Borders.{signOf, widthOf, sideOf, outerAfter, bordersFrom, bordersAt, sideList}
 use Rattle.lanes.proofs.BorderSteps.{outer-none, outer-turn, borders-turn, side-none, side-turn}
 use borrow.Author.Needs.{needs}
 use Rattle.border_lists.proofs.filling.write_side.Statement.{statement}
 use Rattle.border_lists.proofs.filling.write_side.Tie as tie
 
 abbrev Inv-loop : tie.InvT-loop
-Inv-loop words numbers section s right base list₀ first n inner₀ k₀ list inner k =
+Inv-loop words numbers section s right sign base list₀ first n line inner₀ k₀ list inner k =
     (k ≤ n)
     × (length list ≡ length list₀)
     × (inner ≡ outerAfter (sideOf (roadOf words numbers) section right) (signOf right) base s k)
     × (list ≡ (take first list₀ ++ sideList (bordersAt (sideOf (roadOf words numbers) section right) (signOf right) base s) k) ++ drop (first + k * 3) list₀)
 
 abbrev μ-loop : tie.MeasureT-loop
-μ-loop words numbers section s right base list₀ first n inner₀ k₀ list inner k = n - k
+μ-loop words numbers section s right sign base list₀ first n line inner₀ k₀ list inner k = n - k
+
+-- a lane's three numbers, by the line that has it
+borders-made :
+    (lane other : Lane) (sign t s : Float) {g w : Float} → g ≡ sign → lane ≡ other → w ≡ widthOf other sign t s
+    → _≡_ {A = LaneBorders} (record { inner = t; outer = t ⊕ g ⊗ w; width = w }) (bordersFrom lane sign t s)
+borders-made lane other sign t s e f h = rw (e, f, h)
+
+side-line-requires : tie.Need-side-line-requires Inv-loop μ-loop
+side-line-requires c κs = search needs
 
 loop-holds : tie.Need-loop-holds Inv-loop μ-loop
 loop-holds c =
-    let a = c .before .before .before .args in
+    let a = c .before .before .before .before .args in
     let lanes = sideOf (roadOf (a .words .now) (a .numbers .now)) (a .section) (a .right) in (
       omega arith,
       refl,
@@ -31,8 +43,14 @@ loop-holds c =
       side-none (bordersAt lanes (signOf (a .right)) (a .base) (a .s)) (a .list .now) (a .first),
     )
 
-next-border-requires : tie.Need-next-border-requires Inv-loop μ-loop
-next-border-requires c κs = search needs
+add-line-width : tie.Need-add-line-width Inv-loop μ-loop
+add-line-width c = omega (arith, c .before .before .side-line .ensures .1)
+
+cast-line-width : tie.Need-cast-line-width Inv-loop μ-loop
+cast-line-width c = omega (arith, c .before .before .side-line .ensures .1)
+
+line-width-requires : tie.Need-line-width-requires Inv-loop μ-loop
+line-width-requires c κs = search needs
 
 mul-at : tie.Need-mul-at Inv-loop μ-loop
 mul-at c = search needs
@@ -72,14 +90,18 @@ loop-less c = search needs
 
 loop-again : tie.Need-loop-again Inv-loop μ-loop
 loop-again c =
-    let a = c .before .before .before .before .before .before .args in
     let at = c .before .before .loop in
+    let called = c .before .before .before in
+    let begun = called .before .before .before .before in
+    let a = begun .args in
     let lanes = sideOf (roadOf (a .words .now) (a .numbers .now)) (a .section) (a .right) in
-    let sign = signOf (a .right) in (
+    let sign = signOf (a .right) in
+    let lane = called .side-line .ensures .0 (a .numbers .now) (at .k) (omega arith) in
+    let made = borders-made _ _ sign (at .inner) (a .s) (begun .pre .1) lane (c .line-width .ensures) in (
       omega arith,
       simp length-set (at .inv .1),
-      outer-turn lanes sign (a .base) (a .s) (at .k) (at .inv .2) (c .next-border .ensures),
-      side-turn (bordersAt lanes sign (a .base) (a .s)) (a .list .now) (a .first) (at .list) (at .k) (borders-turn lanes sign (a .base) (a .s) (at .k) (at .inv .2) (c .next-border .ensures)) (omega arith) (at .inv .3),
+      outer-turn lanes sign (a .base) (a .s) (at .k) (at .inv .2) made,
+      side-turn (bordersAt lanes sign (a .base) (a .s)) (a .list .now) (a .first) (at .list) (at .k) (borders-turn lanes sign (a .base) (a .s) (at .k) (at .inv .2) made) (omega arith) (at .inv .3),
     )
 
 same-length : tie.Need-same-length Inv-loop μ-loop
@@ -87,7 +109,7 @@ same-length c = search needs
 
 returns : tie.Need-returns Inv-loop μ-loop
 returns c =
-    let a = c .before .before .before .before .before .args in
+    let a = c .before .before .before .before .before .before .args in
     let at = c .before .loop in
     let e : at .k ≡ a .n = omega arith in
     rw e at (at .inv .3)
@@ -98,8 +120,11 @@ write-side-spec =
     (tie.spec
     Inv-loop
     μ-loop
+    side-line-requires
     loop-holds
-    next-border-requires
+    add-line-width
+    cast-line-width
+    line-width-requires
     mul-at
     add-at
     mul-list

@@ -17,6 +17,9 @@ returns c =
 section-at-requires : tie.Need-section-at-requires
 section-at-requires c κs = search needs
 
+section-lanes-requires : tie.Need-section-lanes-requires
+section-lanes-requires c κs = search needs
+
 list-borders-requires : tie.Need-list-borders-requires
 list-borders-requires c κs = search needs
 
@@ -26,7 +29,8 @@ same-length c = search needs
 returns-2 : tie.Need-returns-2
 returns-2 c =
     let wrote = c .before .before .before in
-    let at = wrote .before .before in
+    let counted = wrote .before .before in
+    let at = counted .before in
     let row7 = at .before in
     let a = row7 .before .before .before .before .before .args in
     let w = a .words .now in
@@ -35,23 +39,20 @@ returns-2 c =
       list-kept w d (a .s) (a .list .now) (at .section-at .result) (wrote .list-borders .result) (wrote .list-borders .ensures .1) (c .if2 .taken),
     )
 
-section-lanes-requires : tie.Need-section-lanes-requires
-section-lanes-requires c κs = search needs
-
 same-length-2 : tie.Need-same-length-2
 same-length-2 c = search needs
 
 returns-3 : tie.Need-returns-3
 returns-3 c =
-    let row11 = c .before in
-    let wrote = row11 .before .before .before in
-    let at = wrote .before .before in
+    let wrote = c .before .before .before in
+    let counted = wrote .before .before in
+    let at = counted .before in
     let row7 = at .before in
     let a = row7 .before .before .before .before .before .args in
     let w = a .words .now in
     let d = a .numbers .now in (
-      list-long w d (a .s) (length (a .list .now)) (row7 .before .on-road .ensures) (row7 .if1 .left) (at .section-at .ensures) (wrote .list-borders .ensures .0) (row11 .if2 .left) (c .section-lanes .ensures),
-      list-made w d (a .s) (a .list .now) (at .section-at .result) (wrote .list-borders .result) (wrote .list-borders .ensures .1) (row11 .if2 .left) (at .section-at .ensures),
+      list-long w d (a .s) (length (a .list .now)) (row7 .before .on-road .ensures) (row7 .if1 .left) (at .section-at .ensures) (wrote .list-borders .ensures .0) (c .if2 .left) (counted .section-lanes .ensures),
+      list-made w d (a .s) (a .list .now) (at .section-at .result) (wrote .list-borders .result) (wrote .list-borders .ensures .1) (c .if2 .left) (at .section-at .ensures),
     )
 
 pub list-at-spec : {M : Type 1} → statement M
@@ -61,9 +62,9 @@ list-at-spec =
     on-road-requires
     returns
     section-at-requires
+    section-lanes-requires
     list-borders-requires
     same-length
     returns-2
-    section-lanes-requires
     same-length-2
     returns-3)

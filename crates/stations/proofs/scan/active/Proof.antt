@@ -14,7 +14,7 @@ found-of-requires c κs = search needs
 returns : tie.Need-returns
 returns c =
     let a = c .before .before .before .args in
-    c .found-of .ensures ∙ c .before .reach .ensures ∙ active-by (a .part .now) (a .s)
+    c .found-of .ensures ∙ c .before .reach .ensures .0 ∙ active-by (a .part .now) (a .s)
 
 pub active-spec : {M : Type 1} → statement M
 active-spec = tie.close (tie.spec reach-requires found-of-requires returns)

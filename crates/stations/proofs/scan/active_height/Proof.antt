@@ -14,7 +14,7 @@ found-of-requires c κs = search needs
 returns : tie.Need-returns
 returns c =
     let a = c .before .before .before .args in
-    c .found-of .ensures ∙ c .before .reach .ensures ∙ height-by (a .part .now) (a .s)
+    c .found-of .ensures ∙ c .before .reach .ensures .0 ∙ height-by (a .part .now) (a .s)
 
 pub active-height-spec : {M : Type 1} → statement M
 active-height-spec = tie.close (tie.spec reach-requires found-of-requires returns)
