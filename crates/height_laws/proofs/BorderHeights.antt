@@ -29,7 +29,7 @@ use Rattle.lane_heights.specs.Heights.{levelUpTo, levelHeights, tiltedHeights, 
 use Rattle.lanes.specs.declared.across.LaneBorders.{LaneBorders}
 use Rattle.lanes.proofs.Outward.{Ahead}
 use Rattle.lanes.proofs.BorderLaws.{eight, thirtySix, eighty, ExtentWithin, inner-within, outer-border-within, outer-ahead}
-use Rattle.height_laws.proofs.AdmittedRoad.{Admits, across-within, section-there, into, in-section}
+use Rattle.admission_laws.proofs.AdmittedRoad.{Admits, across-within, section-there, into, in-section}
 use Rattle.height_laws.proofs.RoadHeights.{toward-kept, own-kept}
 use Rattle.height_laws.proofs.WholeSizes.{AtMost, at-most-of, at-most-more, at-most-within, at-most-sum, at-most-difference}
 

@@ -1,4 +1,3 @@
-pub mod AdmittedRoad
 pub mod RoadHeights
 pub mod WholeSizes
 pub mod BorderHeights

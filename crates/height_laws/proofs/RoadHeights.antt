@@ -23,7 +23,7 @@ use Rattle.lateral_laws.proofs.StationBounds.{far, largest}
 use Rattle.lateral_laws.proofs.StripBounds.{StripWithin, cross-within}
 use Rattle.lateral_laws.proofs.LateralBounds.{two-wide, wider-two, height-within, ProfilesAt, profile-within, forty, forty-wide, wider-forty, shape-within as profiles-within, shift-within, height-most, toward-most}
 use Rattle.lanes.proofs.BorderLaws.{eighty}
-use Rattle.height_laws.proofs.AdmittedRoad.{Admits, within-across, s-near, section-there, into, into-near}
+use Rattle.admission_laws.proofs.AdmittedRoad.{Admits, within-across, s-near, section-there, into, into-near}
 
 -- ---- the constants
 

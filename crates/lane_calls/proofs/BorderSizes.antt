@@ -4,30 +4,26 @@ use Prim.Native.Nat.{ℕ, suc, _+_, _*_, _/_, _^_, _≤_, _<_}
 use native.Mathlib.Nat.{add-zero, zero-add, le-trans, le-of-eq}
 use native.Mathlib.Omega.{arith}
 use mathlib.Core.Path.{_≡_, refl, sym, _∙_, ap, subst}
-use mathlib.Core.Bool.{Bool, true, false, _&&_, _||_}
+use mathlib.Core.Bool.{Bool, true, false, _&&_}
 use mathlib.Core.List.{List}
-use lib.Dec.{T, leb}
-use lib.Ieee.{Float, nan, binary64, low, lt, le, eq, ofBits}
+use lib.Dec.{leb}
+use lib.Ieee.{Float, nan, binary64, low, le, ofBits}
 use lib.ListN.{length, getD, drop, List·getD-append}
 use borrow.Author.Tests.{le-leb, leb-true}
-use Rattle.float_laws.specs.Binary64.{_⊖_, f64, zero64}
-use Rattle.float_laws.proofs.Value.{mag, pl, Real, le-trans'}
-use Rattle.float_laws.proofs.Size.{Within, within-mono}
+use Rattle.float_laws.specs.Binary64.{f64}
+use Rattle.float_laws.proofs.Value.{mag, pl, Real}
+use Rattle.float_laws.proofs.Size.{Within}
 use Rattle.refusals.specs.Answer.{value, checked}
-use Rattle.records.specs.Active.{reached}
-use Rattle.records.specs.Roads.{Road, roadOf, sectionOf, laneOf, noLane, sectionIndex}
+use Rattle.records.specs.Roads.{Road, roadOf, laneOf, noLane, sectionIndex}
 use Rattle.records.proofs.CubicLaws.{value-at}
-use Rattle.ordering.proofs.OrderLaws.{ordered-is}
-use Rattle.structure.proofs.StructureLaws.{Structured, structured-is}
 use Rattle.bounds.specs.Limits.{onRoad}
-use Rattle.limit_laws.proofs.Fitting.{Fits64, Fitting, RoadFits, road-fits}
-use Rattle.limit_laws.proofs.ActiveRecord.{Active, index-active}
-use Rattle.limit_laws.proofs.LimitParts.{and-fst, and-snd, true-T}
-use Rattle.limit_laws.proofs.CubicBounds.{far, reached-real, reached-grows}
-use Rattle.limit_laws.proofs.RoadBounds.{OnRoad, InSection, station-within, offset-within, section-start-in, extent-within, into-section, width-within, border-within}
+use Rattle.admission_laws.proofs.AdmittedRoad.{Admits, admits, on-road, section-there, into, in-section}
+use Rattle.limit_laws.proofs.Fitting.{Fits64, Fitting}
+use Rattle.limit_laws.proofs.LimitParts.{and-fst, and-snd}
+use Rattle.limit_laws.proofs.RoadBounds.{OnRoad, offset-within, width-within, border-within}
 use Rattle.admission.specs.Admission.{admitted}
 use Rattle.admission.proofs.RowLaws.{pass-checked, checked-pass}
-use Rattle.admission.proofs.AdmissionLaws.{admitted-structured, admitted-ordered, admitted-limited, road-answered, road-admitted}
+use Rattle.admission.proofs.AdmissionLaws.{road-answered, road-admitted}
 use Rattle.lanes.specs.declared.across.LaneBorders.{LaneBorders}
 use Rattle.lanes.specs.Borders.{signOf, baseAt, sideOf, bordersOf as laneBorders, borderList}
 use Rattle.border_lists.specs.BorderList.{listedBy}
@@ -59,18 +55,6 @@ pub record SideKept (list : List Float) (right : Bool) (first n : ℕ) : Type 0 
 
 -- ---- an admitted road at s
 
-ten-thousand-far : T (le (f64 0x40c3_8800_0000_0000) far)
-unfolding ofBits le
-ten-thousand-far = tt
-
-or-r : (a b : Bool) → T b → T (a || b)
-or-r true b t = tt
-or-r false b t = t
-
-same-le : (x y : Float) → T (eq x y) → T (le x y)
-unfolding le
-same-le x y e = or-r (lt x y) (eq x y) e
-
 eighty-is : pl binary64 eighty ≡ 80 * 2 ^ low binary64
 unfolding ofBits pl
 eighty-is = refl
@@ -85,58 +69,21 @@ module _ (words : List ℕ) (numbers : List Float) (fitting : Fitting numbers) (
   abbrev at : ℕ
   at = sectionIndex road s
 
-  abbrev into : Float
-  into = s ⊖ sectionOf road at .start
-
-  fit : RoadFits road
-  fit = road-fits words numbers fitting
-
-  counts : Structured words numbers
-  counts = structured-is words numbers (admitted-structured words numbers ok)
+  a : Admits road
+  a = admits words numbers fitting ok
 
   here : OnRoad road s
-  here =
-      record {
-        fits = fits-s;
-        above = true-T (le zero64 s) (and-fst (le zero64 s) (le s (road .length)) on);
-        below = true-T (le s (road .length)) (and-snd (le zero64 s) (le s (road .length)) on);
-      }
-
-  some : 0 < length (road .sections)
-  some = counts .sections .enough
-
-  first-reached : T (le (sectionOf road 0 .start) (reached s))
-  first-reached =
-      let z = section-start-in road fit (admitted-limited words numbers ok) 0 some in
-      let e = extent-within road fit (admitted-limited words numbers ok) 0 some in
-      let v = station-within road fit (admitted-limited words numbers ok) s here in
-      let w = within-mono binary64 s (f64 0x40c3_8800_0000_0000) far v (e .bound) ten-thousand-far in
-      let r = reached-real s w in
-      le-trans' binary64 (sectionOf road 0 .start) zero64 (reached s) (z .value) (z .low) r
-      (same-le (sectionOf road 0 .start) zero64 (ordered-is road (admitted-ordered words numbers ok) .section-zero))
-      (le-trans' binary64 zero64 s (reached s) (z .low) (w .value) r (here .above) (reached-grows s w))
-
-  -- the section at s is there, and s lies in it
-  section-active : Active (λ k. sectionOf road k .start) (reached s) (length (road .sections)) at
-  unfolding sectionIndex
-  section-active = index-active (λ k. sectionOf road k .start) (reached s) (length (road .sections)) some first-reached
-
-  in-section : InSection road at into
-  in-section = into-section road fit (admitted-limited words numbers ok) s here at section-active
-
-  few : (right : Bool) → length (sideOf road at right) ≤ 6
-  few false = counts .left at
-  few true = counts .right at
+  here = on-road road s fits-s on
 
   center : Within binary64 (baseAt road s) eight
-  center = offset-within road fit (admitted-limited words numbers ok) s here
+  center = offset-within road (a .fit) (a .limits) s here
 
-  extents : (right : Bool) (k : ℕ) → k < length (sideOf road at right) → ExtentWithin (getD (sideOf road at right) k noLane) into
+  extents : (right : Bool) (k : ℕ) → k < length (sideOf road at right) → ExtentWithin (getD (sideOf road at right) k noLane) (into road s)
   extents right k l =
       record {
-        width = width-within road fit (admitted-limited words numbers ok) at (section-active .below) right k l into in-section;
-        border = λ e j f. subst (λ (v : Float). Within binary64 v thirtySix) (value-at (laneOf road at right k .extents) into j f)
-            (border-within road fit (admitted-limited words numbers ok) at (section-active .below) right k l into in-section e);
+        width = width-within road (a .fit) (a .limits) at (section-there road a s here) right k l (into road s) (in-section road a s here);
+        border = λ e j f. subst (λ (v : Float). Within binary64 v thirtySix) (value-at (laneOf road at right k .extents) (into road s) j f)
+            (border-within road (a .fit) (a .limits) at (section-there road a s here) right k l (into road s) (in-section road a s here) e);
       }
 
   -- ---- the borders of a side
@@ -149,11 +96,11 @@ module _ (words : List ℕ) (numbers : List Float) (fitting : Fitting numbers) (
       → SideKept list right first (length (sideOf road at right))
   side-kept list right first read =
       record {
-        inner-size = λ k l. subst Within80 (sym (inner-is k l)) (within-80 (lane right k .inner) (inner-within (sideOf road at right) right (baseAt road s) into (few right) center (extents right) k l));
-        outer-size = λ k l. subst Within80 (sym (outer-is k l)) (within-80 (lane right k .outer) (outer-border-within (sideOf road at right) right (baseAt road s) into (few right) center (extents right) k l));
+        inner-size = λ k l. subst Within80 (sym (inner-is k l)) (within-80 (lane right k .inner) (inner-within (sideOf road at right) right (baseAt road s) (into road s) (a .few at right) center (extents right) k l));
+        outer-size = λ k l. subst Within80 (sym (outer-is k l)) (within-80 (lane right k .outer) (outer-border-within (sideOf road at right) right (baseAt road s) (into road s) (a .few at right) center (extents right) k l));
         outward = λ k l. subst (λ (x : Float). Ahead right x (outerAt list (first + k))) (sym (inner-is k l))
-            (subst (λ (y : Float). Ahead right (lane right k .inner) y) (sym (outer-is k l)) (outer-ahead (sideOf road at right) right (baseAt road s) into (few right) center (extents right) k l));
-        joined = λ k l. inner-is (suc k) l ∙ inner-is-outer (sideOf road at right) (signOf right) (baseAt road s) into k ∙ sym (outer-is k (let m = l in omega arith));
+            (subst (λ (y : Float). Ahead right (lane right k .inner) y) (sym (outer-is k l)) (outer-ahead (sideOf road at right) right (baseAt road s) (into road s) (a .few at right) center (extents right) k l));
+        joined = λ k l. inner-is (suc k) l ∙ inner-is-outer (sideOf road at right) (signOf right) (baseAt road s) (into road s) k ∙ sym (outer-is k (let m = l in omega arith));
       }
     where
       inner-is : (k : ℕ) → k < length (sideOf road at right) → innerAt list (first + k) ≡ lane right k .inner

@@ -15,6 +15,8 @@ use Rattle.bounds.specs.Limits.{limited}
 use Rattle.limit_laws.proofs.LimitParts.{and-fst, and-snd, true-T}
 use Rattle.limit_laws.proofs.Fitting.{Fitting, road-fits}
 use Rattle.limit_laws.proofs.RoadBounds.{OnRoad}
+use Rattle.admission.specs.Admission.{admitted}
+use Rattle.admission.proofs.AdmissionLaws.{admitted-structured, admitted-limited, admitted-samples}
 use Rattle.spirals.specs.Spiral.{samplesNeeded, samplesOf}
 use Rattle.spirals.specs.Poses.{poseOf}
 use Rattle.road_laws.proofs.Geometry.{PoseWithin}
@@ -61,3 +63,9 @@ module _ (words : List ℕ) (numbers : List Float) where
       → PoseWithin (poseOf (roadOf words numbers) (samplesOf (roadOf words numbers) ++ rest) (geomIndex (roadOf words numbers) s) s) pose-far sineRange
   admitted-pose-within f e l n rest s o =
       station-pose-within (roadOf words numbers) (road-fits words numbers f) l (leb→le (samplesNeeded (roadOf words numbers)) 2000 (true-T (leb (samplesNeeded (roadOf words numbers)) 2000) n)) (geom-there e) rest s o
+
+  -- the same of an admitted road
+  pub pose-kept : Fitting numbers → admitted words numbers ≡ true → (rest : List Float) (s : Float) → OnRoad (roadOf words numbers) s
+      → PoseWithin (poseOf (roadOf words numbers) (samplesOf (roadOf words numbers) ++ rest) (geomIndex (roadOf words numbers) s) s) pose-far sineRange
+  pose-kept f ok rest s o =
+      station-pose-within (roadOf words numbers) (road-fits words numbers f) (admitted-limited words numbers ok) (admitted-samples words numbers ok) (geom-there (admitted-structured words numbers ok)) rest s o

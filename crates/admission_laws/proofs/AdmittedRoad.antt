@@ -1,4 +1,4 @@
--- An admitted road and a station on it: what the laws on heights take of admission, as one record, and the section at s with how far s lies into it.
+-- An admitted road and a station on it: what the laws on borders and heights take of admission, as one record, and the section at s with how far s lies into it.
 -- Rows 3 and 4 part by part; the section at s is there because the first one starts at 0.
 use Prim.Native.Nat.{ℕ, _≤_, _<_}
 use mathlib.Core.Path.{_≡_}
