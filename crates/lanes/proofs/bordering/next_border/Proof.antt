@@ -10,7 +10,7 @@ sign-of-requires : tie.Need-sign-of-requires
 sign-of-requires c κs = search needs
 
 returns : tie.Need-returns
-returns c = cc
+returns c = rw (c .sign-of .ensures, c .before .lane-width .ensures)
 
 pub next-border-spec : {M : Type 1} → statement M
 next-border-spec = tie.close (tie.spec lane-width-requires sign-of-requires returns)
