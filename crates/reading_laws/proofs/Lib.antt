@@ -4,3 +4,7 @@ pub mod AlongRead
 pub mod AsideRead
 pub mod LanesRead
 pub mod StripsRead
+pub mod NumbersKept
+pub mod LinesKept
+pub mod TablesKept
+pub mod CountsKept

@@ -1,0 +1,52 @@
+-- Document 01, "The job text": the lines of values that a text has, table by table, before anything is kept. Read `rowsOf` first, at the end.
+use Prim.Native.Nat.{ℕ, zero, suc, _+_}
+use mathlib.Core.Bool.{cond}
+use mathlib.Core.List.{List, [], _∷_}
+use lib.ListN.{getD}
+use lib.Dec.{eqb}
+use Rattle.schema.specs.Schema.{nameOf, limitOf}
+use Rattle.cells.specs.Cells.{byteAt, nameAt}
+use Rattle.rows.specs.NamesLine.{headAt}
+use Rattle.rows.specs.ValuesLine.{rowAt}
+use Rattle.rows.specs.declared.columns.Order.{Order}
+use Rattle.rows.specs.declared.columns.Cells.{Cells}
+use Rattle.rows.specs.declared.names_line.Head.{Head}
+use Rattle.rows.specs.declared.values_line.Row.{Row}
+
+-- lines with the place after them, or a form that is broken or too long
+pub data Lines : Type 0 where
+  lines : List Cells → ℕ → Lines
+  broken : Lines
+
+abbrev pub after : Cells → Lines → Lines
+after cells (lines rows at) = lines (cells ∷ rows) at
+after cells broken = broken
+
+-- lines of values up to an empty one, at most `fuel`
+unfoldable pub linesAt : ℕ → ℕ → Order → List ℕ → ℕ → Lines
+linesAt zero table order text at = cond (eqb (byteAt text at) 10) (lines [] (at + 1)) broken
+linesAt (suc fuel) table order text at =
+    cond (eqb (byteAt text at) 10) (lines [] (at + 1))
+    (cond (rowAt text at table order .good) (after (rowAt text at table order .cells) (linesAt fuel table order text (rowAt text at table order .next))) broken)
+
+-- the lines of a table, none where its name does not stand
+unfoldable pub tableLines : ℕ → List ℕ → ℕ → Lines
+tableLines table text at =
+    cond (eqb (nameAt text at .value) (nameOf table))
+    (cond (headAt text (nameAt text at .next) table .good)
+    (linesAt (limitOf table) table (headAt text (nameAt text at .next) table .order) text (headAt text (nameAt text at .next) table .next))
+    broken)
+    (lines [] at)
+
+abbrev pub byLines : Lines → (List Cells → ℕ → List (List Cells)) → List (List Cells)
+byLines (lines rows at) f = f rows at
+byLines broken f = []
+
+-- n tables, from a table on
+unfoldable pub tablesLines : ℕ → ℕ → List ℕ → ℕ → List (List Cells)
+tablesLines zero table text at = []
+tablesLines (suc n) table text at = byLines (tableLines table text at) (λ rows next. rows ∷ tablesLines n (table + 1) text next)
+
+-- the lines of a table of a text, each with its cells by column
+unfoldable pub rowsOf : List ℕ → ℕ → List Cells
+rowsOf text table = getD (tablesLines 15 0 text 0) table []
