@@ -20,14 +20,15 @@ use Rattle.rows.specs.declared.columns.Order.{Order}
 use Rattle.rows.specs.Columns.{cellOf}
 use Rattle.rows.specs.declared.columns.Cells.{Cells}
 use Rattle.store.specs.Layout.{places, placeAt, words, wordPlace, codeOf, oneMore, wordPut, wordsBelow, counts, countPlace, countKept, rules, ruleOf, bases, baseOf, strideOf, numbersBelow, wantsKept}
-use Rattle.store.specs.Tracks.{lineOf, endedTrack}
+use Rattle.store.specs.Tracks.{lineOf, startTrack, endedTrack}
 use Rattle.store.specs.Parents.{sideOf, counted, sectionWord, laneTurn, indexOf, rangeOf, parentOf}
 use Rattle.store.specs.Keep.{firstLine, added, inOrder, underWords, stripIn, stripWords, ruledWords, keptWords, keptTrack}
 use Rattle.store.specs.declared.parents.Parent.{Parent}
 use Rattle.store.specs.declared.tracks.Track.{Track}
 use Rattle.store.specs.declared.tracks.Strips.{Strips}
-use Rattle.reader.specs.Reading.{Outcome, done, stop, byOutcome, linesFrom, tableAt, countedTrack, tablesFrom}
-use Rattle.reading_laws.specs.Rows.{Lines, lines, broken, byLines, tableLines, tablesLines}
+use Rattle.reader.specs.Reading.{Outcome, done, stop, byOutcome, linesFrom, tableAt, countedTrack, tablesFrom, zeros, zeroNumbers, readingOf}
+use Rattle.reading_laws.specs.Rows.{Lines, lines, broken, byLines, tableLines, tablesLines, rowsOf}
+use Rattle.reading_laws.proofs.ReadTables.{accepted}
 use Rattle.reading_laws.proofs.LinesKept.{Agree, table-agree}
 
 -- ---- the layout's tests: words of lines and ranges stand past the counts; each count has its own word
@@ -289,3 +290,24 @@ tables-counted (suc n) t text at count track ws ns vs most long blank =
         join n t most ws long rows count' (a .1) us b (tablesLines n (t + 1) text next) (tablesFrom n (t + 1) text at' count' (countedTrack t count' track') us xs vs')
         (subst (λ (q : ℕ). CountsBy n (t + 1) us (tablesLines n (t + 1) text q) (tablesFrom n (t + 1) text at' count' (countedTrack t count' track') us xs vs')) (a .0)
         (ih at' count' (countedTrack t count' track') us xs vs' l (still-blank n t most ws long rows count' (a .1) us b blank)))
+
+-- ---- a whole text
+
+zeros-blank : (n i : ℕ) → getD (zeros n) i 0 ≡ 0
+unfolding zeros
+zeros-blank zero i = refl
+zeros-blank (suc n) zero = refl
+zeros-blank (suc n) (suc i) = zeros-blank n i
+
+module _ (text : List ℕ) (l m n at count : ℕ) (track : Track) (ws : List ℕ) (ns : List Float) (vs : List ℕ) (read : readingOf text l m n ≡ done at count track ws ns vs) where
+  all-counts : Counts 15 0 (zeros l) ws (tablesLines 15 0 text 0)
+  all-counts =
+      let a = accepted text l m n at count track ws ns vs read in
+      let long = a .words-long in
+      subst (λ (o : Outcome). CountsBy 15 0 (zeros l) (tablesLines 15 0 text 0) o) (a .tables)
+      (tables-counted 15 0 text 0 0 startTrack (zeros l) (zeroNumbers m) (zeros n) (omega arith) (omega arith) (λ u h i p. zeros-blank l (countPlace u - 1)))
+
+  -- of geom, elev, bank, offset, tshift, section and profile
+  pub count-kept : (t : ℕ) → t < 15 → 0 < countPlace t → getD ws (countPlace t - 1) 0 ≡ length (rowsOf text t)
+  unfolding rowsOf
+  count-kept t h = all-counts .count t t (sym (zero-add t)) h

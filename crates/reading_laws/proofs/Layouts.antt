@@ -129,7 +129,7 @@ pub cubic-five : Five 13 3 cubicBase
 unfolding placeAt places numberPlace numbers
 cubic-five = record { first = refl; stride = refl; start = refl; a = refl; b = refl; c = refl; d = refl }
 
-cubic-same : {a b c d e a' b' c' d' e' : Float} → a ≡ a' → b ≡ b' → c ≡ c' → d ≡ d' → e ≡ e'
+pub cubic-same : {a b c d e a' b' c' d' e' : Float} → a ≡ a' → b ≡ b' → c ≡ c' → d ≡ d' → e ≡ e'
     → _≡_ {A = Cubic} (record { start = a; a = b; b = c; c = d; d = e }) (record { start = a'; a = b'; b = c'; c = d'; d = e' })
 cubic-same p q r t u = cc
 

@@ -6,5 +6,7 @@ pub mod LanesRead
 pub mod StripsRead
 pub mod NumbersKept
 pub mod LinesKept
+pub mod ReadTables
 pub mod TablesKept
 pub mod CountsKept
+pub mod RoadRead

@@ -4,25 +4,24 @@ use Prim.Native.Nat.{ℕ, zero, suc, _+_, _-_, _*_, _<_, _≤_}
 use native.Mathlib.Omega.{arith}
 use native.Mathlib.Nat.{le-of-suc-le-suc, not-suc-le-zero, mul-le-mul-right, zero-add}
 use mathlib.Core.Path.{_≡_, refl, sym, _∙_, ap, subst}
-use mathlib.Core.Bool.{Bool, true, false, not, _&&_, _||_, cond}
+use mathlib.Core.Bool.{Bool, true, false, not, _||_, cond}
 use mathlib.Core.List.{List, [], _∷_}
 use lib.ListN.{length, getD}
 use lib.Dec.{eqb, ltb, leb}
 use lib.Ieee.{Float, nan, binary64, ofBits}
 use borrow.Author.Tests.{ltb-true, ltb-false, leb-true, eqb-true, ne-eqb, eq-eqb, lt-leb}
-use Rattle.refusals.specs.Answer.{Answer, value, refused}
 use Rattle.lent.specs.Lists.{allBelow}
-use Rattle.structure.proofs.TestLaws.{chain-at, all-at}
-use Rattle.admission.specs.Admission.{admissionOf}
+use Rattle.structure.proofs.TestLaws.{all-at}
 use Rattle.schema.specs.Schema.{limits, limitOf}
 use Rattle.rows.specs.Columns.{cellOf, noCells}
 use Rattle.rows.specs.declared.columns.Cells.{Cells}
 use Rattle.store.specs.Layout.{places, placeAt, numbers, numberPlace}
 use Rattle.store.specs.Tracks.{startTrack}
 use Rattle.store.specs.declared.tracks.Track.{Track}
-use Rattle.reader.specs.Reading.{Outcome, done, stop, byOutcome, tableAt, countedTrack, tablesFrom, admittedAs, judge, readingBy, zeros, zeroNumbers, readingOf, numbersHeld}
+use Rattle.reader.specs.Reading.{Outcome, done, stop, byOutcome, tableAt, countedTrack, tablesFrom, zeros, zeroNumbers, readingOf}
 use Rattle.reading_laws.specs.Rows.{Lines, lines, broken, byLines, tableLines, tablesLines, rowsOf}
 use Rattle.reading_laws.proofs.NumbersKept.{placeOf, rowsPut, rows-length, rows-other, rows-same}
+use Rattle.reading_laws.proofs.ReadTables.{accepted}
 use Rattle.reading_laws.proofs.LinesKept.{Agree, table-agree}
 
 -- ---- the layout's tests
@@ -167,42 +166,30 @@ tables-kept (suc n) t text at count track ws ns vs most long =
 
 -- ---- a whole text
 
-module _ (text : List ℕ) (l m n : ℕ) where
-  judged : (o : Outcome) (at count : ℕ) (track : Track) (ws : List ℕ) (ns : List Float) (vs : List ℕ) → judge o ≡ done at count track ws ns vs
-      → Kept 15 0 (zeroNumbers m) (tablesLines 15 0 text 0) o → Holds 15 0 (zeroNumbers m) ns (tablesLines 15 0 text 0)
-  judged (stop k) at count track ws ns vs e h = absurd (never e)
-    where
-      never : stop k ≡ done at count track ws ns vs → ⊥
-      never e = let z : _≡_ {A = ℕ} 0 1 = cc in omega arith
-  judged (done at' count' track' ws' xs vs') at count track ws ns vs e h = go (track' .sound) (admissionOf ws' xs) e
-    where
-      go : (b : Bool) (a : Answer (Unit {0})) → cond b (admittedAs a (done at' count' track' ws' xs vs') stop) (stop 3) ≡ done at count track ws ns vs → Holds 15 0 (zeroNumbers m) ns (tablesLines 15 0 text 0)
-      go true (value u) f = subst (λ (zs : List Float). Holds 15 0 (zeroNumbers m) zs (tablesLines 15 0 text 0)) (ap (numbersHeld 0) f) h
-      go true (refused k) f = let z : _≡_ {A = ℕ} 0 1 = cc in absurd (omega arith)
-      go false a f = let z : _≡_ {A = ℕ} 0 1 = cc in absurd (omega arith)
+module _ (text : List ℕ) (l m n at count : ℕ) (track : Track) (ws : List ℕ) (ns : List Float) (vs : List ℕ) (read : readingOf text l m n ≡ done at count track ws ns vs) where
+  holds : Holds 15 0 (zeroNumbers m) ns (tablesLines 15 0 text 0)
+  holds =
+      let a = accepted text l m n at count track ws ns vs read in
+      subst (λ (o : Outcome). Kept 15 0 (zeroNumbers m) (tablesLines 15 0 text 0) o) (a .tables) (tables-kept 15 0 text 0 0 startTrack (zeros l) (zeroNumbers m) (zeros n) (omega arith) (a .numbers-long))
 
-  module _ (at count : ℕ) (track : Track) (ws : List ℕ) (ns : List Float) (vs : List ℕ) (read : readingOf text l m n ≡ done at count track ws ns vs) where
-    holds : Holds 15 0 (zeroNumbers m) ns (tablesLines 15 0 text 0)
-    unfolding readingOf readingBy
-    holds = go ((leb 1347 (length (zeros l)) && leb 7937 (length (zeroNumbers m))) && leb 32 (length (zeros n))) (ltb 65536 (length text)) refl read
-      where
-        go : (a b : Bool) → (leb 1347 (length (zeros l)) && leb 7937 (length (zeroNumbers m))) && leb 32 (length (zeros n)) ≡ a
-            → cond a (cond b (stop 2) (judge (tablesFrom 15 0 text 0 0 startTrack (zeros l) (zeroNumbers m) (zeros n)))) (stop 2) ≡ done at count track ws ns vs → Holds 15 0 (zeroNumbers m) ns (tablesLines 15 0 text 0)
-        go true false e f =
-            let a = chain-at (leb 1347 (length (zeros l))) (leb 7937 (length (zeroNumbers m)) ∷ leb 32 (length (zeros n)) ∷ []) e 1 in
-            judged (tablesFrom 15 0 text 0 0 startTrack (zeros l) (zeroNumbers m) (zeros n)) at count track ws ns vs f (tables-kept 15 0 text 0 0 startTrack (zeros l) (zeroNumbers m) (zeros n) (omega arith) (leb-true 7937 (length (zeroNumbers m)) a))
-        go true true e f = let z : _≡_ {A = ℕ} 0 1 = cc in absurd (omega arith)
-        go false b e f = let z : _≡_ {A = ℕ} 0 1 = cc in absurd (omega arith)
+  -- every cell of the text that is a number
+  pub number-kept : (t k c : ℕ) → t < 15 → k < length (rowsOf text t) → 0 < numberPlace t c → getD ns (placeOf t k c) nan ≡ ofBits binary64 (cellOf (getD (rowsOf text t) k noCells) c)
+  unfolding rowsOf
+  number-kept t k c h = holds .cell t t k c (sym (zero-add t)) h
 
-    -- every cell of the text that is a number
-    pub number-kept : (t k c : ℕ) → t < 15 → k < length (rowsOf text t) → 0 < numberPlace t c → getD ns (placeOf t k c) nan ≡ ofBits binary64 (cellOf (getD (rowsOf text t) k noCells) c)
-    unfolding rowsOf
-    number-kept t k c h = holds .cell t t k c (sym (zero-add t)) h
+  pub rows-few : (t : ℕ) → t < 15 → length (rowsOf text t) ≤ limitOf t
+  unfolding rowsOf
+  rows-few t h = holds .few t t (sym (zero-add t)) h
 
-    pub rows-few : (t : ℕ) → t < 15 → length (rowsOf text t) ≤ limitOf t
-    unfolding rowsOf
-    rows-few t h = holds .few t t (sym (zero-add t)) h
+  -- memory keeps its length
+  pub numbers-length : length ns ≡ length (zeroNumbers m)
+  numbers-length = holds .same
 
-    -- memory keeps its length
-    pub numbers-length : length ns ≡ length (zeroNumbers m)
-    numbers-length = holds .same
+  -- a table with all the lines that the text has of it ends inside memory
+  pub rows-inside : (t : ℕ) → t < 15 → placeAt t 0 + length (rowsOf text t) * placeAt t 1 ≤ length ns
+  rows-inside t h =
+      let a = accepted text l m n at count track ws ns vs read .numbers-long in
+      let r = room t h in
+      let f : length (rowsOf text t) * placeAt t 1 ≤ limitOf t * placeAt t 1 = mul-le-mul-right (placeAt t 1) (rows-few t h) in
+      let e = numbers-length in
+      omega arith

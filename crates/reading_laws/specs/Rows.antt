@@ -4,8 +4,13 @@ use mathlib.Core.Bool.{cond}
 use mathlib.Core.List.{List, [], _∷_}
 use lib.ListN.{getD}
 use lib.Dec.{eqb}
+use lib.Ieee.{Float}
+use Rattle.float_laws.specs.Binary64.{f64}
+use Rattle.cubics.specs.declared.cubics.Cubic.{Cubic}
+use Rattle.records.specs.declared.points.HeightDef.{HeightDef}
 use Rattle.schema.specs.Schema.{nameOf, limitOf}
 use Rattle.cells.specs.Cells.{byteAt, nameAt}
+use Rattle.rows.specs.Columns.{cellOf}
 use Rattle.rows.specs.NamesLine.{headAt}
 use Rattle.rows.specs.ValuesLine.{rowAt}
 use Rattle.rows.specs.declared.columns.Order.{Order}
@@ -50,3 +55,18 @@ tablesLines (suc n) table text at = byLines (tableLines table text at) (λ rows 
 -- the lines of a table of a text, each with its cells by column
 unfoldable pub rowsOf : List ℕ → ℕ → List Cells
 rowsOf text table = getD (tablesLines 15 0 text 0) table []
+
+-- ---- what a line says
+
+-- a cell's number; a word of a list is its place there
+abbrev pub numberIn : Cells → ℕ → Float
+numberIn cells column = f64 (cellOf cells column)
+
+-- start a b c d, from a column on
+abbrev pub cubicIn : ℕ → Cells → Cubic
+cubicIn column cells =
+    record { start = numberIn cells column; a = numberIn cells (column + 1); b = numberIn cells (column + 2); c = numberIn cells (column + 3); d = numberIn cells (column + 4) }
+
+-- height: section id start inner outer
+abbrev pub heightIn : Cells → HeightDef
+heightIn cells = record { «s_offset» = numberIn cells 2; inner = numberIn cells 3; outer = numberIn cells 4 }

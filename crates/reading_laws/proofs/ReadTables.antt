@@ -1,0 +1,48 @@
+-- An accepted reading: the slices were long enough, the tables left this memory, and its road is admitted.
+use Prim.Native.Nat.{ℕ, _≤_}
+use native.Mathlib.Omega.{arith}
+use mathlib.Core.Path.{_≡_, refl, sym, _∙_, ap}
+use mathlib.Core.Bool.{Bool, true, false, _&&_, cond}
+use mathlib.Core.List.{List, [], _∷_}
+use lib.ListN.{length}
+use lib.Dec.{leb, ltb}
+use lib.Ieee.{Float}
+use borrow.Author.Tests.{leb-true}
+use Rattle.refusals.specs.Answer.{Answer, value, refused}
+use Rattle.structure.proofs.TestLaws.{chain-at}
+use Rattle.admission.specs.Admission.{admissionOf}
+use Rattle.store.specs.Tracks.{startTrack}
+use Rattle.store.specs.declared.tracks.Track.{Track}
+use Rattle.reader.specs.Reading.{Outcome, done, stop, tablesFrom, admittedAs, judge, readingBy, zeros, zeroNumbers, readingOf, wordsHeld, numbersHeld}
+
+pub record Accepted (text : List ℕ) (l m n : ℕ) (o : Outcome) (ws : List ℕ) (ns : List Float) : Type 0 where
+  pub words-long : 1347 ≤ length (zeros l)
+  pub numbers-long : 7937 ≤ length (zeroNumbers m)
+  pub tables : tablesFrom 15 0 text 0 0 startTrack (zeros l) (zeroNumbers m) (zeros n) ≡ o
+  pub admits : admissionOf ws ns ≡ value tt
+
+module _ (text : List ℕ) (l m n at count : ℕ) (track : Track) (ws : List ℕ) (ns : List Float) (vs : List ℕ) where
+  abbrev end : Outcome
+  end = done at count track ws ns vs
+
+  judged : (o : Outcome) → judge o ≡ end → (o ≡ end) × (admissionOf ws ns ≡ value tt)
+  judged (stop k) e = let z : _≡_ {A = ℕ} 0 1 = cc in absurd (omega arith)
+  judged (done at' count' track' us xs vs') e = go (track' .sound) (admissionOf us xs) refl e
+    where
+      go : (b : Bool) (a : Answer (Unit {0})) → admissionOf us xs ≡ a → cond b (admittedAs a (done at' count' track' us xs vs') stop) (stop 3) ≡ end → (done at' count' track' us xs vs' ≡ end) × (admissionOf ws ns ≡ value tt)
+      go true (value u) g f = (f, ap (λ (o : Outcome). admissionOf (wordsHeld 0 o) (numbersHeld 0 o)) (sym f) ∙ g)
+      go true (refused k) g f = let z : _≡_ {A = ℕ} 0 1 = cc in absurd (omega arith)
+      go false a g f = let z : _≡_ {A = ℕ} 0 1 = cc in absurd (omega arith)
+
+  pub accepted : readingOf text l m n ≡ end → Accepted text l m n end ws ns
+  unfolding readingOf readingBy
+  accepted read = go ((leb 1347 (length (zeros l)) && leb 7937 (length (zeroNumbers m))) && leb 32 (length (zeros n))) (ltb 65536 (length text)) refl read
+    where
+      go : (a b : Bool) → (leb 1347 (length (zeros l)) && leb 7937 (length (zeroNumbers m))) && leb 32 (length (zeros n)) ≡ a
+          → cond a (cond b (stop 2) (judge (tablesFrom 15 0 text 0 0 startTrack (zeros l) (zeroNumbers m) (zeros n)))) (stop 2) ≡ end → Accepted text l m n end ws ns
+      go true false e f =
+          let t = chain-at (leb 1347 (length (zeros l))) (leb 7937 (length (zeroNumbers m)) ∷ leb 32 (length (zeros n)) ∷ []) e in
+          let j = judged (tablesFrom 15 0 text 0 0 startTrack (zeros l) (zeroNumbers m) (zeros n)) f in
+          record { words-long = leb-true 1347 (length (zeros l)) (t 0); numbers-long = leb-true 7937 (length (zeroNumbers m)) (t 1); tables = j .0; admits = j .1 }
+      go true true e f = let z : _≡_ {A = ℕ} 0 1 = cc in absurd (omega arith)
+      go false b e f = let z : _≡_ {A = ℕ} 0 1 = cc in absurd (omega arith)
