@@ -1,5 +1,5 @@
 -- An accepted text's counts: the word of each table that has one holds how many lines the text has of it (`count-kept`). No other word that is kept lies among the counts.
-use Prim.Native.Nat.{ℕ, zero, suc, _+_, _-_, _*_, _%_, _<_, _≤_}
+use Prim.Native.Nat.{ℕ, zero, suc, _+_, _-_, _<_, _≤_}
 use native.Mathlib.Omega.{arith}
 use native.Mathlib.Nat.{le-of-suc-le-suc, not-suc-le-zero, zero-add}
 use mathlib.Core.Path.{_≡_, refl, sym, _∙_, ap, subst}
@@ -9,7 +9,7 @@ use lib.ListN.{length, getD, set, length-set}
 use lib.Seq.{getD-set-same, getD-set-other}
 use lib.Dec.{eqb, ltb, leb}
 use lib.Ieee.{Float}
-use borrow.Author.Tests.{ltb-true, ltb-false, leb-true, eqb-true, ne-eqb, eq-eqb, lt-ltb}
+use borrow.Author.Tests.{ltb-true, ltb-false, leb-true, eqb-true, ne-eqb, eq-eqb}
 use Rattle.lent.specs.Lists.{allBelow}
 use Rattle.structure.proofs.TestLaws.{chain-at, all-at}
 use Rattle.schema.specs.Schema.{nameOf, limitOf}
@@ -17,17 +17,14 @@ use Rattle.cells.specs.Cells.{byteAt, nameAt}
 use Rattle.rows.specs.NamesLine.{headAt}
 use Rattle.rows.specs.ValuesLine.{rowAt}
 use Rattle.rows.specs.declared.columns.Order.{Order}
-use Rattle.rows.specs.Columns.{cellOf}
 use Rattle.rows.specs.declared.columns.Cells.{Cells}
-use Rattle.store.specs.Layout.{places, placeAt, words, wordPlace, codeOf, oneMore, wordPut, wordsBelow, counts, countPlace, countKept, rules, ruleOf, bases, baseOf, strideOf, numbersBelow, wantsKept}
-use Rattle.store.specs.Tracks.{lineOf, startTrack, endedTrack}
-use Rattle.store.specs.Parents.{sideOf, counted, sectionWord, laneTurn, indexOf, rangeOf, parentOf}
-use Rattle.store.specs.Keep.{firstLine, added, inOrder, underWords, stripIn, stripWords, ruledWords, keptWords, keptTrack}
-use Rattle.store.specs.declared.parents.Parent.{Parent}
+use Rattle.store.specs.Layout.{places, placeAt, words, wordPlace, counts, countPlace, countKept, numbersBelow, wantsKept}
+use Rattle.store.specs.Tracks.{startTrack, endedTrack}
+use Rattle.store.specs.Keep.{keptWords, keptTrack}
 use Rattle.store.specs.declared.tracks.Track.{Track}
-use Rattle.store.specs.declared.tracks.Strips.{Strips}
 use Rattle.reader.specs.Reading.{Outcome, done, stop, byOutcome, linesFrom, tableAt, countedTrack, tablesFrom, zeros, zeroNumbers, readingOf}
 use Rattle.reading_laws.specs.Rows.{Lines, lines, broken, byLines, tableLines, tablesLines, rowsOf}
+use Rattle.reading_laws.proofs.LowWords.{or-else, Low, low-same, low-then, kept-low}
 use Rattle.reading_laws.proofs.ReadTables.{accepted}
 use Rattle.reading_laws.proofs.LinesKept.{Agree, table-agree}
 
@@ -37,32 +34,9 @@ words-test : allBelow (λ t. allBelow (λ c. eqb (wordPlace t c) 0 || leb 7 (pla
 unfolding allBelow placeAt places wordPlace words
 words-test = refl
 
-rules-test : allBelow (λ t. eqb (ruleOf t) 0 || (eqb (ruleOf t) 6 || (eqb (ruleOf t) 1 || leb 7 (baseOf (ruleOf t))))) 15 ≡ true
-unfolding allBelow ruleOf rules baseOf bases
-rules-test = refl
-
 counts-test : allBelow (λ t. leb (countPlace t) 7 && allBelow (λ u. eqb (countPlace t) 0 || (not (eqb (countPlace t) (countPlace u)) || eqb t u)) 15) 15 ≡ true
 unfolding allBelow countPlace counts
 counts-test = refl
-
-or-else : (a b : Bool) → a || b ≡ true → a ≡ false → b ≡ true
-or-else true b e f = let z : _≡_ {A = ℕ} 0 1 = cc in absurd (omega arith)
-or-else false b e f = e
-
--- ---- a line
-
--- the words below 7 are the same
-abbrev pub Low : List ℕ → List ℕ → Type 0
-Low us ws = (length us ≡ length ws) × ((i : ℕ) → i < 7 → getD us i 0 ≡ getD ws i 0)
-
-low-same : (ws : List ℕ) → Low ws ws
-low-same ws = (refl, λ i h. refl)
-
-low-then : (xs us ws : List ℕ) → Low xs us → Low us ws → Low xs ws
-low-then xs us ws a b = (a .0 ∙ b .0, λ i h. a .1 i h ∙ b .1 i h)
-
-low-set : (ws : List ℕ) (p v : ℕ) → 7 ≤ p → Low (set ws p v) ws
-low-set ws p v h = (length-set ws p v, λ i l. getD-set-other ws p i v 0 (λ e. omega arith))
 
 module _ (t : ℕ) (small : t < 15) where
   column-below : (c : ℕ) → 0 < wordPlace t c → c < 8
@@ -77,71 +51,6 @@ module _ (t : ℕ) (small : t < 15) where
   word-past c h =
       let a = all-at (λ c. eqb (wordPlace t c) 0 || leb 7 (placeAt t 2)) 8 (all-at (λ t. allBelow (λ c. eqb (wordPlace t c) 0 || leb 7 (placeAt t 2)) 8) 15 words-test t small) c (column-below c h) in
       leb-true 7 (placeAt t 2) (or-else (eqb (wordPlace t c) 0) (leb 7 (placeAt t 2)) a (ne-eqb (wordPlace t c) 0 (λ z. omega arith)))
-
-  put-low : (k c v : ℕ) (ws : List ℕ) → Low (wordPut t k c v ws) ws
-  unfolding wordPut
-  put-low k c v ws = go (ltb 0 (wordPlace t c)) refl
-    where
-      go : (b : Bool) → ltb 0 (wordPlace t c) ≡ b → Low (cond b (set ws (placeAt t 2 + k * placeAt t 3 + (wordPlace t c - 1)) (codeOf v)) ws) ws
-      go true e = low-set ws (placeAt t 2 + k * placeAt t 3 + (wordPlace t c - 1)) (codeOf v) (let h = word-past c (ltb-true 0 (wordPlace t c) e) in omega arith)
-      go false e = low-same ws
-
-  line-low : (k : ℕ) (cells : Cells) (n : ℕ) (ws : List ℕ) → Low (wordsBelow t k cells n ws) ws
-  unfolding wordsBelow
-  line-low k cells zero ws = low-same ws
-  line-low k cells (suc n) ws = low-then (wordPut t k n (cellOf cells n) (wordsBelow t k cells n ws)) (wordsBelow t k cells n ws) ws (put-low k n (cellOf cells n) (wordsBelow t k cells n ws)) (line-low k cells n ws)
-
-  -- a line counted under a parent whose words stand past the counts
-  under-low : (ws : List ℕ) (k : ℕ) (parent : Parent) (track : Track) → 7 ≤ parent .first → 7 ≤ parent .count → Low (underWords ws k parent track) ws
-  unfolding underWords added
-  under-low ws k parent track f g = go (inOrder parent track)
-    where
-      go : (b : Bool) → Low (cond b (set (set ws (parent .first) (firstLine ws k parent)) (parent .count) (oneMore (getD ws (parent .count) 0))) ws) ws
-      go true =
-          low-then (set (set ws (parent .first) (firstLine ws k parent)) (parent .count) (oneMore (getD ws (parent .count) 0))) (set ws (parent .first) (firstLine ws k parent)) ws
-          (low-set (set ws (parent .first) (firstLine ws k parent)) (parent .count) (oneMore (getD ws (parent .count) 0)) g)
-          (low-set ws (parent .first) (firstLine ws k parent) f)
-      go false = low-same ws
-
-  strip-low : (ws : List ℕ) (cells : Cells) (track : Track) → Low (stripWords ws cells track) ws
-  unfolding stripWords
-  strip-low ws cells track = go (eqb (lineOf (track .strips) (stripIn cells)) 0)
-    where
-      go : (b : Bool) → Low (cond b (set ws (1303 + stripIn cells * 11) (cellOf cells 2 % 2 + 1)) ws) ws
-      go true = low-set ws (1303 + stripIn cells * 11) (cellOf cells 2 % 2 + 1) (past (stripIn cells * 11))
-        where
-          past : (x : ℕ) → 7 ≤ 1303 + x
-          past x = omega arith
-      go false = low-same ws
-
-  parent-past : (ws : List ℕ) (cells : Cells) (strips : Strips) → eqb (ruleOf t) 0 ≡ false → eqb (ruleOf t) 6 ≡ false → (7 ≤ parentOf ws (ruleOf t) cells strips .first) × (7 ≤ parentOf ws (ruleOf t) cells strips .count)
-  unfolding parentOf laneTurn rangeOf
-  parent-past ws cells strips z x = go (eqb (ruleOf t) 1) refl
-    where
-      test : eqb (ruleOf t) 1 ≡ false → 7 ≤ baseOf (ruleOf t)
-      test e =
-          let last = leb 7 (baseOf (ruleOf t)) in
-          let a = all-at (λ t. eqb (ruleOf t) 0 || (eqb (ruleOf t) 6 || (eqb (ruleOf t) 1 || leb 7 (baseOf (ruleOf t))))) 15 rules-test t small in
-          let b = or-else (eqb (ruleOf t) 0) (eqb (ruleOf t) 6 || (eqb (ruleOf t) 1 || last)) a z in
-          leb-true 7 (baseOf (ruleOf t)) (or-else (eqb (ruleOf t) 1) last (or-else (eqb (ruleOf t) 6) (eqb (ruleOf t) 1 || last) b x) e)
-
-      go : (b : Bool) → eqb (ruleOf t) 1 ≡ b
-          → (7 ≤ cond b (laneTurn ws (cellOf cells 0) (cellOf cells 1)) (rangeOf ws (indexOf ws (ruleOf t) cells strips) (baseOf (ruleOf t)) (strideOf (ruleOf t))) .first)
-          × (7 ≤ cond b (laneTurn ws (cellOf cells 0) (cellOf cells 1)) (rangeOf ws (indexOf ws (ruleOf t) cells strips) (baseOf (ruleOf t)) (strideOf (ruleOf t))) .count)
-      go true e = (omega arith, omega arith)
-      go false e = let h = test e in (omega arith, omega arith)
-
-  kept-low : (k : ℕ) (cells : Cells) (track : Track) (ws : List ℕ) → Low (keptWords t k cells track ws) ws
-  unfolding keptWords ruledWords
-  kept-low k cells track ws = low-then (keptWords t k cells track ws) (wordsBelow t k cells 8 ws) ws (go (eqb (ruleOf t) 0) (eqb (ruleOf t) 6) refl refl) (line-low k cells 8 ws)
-    where
-      go : (a b : Bool) → eqb (ruleOf t) 0 ≡ a → eqb (ruleOf t) 6 ≡ b
-          → Low (cond a (wordsBelow t k cells 8 ws) (cond b (stripWords (wordsBelow t k cells 8 ws) cells track) (underWords (wordsBelow t k cells 8 ws) k (parentOf (wordsBelow t k cells 8 ws) (ruleOf t) cells (track .strips)) track))) (wordsBelow t k cells 8 ws)
-      go true b e f = low-same (wordsBelow t k cells 8 ws)
-      go false true e f = strip-low (wordsBelow t k cells 8 ws) cells track
-      go false false e f =
-          let p = parent-past (wordsBelow t k cells 8 ws) cells (track .strips) e f in
-          under-low (wordsBelow t k cells 8 ws) k (parentOf (wordsBelow t k cells 8 ws) (ruleOf t) cells (track .strips)) track (p .0) (p .1)
 
 -- ---- a table
 
@@ -162,7 +71,7 @@ module _ (t : ℕ) (small : t < 15) where
       let c = chain-at (leb (countPlace t) 7) (allBelow (λ u. eqb (countPlace t) 0 || (not (eqb (countPlace t) (countPlace u)) || eqb t u)) 15 ∷ []) a in
       (c 0, c 1)
 
-  count-few : countPlace t ≤ 7
+  pub count-few : countPlace t ≤ 7
   count-few = leb-true (countPlace t) 7 (row .0)
 
   count-own : (u : ℕ) → u < 15 → 0 < countPlace t → countPlace t ≡ countPlace u → t ≡ u
@@ -171,7 +80,7 @@ module _ (t : ℕ) (small : t < 15) where
       let b = or-else (eqb (countPlace t) 0) (not (eqb (countPlace t) (countPlace u)) || eqb t u) a (ne-eqb (countPlace t) 0 (λ z. omega arith)) in
       eqb-true t u (or-else (not (eqb (countPlace t) (countPlace u))) (eqb t u) b (ap not (eq-eqb (countPlace t) (countPlace u) e)))
 
-  count-tallied : (n : ℕ) (xs ws : List ℕ) → Low xs ws → Tallied t ws n (countKept t n xs)
+  count-tallied : (n : ℕ) (xs ws : List ℕ) → Low 7 xs ws → Tallied t ws n (countKept t n xs)
   unfolding countKept
   count-tallied n xs ws h = go (ltb 0 (countPlace t)) refl
     where
@@ -187,7 +96,7 @@ module _ (t : ℕ) (small : t < 15) where
           }
       go false e = let f = ltb-false 0 (countPlace t) e in record { same = h .0; other = λ i s q. h .1 i s; count = λ q. absurd (omega arith) }
 
-  lines-tallied : (fuel : ℕ) (order : Order) (text : List ℕ) (at k : ℕ) (track : Track) (ws : List ℕ) (ns : List Float) (vs : List ℕ) (from : List ℕ) → Low ws from
+  lines-tallied : (fuel : ℕ) (order : Order) (text : List ℕ) (at k : ℕ) (track : Track) (ws : List ℕ) (ns : List Float) (vs : List ℕ) (from : List ℕ) → Low 7 ws from
       → TalliedBy t from (linesFrom fuel t order text at k track ws ns vs)
   unfolding linesFrom
   lines-tallied zero order text at k track ws ns vs from h = go (eqb (byteAt text at) 10) (rowAt text at t order .good)
@@ -200,7 +109,7 @@ module _ (t : ℕ) (small : t < 15) where
       go (eqb (byteAt text at) 10) (rowAt text at t order .good)
       (linesFrom fuel t order text (rowAt text at t order .next) (k + 1) (keptTrack t k (rowAt text at t order .cells) track ws) (keptWords t k (rowAt text at t order .cells) track ws) (numbersBelow t k (rowAt text at t order .cells) 8 ns) (wantsKept t k (rowAt text at t order .cells) vs))
       (lines-tallied fuel order text (rowAt text at t order .next) (k + 1) (keptTrack t k (rowAt text at t order .cells) track ws) (keptWords t k (rowAt text at t order .cells) track ws) (numbersBelow t k (rowAt text at t order .cells) 8 ns) (wantsKept t k (rowAt text at t order .cells) vs) from
-      (low-then (keptWords t k (rowAt text at t order .cells) track ws) ws from (kept-low t small k (rowAt text at t order .cells) track ws) h))
+      (low-then 7 (keptWords t k (rowAt text at t order .cells) track ws) ws from (kept-low 7 (omega arith) t small (word-past t small) k (rowAt text at t order .cells) track ws) h))
     where
       go : (a b : Bool) (o : Outcome) → TalliedBy t from o → TalliedBy t from (cond a (done (at + 1) k (endedTrack track) (countKept t k ws) ns vs) (cond b o (stop 1)))
       go true b o ih = count-tallied k ws from h
@@ -212,7 +121,7 @@ module _ (t : ℕ) (small : t < 15) where
   table-tallied text at track ws ns vs blank =
       go (eqb (nameAt text at .value) (nameOf t)) (headAt text (nameAt text at .next) t .good)
       (linesFrom (limitOf t) t (headAt text (nameAt text at .next) t .order) text (headAt text (nameAt text at .next) t .next) 0 track ws ns vs)
-      (lines-tallied (limitOf t) (headAt text (nameAt text at .next) t .order) text (headAt text (nameAt text at .next) t .next) 0 track ws ns vs ws (low-same ws))
+      (lines-tallied (limitOf t) (headAt text (nameAt text at .next) t .order) text (headAt text (nameAt text at .next) t .next) 0 track ws ns vs ws (low-same 7 ws))
     where
       go : (a b : Bool) (o : Outcome) → TalliedBy t ws o → TalliedBy t ws (cond a (cond b o (stop 1)) (done at 0 track ws ns vs))
       go true true o ih = ih

@@ -8,5 +8,7 @@ pub mod NumbersKept
 pub mod LinesKept
 pub mod ReadTables
 pub mod TablesKept
+pub mod LowWords
 pub mod CountsKept
 pub mod RoadRead
+pub mod KindsKept
