@@ -133,7 +133,7 @@ pub cubic-same : {a b c d e a' b' c' d' e' : Float} → a ≡ a' → b ≡ b' �
     → _≡_ {A = Cubic} (record { start = a; a = b; b = c; c = d; d = e }) (record { start = a'; a = b'; b = c'; c = d'; d = e' })
 cubic-same p q r t u = cc
 
-height-same : {a b c a' b' c' : Float} → a ≡ a' → b ≡ b' → c ≡ c' → _≡_ {A = HeightDef} (record { «s_offset» = a; inner = b; outer = c }) (record { «s_offset» = a'; inner = b'; outer = c' })
+pub height-same : {a b c a' b' c' : Float} → a ≡ a' → b ≡ b' → c ≡ c' → _≡_ {A = HeightDef} (record { «s_offset» = a; inner = b; outer = c }) (record { «s_offset» = a'; inner = b'; outer = c' })
 height-same p q r = cc
 
 length-span : (xs : List Float) (start n : ℕ) → length (span xs start n) ≤ n
@@ -204,6 +204,10 @@ module _ (ws : List ℕ) (ns : List Float) where
   pub geoms-join : roadOf ws ns .geoms ≡ table (geomIn ws ns) (linesOf 1)
   unfolding roadOf countPlace counts
   geoms-join = refl
+
+  pub unused-list-join : roadOf ws ns .unused ≡ table (unusedIn ws ns) (linesOf 1)
+  unfolding roadOf countPlace counts
+  unused-list-join = refl
 
   pub elevations-join : roadOf ws ns .elevations ≡ cubicsIn ws ns (placeAt 2 0) 0 (linesOf 2)
   unfolding roadOf placeAt places countPlace counts

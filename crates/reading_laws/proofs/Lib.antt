@@ -10,5 +10,5 @@ pub mod ReadTables
 pub mod TablesKept
 pub mod LowWords
 pub mod CountsKept
-pub mod RoadRead
 pub mod KindsKept
+pub mod RoadRead

@@ -1,28 +1,32 @@
 -- The road that an accepted text leaves in memory, line by line: what `roadOf` decodes is what the text's lines say. Every line of a table's numbers; the lists along the road whole.
-use Prim.Native.Nat.{ℕ, zero, suc, _+_, _-_, _*_, _<_, _≤_}
+use Prim.Native.Nat.{ℕ, zero, suc, _+_, _-_, _*_, _<_, _≤_, suc-le-suc}
 use native.Mathlib.Omega.{arith}
-use native.Mathlib.Nat.{le-of-suc-le-suc, not-suc-le-zero, zero-add}
+use native.Mathlib.Nat.{le-of-suc-le-suc, not-suc-le-zero, zero-add, zero-lt-suc}
 use mathlib.Core.Path.{_≡_, refl, sym, _∙_, ap, subst}
 use mathlib.Core.List.{List, [], _∷_, map}
 use lib.ListN.{length, getD, length-map, List·getD-map}
 use lib.Seq.{ext-getD}
 use lib.Ieee.{Float, nan}
-use Rattle.cubics.specs.declared.cubics.Cubic.{Cubic}
-use Rattle.cubics.specs.Cubics.{cubicAt, noCubic}
+use Rattle.records.specs.declared.points.GeomRec.{GeomRec}
+use Rattle.records.specs.declared.points.HeightDef.{HeightDef}
+use Rattle.cubics.specs.Cubics.{noCubic}
 use Rattle.records.specs.Layout.{elevBase, bankBase, offsetBase, tshiftBase}
-use Rattle.records.specs.Roads.{Section, Profile, roadOf, cubicsIn, sectionIn, profileIn, sectionOf, profileAt}
+use Rattle.records.specs.Roads.{Section, Profile, roadOf, shapeOf, unusedOf, cubicsIn, sectionIn, profileIn, sectionOf, profileAt}
+use Rattle.records.specs.Roads as records-roads
 use Rattle.records.proofs.RoadLaws.{section-in, profile-in}
+use Rattle.lent.specs.Lists.{table}
 use Rattle.lent.proofs.TableLaws.{length-table}
 use Rattle.structure.proofs.StructureLaws.{cubics-full}
-use Rattle.rows.specs.Columns.{noCells}
+use Rattle.rows.specs.Columns.{cellOf, noCells}
 use Rattle.rows.specs.declared.columns.Cells.{Cells}
-use Rattle.store.specs.Layout.{placeAt, numbers, numberPlace, counts, countPlace}
+use Rattle.store.specs.Layout.{places, placeAt, numbers, numberPlace, words, wordPlace, codeOf, counts, countPlace}
 use Rattle.store.specs.declared.tracks.Track.{Track}
 use Rattle.reader.specs.Reading.{done, readingOf}
-use Rattle.reading_laws.specs.Rows.{rowsOf, numberIn, cubicIn}
-use Rattle.reading_laws.proofs.Layouts.{Five, elev-five, bank-five, offset-five, tshift-five, numberOf, cubicOf, cubic-join, cubic-same, elevations-join, superelevations-join, offsets-join, tshifts-join, sections-join, section-start-join, profiles-join, profile-join}
+use Rattle.reading_laws.specs.Rows.{rowsOf, numberIn, cubicIn, heightIn, geomIn, unusedIn}
+use Rattle.reading_laws.proofs.Layouts.{Five, elev-five, bank-five, offset-five, tshift-five, numberOf, codeOf as codeAt, cubicOf, cubic-join, cubic-same, elevations-join, superelevations-join, offsets-join, tshifts-join, sections-join, section-start-join, profiles-join, profile-join, length-join, geom-join, geoms-join, unused-join, unused-list-join, height-same}
 use Rattle.reading_laws.proofs.TablesKept.{number-kept, rows-inside}
 use Rattle.reading_laws.proofs.CountsKept.{count-kept}
+use Rattle.reading_laws.proofs.KindsKept.{kind-kept}
 
 -- below a list's length any default will do
 any : {A : Type 0} (xs : List A) (i : ℕ) (d e : A) → i < length xs → getD xs i d ≡ getD xs i e
@@ -30,14 +34,34 @@ any [] i d e h = absurd (not-suc-le-zero h)
 any (x ∷ xs) zero d e h = refl
 any (x ∷ xs) (suc i) d e h = any xs i d e (le-of-suc-le-suc h)
 
--- the tables whose lines are counted in a word of their own; section and profile have one number to a line
+-- the tables whose lines are counted in a word of their own; and the numbers of road, section, height and profile
 counted : (0 < countPlace 2) × (0 < countPlace 3) × (0 < countPlace 4) × (0 < countPlace 5) × (0 < countPlace 6) × (0 < countPlace 10) × (0 < countPlace 1)
 unfolding countPlace counts
 counted = (omega arith, omega arith, omega arith, omega arith, omega arith, omega arith, omega arith)
 
-single : (numberPlace 6 0 ≡ 0 + 1) × (numberPlace 10 0 ≡ 0 + 1)
+single : (numberPlace 6 0 ≡ 0 + 1) × (numberPlace 10 0 ≡ 0 + 1) × (numberPlace 0 0 ≡ 0 + 1) × (numberPlace 9 2 ≡ 0 + 1) × (numberPlace 9 3 ≡ 1 + 1) × (numberPlace 9 4 ≡ 2 + 1)
 unfolding numberPlace numbers
-single = (refl, refl)
+single = (refl, refl, refl, refl, refl, refl)
+
+-- a list of the values of a function is a list of lines, each by itself
+table-map : {A B : Type 0} (rows : List A) (f : ℕ → B) (g : A → B) (d : A) → ((i : ℕ) → i < length rows → f i ≡ g (getD rows i d)) → table f (length rows) ≡ map g rows
+unfolding table
+table-map [] f g d h = refl
+table-map (r ∷ rs) f g d h = cons-same (h 0 (zero-lt-suc (length rs))) (table-map rs (λ k. f (suc k)) g d (λ i l. h (suc i) (suc-le-suc l)))
+  where
+    cons-same : {B : Type 0} {x y : B} {xs ys : List B} → x ≡ y → xs ≡ ys → _≡_ {A = List B} (x ∷ xs) (y ∷ ys)
+    cons-same e f = cc
+
+geom-same : (kind kind' : ℕ) {a b c d e f g a' b' c' d' e' f' g' : Float} → kind ≡ kind' → a ≡ a' → b ≡ b' → c ≡ c' → d ≡ d' → e ≡ e' → f ≡ f' → g ≡ g'
+    → _≡_ {A = GeomRec} (record { s = a; x = b; y = c; hdg = d; length = e; shape = shapeOf kind f g }) (record { s = a'; x = b'; y = c'; hdg = d'; length = e'; shape = shapeOf kind' f' g' })
+geom-same kind kind' k p q r t u v w = cc
+
+unused-same : (kind kind' : ℕ) (f g f' g' : Float) → kind ≡ kind' → f ≡ f' → g ≡ g' → unusedOf kind f g ≡ unusedOf kind' f' g'
+unused-same kind kind' f g f' g' k p q = cc
+
+geom-columns : (numberPlace 1 0 ≡ 0 + 1) × (numberPlace 1 1 ≡ 1 + 1) × (numberPlace 1 2 ≡ 2 + 1) × (numberPlace 1 3 ≡ 3 + 1) × (numberPlace 1 4 ≡ 4 + 1) × (numberPlace 1 6 ≡ 5 + 1) × (numberPlace 1 7 ≡ 6 + 1)
+unfolding numberPlace numbers
+geom-columns = (refl, refl, refl, refl, refl, refl, refl)
 
 module _ (text : List ℕ) (l m n at count : ℕ) (track : Track) (ws : List ℕ) (ns : List Float) (vs : List ℕ) (read : readingOf text l m n ≡ done at count track ws ns vs) where
   -- a cell of line k
@@ -105,3 +129,40 @@ module _ (text : List ℕ) (l m n at count : ℕ) (track : Track) (ws : List ℕ
   pub profile-start-read : (i : ℕ) → i < length (rowsOf text 10) → profileAt (roadOf ws ns) i .s ≡ numberIn (getD (rowsOf text 10) i noCells) 0
   profile-start-read i h =
       ap (λ (x : Profile). x .s) (profile-in ws ns i (subst (λ (k : ℕ). i < k) (sym (profile-words ∙ count-kept text l m n at count track ws ns vs read 10 (omega arith) (counted .5))) h) ∙ profile-join ws ns i) ∙ cell-read 10 i 0 0 (omega arith) h (single .1)
+
+  -- ---- geometries, each with its kind and its columns
+
+  kind-read : (i : ℕ) → i < length (rowsOf text 1) → codeAt ws ns 1 i 5 ≡ codeOf (cellOf (getD (rowsOf text 1) i noCells) 5)
+  unfolding placeAt places wordPlace words
+  kind-read i h = ap (λ (p : ℕ). getD ws p 0) (place i) ∙ kind-kept text l m n at count track ws ns vs read i h
+    where
+      place : (i : ℕ) → 7 + i * 1 + 0 ≡ 7 + i
+      place i = omega arith
+
+  geom-read : (i : ℕ) → i < length (rowsOf text 1) → records-roads.geomIn ws ns i ≡ geomIn (getD (rowsOf text 1) i noCells)
+  geom-read i h =
+      geom-join ws ns i
+      ∙ geom-same (codeAt ws ns 1 i 5) (codeOf (cellOf (getD (rowsOf text 1) i noCells) 5)) (kind-read i h) (cell-read 1 i 0 0 (omega arith) h (geom-columns .0)) (cell-read 1 i 1 1 (omega arith) h (geom-columns .1)) (cell-read 1 i 2 2 (omega arith) h (geom-columns .2)) (cell-read 1 i 3 3 (omega arith) h (geom-columns .3)) (cell-read 1 i 4 4 (omega arith) h (geom-columns .4)) (cell-read 1 i 6 5 (omega arith) h (geom-columns .5)) (cell-read 1 i 7 6 (omega arith) h (geom-columns .6))
+
+  unused-read : (i : ℕ) → i < length (rowsOf text 1) → records-roads.unusedIn ws ns i ≡ unusedIn (getD (rowsOf text 1) i noCells)
+  unused-read i h =
+      unused-join ws ns i
+      ∙ unused-same (codeAt ws ns 1 i 5) (codeOf (cellOf (getD (rowsOf text 1) i noCells) 5)) (numberOf ws ns 1 i 6) (numberOf ws ns 1 i 7) (numberIn (getD (rowsOf text 1) i noCells) 6) (numberIn (getD (rowsOf text 1) i noCells) 7) (kind-read i h) (cell-read 1 i 6 5 (omega arith) h (geom-columns .5)) (cell-read 1 i 7 6 (omega arith) h (geom-columns .6))
+
+  pub geoms-read : roadOf ws ns .geoms ≡ map geomIn (rowsOf text 1)
+  geoms-read =
+      geoms-join ws ns ∙ ap (table (records-roads.geomIn ws ns)) (count-kept text l m n at count track ws ns vs read 1 (omega arith) (counted .6))
+      ∙ table-map (rowsOf text 1) (records-roads.geomIn ws ns) geomIn noCells geom-read
+
+  pub unused-all-read : roadOf ws ns .unused ≡ map unusedIn (rowsOf text 1)
+  unused-all-read =
+      unused-list-join ws ns ∙ ap (table (records-roads.unusedIn ws ns)) (count-kept text l m n at count track ws ns vs read 1 (omega arith) (counted .6))
+      ∙ table-map (rowsOf text 1) (records-roads.unusedIn ws ns) unusedIn noCells unused-read
+
+  -- the road's length, where the text has its line
+  pub length-read : 0 < length (rowsOf text 0) → roadOf ws ns .length ≡ numberIn (getD (rowsOf text 0) 0 noCells) 0
+  length-read h = length-join ws ns ∙ cell-read 0 0 0 0 (omega arith) h (single .2)
+
+  -- line k of height
+  pub height-line-read : (k : ℕ) → k < length (rowsOf text 9) → _≡_ {A = HeightDef} (record { «s_offset» = numberOf ws ns 9 k 2; inner = numberOf ws ns 9 k 3; outer = numberOf ws ns 9 k 4 }) (heightIn (getD (rowsOf text 9) k noCells))
+  height-line-read k h = height-same (cell-read 9 k 2 0 (omega arith) h (single .3)) (cell-read 9 k 3 1 (omega arith) h (single .4)) (cell-read 9 k 4 2 (omega arith) h (single .5))

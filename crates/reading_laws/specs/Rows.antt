@@ -7,7 +7,9 @@ use lib.Dec.{eqb}
 use lib.Ieee.{Float}
 use Rattle.float_laws.specs.Binary64.{f64}
 use Rattle.cubics.specs.declared.cubics.Cubic.{Cubic}
+use Rattle.records.specs.declared.points.GeomRec.{GeomRec}
 use Rattle.records.specs.declared.points.HeightDef.{HeightDef}
+use Rattle.records.specs.Roads.{shapeOf, unusedOf}
 use Rattle.schema.specs.Schema.{nameOf, limitOf}
 use Rattle.cells.specs.Cells.{byteAt, nameAt}
 use Rattle.rows.specs.Columns.{cellOf}
@@ -17,6 +19,7 @@ use Rattle.rows.specs.declared.columns.Order.{Order}
 use Rattle.rows.specs.declared.columns.Cells.{Cells}
 use Rattle.rows.specs.declared.names_line.Head.{Head}
 use Rattle.rows.specs.declared.values_line.Row.{Row}
+use Rattle.store.specs.Layout.{codeOf}
 
 -- lines with the place after them, or a form that is broken or too long
 pub data Lines : Type 0 where
@@ -70,3 +73,18 @@ cubicIn column cells =
 -- height: section id start inner outer
 abbrev pub heightIn : Cells → HeightDef
 heightIn cells = record { «s_offset» = numberIn cells 2; inner = numberIn cells 3; outer = numberIn cells 4 }
+
+-- geom: s x y hdg length kind k0 k1; kind is kept as a word
+abbrev pub geomIn : Cells → GeomRec
+geomIn cells =
+    record {
+      s = numberIn cells 0;
+      x = numberIn cells 1;
+      y = numberIn cells 2;
+      hdg = numberIn cells 3;
+      length = numberIn cells 4;
+      shape = shapeOf (codeOf (cellOf cells 5)) (numberIn cells 6) (numberIn cells 7);
+    }
+
+abbrev pub unusedIn : Cells → List Float
+unusedIn cells = unusedOf (codeOf (cellOf cells 5)) (numberIn cells 6) (numberIn cells 7)
