@@ -6,7 +6,7 @@ use mathlib.Core.Path.{_≡_, refl, sym, _∙_, ap, subst}
 use mathlib.Core.List.{List, [], _∷_, map}
 use lib.ListN.{length, getD, length-map, List·getD-map}
 use lib.Seq.{ext-getD}
-use lib.Ieee.{Float, nan}
+use lib.Ieee.{Float}
 use Rattle.records.specs.declared.points.GeomRec.{GeomRec}
 use Rattle.records.specs.declared.points.HeightDef.{HeightDef}
 use Rattle.cubics.specs.Cubics.{noCubic}
@@ -18,7 +18,6 @@ use Rattle.lent.specs.Lists.{table}
 use Rattle.lent.proofs.TableLaws.{length-table}
 use Rattle.structure.proofs.StructureLaws.{cubics-full}
 use Rattle.rows.specs.Columns.{cellOf, noCells}
-use Rattle.rows.specs.declared.columns.Cells.{Cells}
 use Rattle.store.specs.Layout.{places, placeAt, numbers, numberPlace, words, wordPlace, codeOf, counts, countPlace}
 use Rattle.store.specs.declared.tracks.Track.{Track}
 use Rattle.reader.specs.Reading.{done, readingOf}

@@ -1,6 +1,6 @@
 -- An accepted text's numbers: for every table, line and column that holds a number, memory holds the cell's float where the layout says (`number-kept`).
 -- What the layout must have for this is four computed tests: columns inside their line and apart, tables one after another, all within 7,937 numbers.
-use Prim.Native.Nat.{ℕ, zero, suc, _+_, _-_, _*_, _<_, _≤_}
+use Prim.Native.Nat.{ℕ, zero, suc, _+_, _*_, _<_, _≤_}
 use native.Mathlib.Omega.{arith}
 use native.Mathlib.Nat.{le-of-suc-le-suc, not-suc-le-zero, mul-le-mul-right, zero-add}
 use mathlib.Core.Path.{_≡_, refl, sym, _∙_, ap, subst}
