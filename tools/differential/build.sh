@@ -56,6 +56,8 @@ choose() {
     archive=$build/libstub.so
     probes=$archive
   fi
+  # both at once, several checks at a time: rt staticlib alone proves one crate after the other
+  if [ -z "$archive$probes" ]; then rt check exports probes >&2 || fail "rt check exports probes failed"; fi
   if [ -z "$archive" ]; then archive=$(built exports); fi
   if [ -z "$probes" ]; then probes=$(built probes); fi
   [ -f "$archive" ] || fail "no library $archive"
