@@ -7,7 +7,13 @@
  *
  * A function that can refuse returns 0 and writes its answer, or returns the number of the refusal (RIFTKETTLE_REFUSED_.. below) and
  * changes nothing behind its pointers, riftkettle_read alone excepted: see there. Refusals are tested in the order in which a function
- * lists them. */
+ * lists them.
+ *
+ * What the caller's program must provide:
+ * - x86-64, and the usual floating-point environment at each call: rounding to nearest, no flushing of subnormals to zero (neither
+ *   flush-to-zero nor denormals-are-zero), all exceptions masked. Any other was seen to change an answer or to trap. A program that is
+ *   linked with -ffast-math starts with flushing on. examples/c/example.c shows the test.
+ * - `memset`, the one symbol that the library takes from elsewhere. */
 #ifndef RIFTKETTLE_H
 #define RIFTKETTLE_H
 
@@ -18,7 +24,12 @@
 extern "C" {
 #endif
 
-/* ---- refusals: the numbers of document 01 that a function here gives; 9 and 10 are those of calls that are to come */
+#define RIFTKETTLE_VERSION "1.0.0"
+#define RIFTKETTLE_VERSION_MAJOR 1
+#define RIFTKETTLE_VERSION_MINOR 0
+#define RIFTKETTLE_VERSION_PATCH 0
+
+/* ---- refusals: the numbers of document 01 */
 
 #define RIFTKETTLE_REFUSED_FORM 1          /* a line of the job text breaks its form */
 #define RIFTKETTLE_REFUSED_CAPACITY 2      /* the text, or a table of it, is too long, or a slice to read it into is too short */
@@ -26,8 +37,10 @@ extern "C" {
 #define RIFTKETTLE_REFUSED_RANGE 4         /* a number of the road is not finite or outside its limit */
 #define RIFTKETTLE_REFUSED_SAMPLE_BUDGET 5 /* the road's spirals need over 2,000 samples */
 #define RIFTKETTLE_REFUSED_SAMPLE_SPACE 6  /* the lent samples are fewer than the road needs */
-#define RIFTKETTLE_REFUSED_STATION 7       /* s is outside 0..length */
+#define RIFTKETTLE_REFUSED_STATION 7       /* s is outside 0..length; the guess is not finite */
 #define RIFTKETTLE_REFUSED_OFFSET 8        /* t is outside -80..80 */
+#define RIFTKETTLE_REFUSED_TARGET 9        /* x or y is outside -2,000,000..2,000,000 */
+#define RIFTKETTLE_REFUSED_LANE 10         /* the section at s has no lane of that id */
 #define RIFTKETTLE_REFUSED_BORDER_SPACE 11 /* the lent list is shorter than the section's lanes */
 #define RIFTKETTLE_REFUSED_COUNT_RANGE 12  /* the value is outside -80..80 */
 
@@ -74,6 +87,23 @@ extern "C" {
                                       each) of its width and of its terms 0, 1, 2, 3. Left inner, left outer, right inner, right
                                       outer. An absent strip's ranges are not read. */
 
+/* Elements a line: of a table of cubics (elev, bank, offset, tshift, extent, shape, cubic), of the others in `numbers`, and of those in
+ * `words`. A table of one element a line is not listed. */
+#define RIFTKETTLE_CUBIC_STRIDE 5
+#define RIFTKETTLE_GEOM_STRIDE 7
+#define RIFTKETTLE_HEIGHT_STRIDE 3
+#define RIFTKETTLE_LANES_STRIDE 3
+#define RIFTKETTLE_LANE_STRIDE 6
+#define RIFTKETTLE_SHAPES_STRIDE 2
+#define RIFTKETTLE_STRIP_STRIDE 11
+
+/* ---- what calls write into lent slices: numbers an item, and as many as any road needs */
+
+#define RIFTKETTLE_SAMPLE_STRIDE 4 /* a sample: distance from the geometry's start, x, y, heading */
+#define RIFTKETTLE_SAMPLES 8000    /* 2,000 samples */
+#define RIFTKETTLE_BORDER_STRIDE 3 /* a lane: t of its inner border, t of its outer border, its width */
+#define RIFTKETTLE_BORDERS 36      /* 12 lanes */
+
 /* ---- arithmetic: answers for every argument, NaN and the infinities included */
 
 /* The f64 nearest the exact root; NaN below 0. */
@@ -100,21 +130,23 @@ uint32_t riftkettle_counts(double v, int64_t *count);
 uint32_t riftkettle_admit(const uint16_t *words, size_t n, const double *numbers, size_t m);
 
 /* Makes the samples of the road's spirals: four numbers each (distance from the geometry's start, x, y, heading), geometries in
- * order. Writes the samples from samples[0] on and their number to *made; what lies past them stays as it was. 8,000 numbers are
- * enough for every road; a road without spirals needs none.
+ * order. Writes the samples from samples[0] on and their number to *made; what lies past them stays as it was. RIFTKETTLE_SAMPLES
+ * numbers are enough for every road; a road without spirals needs none.
  * Refusals: 3, 4, 5; 6 where k / 4 is less than the samples needed. */
 uint32_t riftkettle_samples(const uint16_t *words, size_t n, const double *numbers, size_t m, double *samples, size_t k,
                             size_t *made);
 
-/* x, y and heading on the geometry of that number (from 0) at s. Lines and arcs run on past their length and before their start;
- * a spiral stays at its ends. The samples are those that riftkettle_samples made of this road; the answer follows what they hold.
+/* x, y and heading on the geometry of that number (from 0) at s, whether it is in use there or not. Lines and arcs run on past their
+ * length and before their start; a spiral stays at its ends. The geometry in use at s is the last one whose start is at most s + 1e-9,
+ * the first where there is none; riftkettle_station answers on that one and needs no number. The samples are those that
+ * riftkettle_samples made of this road; the answer follows what they hold.
  * Writes x, y and heading to pose. Refusals: 3, 4, 5, 6; 3 where the road has no geometry of that number; 7. */
 uint32_t riftkettle_pose(const uint16_t *words, size_t n, const double *numbers, size_t m, const double *samples, size_t k,
                          size_t geometry, double s, double pose[3]);
 
 /* The borders of the lanes of the section at s: three numbers a lane (t of its inner border, t of its outer border, its width), the
  * left lanes from the center outward, then the right ones from the center outward. Writes them from list[0] on and the number of
- * lanes to *lanes; what lies past them stays as it was. 36 numbers are enough for every road: at most 6 lanes a side.
+ * lanes to *lanes; what lies past them stays as it was. RIFTKETTLE_BORDERS numbers are enough for every road: at most 6 lanes a side.
  * Refusals: 3, 4, 5, 7; 11 where k / 3 is less than the section's lanes. */
 uint32_t riftkettle_borders(const uint16_t *words, size_t n, const double *numbers, size_t m, double s, double *list, size_t k,
                             size_t *lanes);
@@ -123,6 +155,35 @@ uint32_t riftkettle_borders(const uint16_t *words, size_t n, const double *numbe
  * the center outward; 0, which no lane has, where t is at the base or on a side without lanes.
  * Refusals: 3, 4, 5, 7, 8. */
 uint32_t riftkettle_lane_named(const uint16_t *words, size_t n, const double *numbers, size_t m, double s, double t, int32_t *id);
+
+/* ---- calls on a road with its samples: those that riftkettle_samples made of this road; an answer follows what they hold */
+
+/* The reference line at s. Writes s, x, y, heading, z, grade (the rate of z along s), bank and the bank's rate to station.
+ * Refusals: 3, 4, 5, 6, 7. */
+uint32_t riftkettle_station(const uint16_t *words, size_t n, const double *numbers, size_t m, const double *samples, size_t k,
+                            double s, double station[8]);
+
+/* The road's own axes at s, x, y and z of each: along the reference line up its grade, across it tilted by the bank, and up, square
+ * to both. Writes along, across and up to axes. Along and up have length 1, but for rounding. Refusals: 3, 4, 5, 6, 7. */
+uint32_t riftkettle_axes(const uint16_t *words, size_t n, const double *numbers, size_t m, const double *samples, size_t k, double s,
+                         double axes[9]);
+
+/* The surface at s and t, t to the left of the reference line: x, y and z, narrowed, to point, and the reference line's heading at s
+ * to *heading. On lanes that stand off the road's plane the point does. Refusals: 3, 4, 5, 6, 7, 8. */
+uint32_t riftkettle_surface(const uint16_t *words, size_t n, const double *numbers, size_t m, const double *samples, size_t k,
+                            double s, double t, float point[3], double *heading);
+
+/* The same on the surface of the lane of that id (1, 2, .. left and -1, -2, .. right), which runs on straight past its borders.
+ * Refusals: 3, 4, 5, 6, 7, 8; 10 where the section at s has no lane of that id, as for 0. */
+uint32_t riftkettle_lane_surface(const uint16_t *words, size_t n, const double *numbers, size_t m, const double *samples, size_t k,
+                                 int32_t id, double s, double t, float point[3], double *heading);
+
+/* Where the point x, y lies on the road, from a guess of its station, by at most 24 moves. Writes s and t to pair, how many moves were
+ * made to *moves, and 1 or 0 to *met: 1 where s lies in 0..length, t in -80..80, and the surface at the pair is under 0.0000009 m from
+ * x, y as computed (then under 0.000001 m exactly). Where it is 0, s or t may be NaN. A finite guess off the road counts as the nearer
+ * end. Refusals: 3, 4, 5, 6; 7 where the guess is not finite; 9. */
+uint32_t riftkettle_locate(const uint16_t *words, size_t n, const double *numbers, size_t m, const double *samples, size_t k, double x,
+                           double y, double guess, double pair[2], uint32_t *moves, uint32_t *met);
 
 /* ---- reading */
 

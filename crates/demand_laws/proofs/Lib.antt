@@ -1,0 +1,3 @@
+pub mod FractionLaws
+pub mod DemandKept
+pub mod DemandOnM1
