@@ -156,7 +156,8 @@ uint32_t riftkettle_borders(const uint16_t *words, size_t n, const double *numbe
  * Refusals: 3, 4, 5, 7, 8. */
 uint32_t riftkettle_lane_named(const uint16_t *words, size_t n, const double *numbers, size_t m, double s, double t, int32_t *id);
 
-/* ---- calls on a road with its samples: those that riftkettle_samples made of this road; an answer follows what they hold */
+/* ---- calls on a road with its samples: those that riftkettle_samples made of this road. An answer follows what they hold; with other
+ * samples it may be NaN */
 
 /* The reference line at s. Writes s, x, y, heading, z, grade (the rate of z along s), bank and the bank's rate to station.
  * Refusals: 3, 4, 5, 6, 7. */
@@ -164,16 +165,19 @@ uint32_t riftkettle_station(const uint16_t *words, size_t n, const double *numbe
                             double s, double station[8]);
 
 /* The road's own axes at s, x, y and z of each: along the reference line up its grade, across it tilted by the bank, and up, square
- * to both. Writes along, across and up to axes. Along and up have length 1, but for rounding. Refusals: 3, 4, 5, 6, 7. */
+ * to both. Writes along, across and up to axes. The squares of along sum to within 0.001 of 1, and so do those of up; across is their
+ * cross product as it is. Refusals: 3, 4, 5, 6, 7. */
 uint32_t riftkettle_axes(const uint16_t *words, size_t n, const double *numbers, size_t m, const double *samples, size_t k, double s,
                          double axes[9]);
 
-/* The surface at s and t, t to the left of the reference line: x, y and z, narrowed, to point, and the reference line's heading at s
- * to *heading. On lanes that stand off the road's plane the point does. Refusals: 3, 4, 5, 6, 7, 8. */
+/* The surface at s and t, t to the left of the reference line. Writes x, y and z, narrowed, to point, and the reference line's heading
+ * at s to *heading. Where lanes, profiles or a cross section stand off the road's plane the point does; past the outermost lane its
+ * outer height holds. Refusals: 3, 4, 5, 6, 7, 8. */
 uint32_t riftkettle_surface(const uint16_t *words, size_t n, const double *numbers, size_t m, const double *samples, size_t k,
                             double s, double t, float point[3], double *heading);
 
-/* The same on the surface of the lane of that id (1, 2, .. left and -1, -2, .. right), which runs on straight past its borders.
+/* The same on the surface of the lane of that id (1, 2, .. left and -1, -2, .. right), which runs on straight past its borders. Past the
+ * borders of a narrow lane the point may be infinite or NaN, which is no refusal.
  * Refusals: 3, 4, 5, 6, 7, 8; 10 where the section at s has no lane of that id, as for 0. */
 uint32_t riftkettle_lane_surface(const uint16_t *words, size_t n, const double *numbers, size_t m, const double *samples, size_t k,
                                  int32_t id, double s, double t, float point[3], double *heading);
@@ -181,7 +185,7 @@ uint32_t riftkettle_lane_surface(const uint16_t *words, size_t n, const double *
 /* Where the point x, y lies on the road, from a guess of its station, by at most 24 moves. Writes s and t to pair, how many moves were
  * made to *moves, and 1 or 0 to *met: 1 where s lies in 0..length, t in -80..80, and the surface at the pair is under 0.0000009 m from
  * x, y as computed (then under 0.000001 m exactly). Where it is 0, s or t may be NaN. A finite guess off the road counts as the nearer
- * end. Refusals: 3, 4, 5, 6; 7 where the guess is not finite; 9. */
+ * end. Refusals: 3, 4, 5, 6; 7 where the guess is not finite; 9 where x or y is outside -2,000,000..2,000,000. */
 uint32_t riftkettle_locate(const uint16_t *words, size_t n, const double *numbers, size_t m, const double *samples, size_t k, double x,
                            double y, double guess, double pair[2], uint32_t *moves, uint32_t *met);
 

@@ -21,7 +21,7 @@ use Rattle.admission.specs.Admission.{admitted}
 use Rattle.admission.specs.Samples.{sampledList}
 use Rattle.surface_calls.specs.SurfaceCalls.{surfaceCall}
 use Rattle.demand_laws.specs.Demand.{AllF64, Answers, PointKept, Kept}
-use Rattle.demand_laws.proofs.DemandKept.{demand-3, made-of}
+use Rattle.demand_laws.proofs.DemandKept.{demand-3}
 
 abbrev ten : Float
 ten = f64 0x4024_0000_0000_0000
@@ -57,7 +57,7 @@ unfolding roadOf cubicsOf table heightsOf goesOn stepsFrom spiralSteps sampleCou
 needs-none = refl
 
 pub kept-on-m1 : Kept words1 numbers1 (sampledList words1 numbers1 [])
-kept-on-m1 = let n = needs-none in demand-3 words1 numbers1 (sampledList words1 numbers1 []) numbers-fit (made-of words1 numbers1 is-admitted [] (omega arith))
+kept-on-m1 = let n = needs-none in demand-3 words1 numbers1 (sampledList words1 numbers1 []) numbers-fit is-admitted (record { lent = []; room = omega arith; written = refl })
 
 -- M1's want: the surface at 1, 2 answers, within its sizes
 pub point-on-m1 : Answers (surfaceCall words1 numbers1 (sampledList words1 numbers1 []) (f64 0x3ff0_0000_0000_0000) (f64 0x4000_0000_0000_0000)) PointKept

@@ -1,0 +1,41 @@
+-- What is read is what the text says: two statements over reading (reader, specs/Reading), each for every text of any bytes. `TextSays` is of texts of right form, accepted or not; `ReadSays` is of accepted ones.
+use Prim.Native.Nat.{ℕ, _≤_}
+use mathlib.Core.Path.{_≡_}
+use mathlib.Core.List.{List}
+use lib.ListN.{length}
+use lib.Ieee.{Float}
+use Rattle.records.specs.Roads.{roadOf}
+use Rattle.admission.specs.Admission.{admissionOf}
+use Rattle.store.specs.declared.tracks.Track.{Track}
+use Rattle.store.specs.Tracks.{startTrack}
+use Rattle.reader.specs.Reading.{done, stop, admittedAs, tablesFrom, zeros, zeroNumbers, readingOf}
+use Rattle.reading_laws.specs.Rows.{rowsOf}
+use Rattle.text_laws.specs.Said.{roadSaid, wantsSaid}
+use Rattle.text_laws.specs.Family.{Family}
+
+module _ (text : List ℕ) (l m n at count : ℕ) (track : Track) (ws : List ℕ) (ns : List Float) (vs : List ℕ) where
+  -- rows 1 and 2 are passed: the text and the slices of l words, m numbers and n wants have their lengths, every line its form, every table its limit. What is held then is ws, ns and vs
+  pub record Formed : Type 0 where
+    pub text-short : length text ≤ 65536
+    pub words-long : 1347 ≤ l
+    pub numbers-long : 7937 ≤ m
+    pub wants-long : 32 ≤ n
+    pub tables : tablesFrom 15 0 text 0 0 startTrack (zeros l) (zeroNumbers m) (zeros n) ≡ done at count track ws ns vs
+
+  -- the words and numbers stand for the road that the text's lines say, the count is that of its wants, and their slice holds their patterns, then zeros
+  pub record AsSaid : Type 0 where
+    pub road : roadOf ws ns ≡ roadSaid (rowsOf text)
+    pub wants : count ≡ length (rowsOf text 14)
+    pub wants-held : vs ≡ wantsSaid (rowsOf text 14) n
+
+-- where references and order are right, what is held is what the text says, and admission judges it; where they are not, reading answers 3
+abbrev pub TextSays : Type 0
+TextSays =
+    (text : List ℕ) (l m n at count : ℕ) (track : Track) (ws : List ℕ) (ns : List Float) (vs : List ℕ) → Formed text l m n at count track ws ns vs
+    → (Family (rowsOf text) → AsSaid text l m n at count track ws ns vs × (readingOf text l m n ≡ admittedAs (admissionOf ws ns) (done at count track ws ns vs) stop))
+    × ((Family (rowsOf text) → ⊥) → readingOf text l m n ≡ stop 3)
+
+-- and so of every text that is accepted
+abbrev pub ReadSays : Type 0
+ReadSays =
+    (text : List ℕ) (l m n at count : ℕ) (track : Track) (ws : List ℕ) (ns : List Float) (vs : List ℕ) → readingOf text l m n ≡ done at count track ws ns vs → AsSaid text l m n at count track ws ns vs
