@@ -1,4 +1,4 @@
--- The two statements of specs/TextSays hold. The track is sound exactly where references and order are right (FamilySays); a sound text leaves what it says (RoadSays, WantRows), and reading's last step asks the track, then admission.
+-- The two statements of specs/TextSays hold. The track is sound exactly where references and order are right (FamilySays); a sound text leaves what it says (RoadSays, WantRows), and reading's last step asks the track, then admission, which judges the road that is said (CountsSay).
 use Prim.Native.Nat.{ℕ, _<_, _≤_}
 use native.Mathlib.Omega.{arith}
 use mathlib.Core.Path.{_≡_, refl, sym, _∙_, ap}
@@ -8,14 +8,18 @@ use lib.ListN.{length, replicate, length-replicate}
 use lib.Dec.{leb, ltb}
 use lib.Ieee.{Float, binary64, ofBits}
 use borrow.Author.Tests.{le-leb, le-ltb}
+use Rattle.refusals.specs.Answer.{Answer, value, checked}
 use Rattle.admission.specs.Admission.{admissionOf}
 use Rattle.store.specs.declared.tracks.Track.{Track}
 use Rattle.reader.specs.Reading.{Outcome, done, stop, admittedAs, judge, readingBy, readingOf, zeros, zeroNumbers}
 use Rattle.reading_laws.specs.Rows.{rowsOf}
 use Rattle.reading_laws.proofs.ReadTables.{Stored, stored}
+use Rattle.text_laws.specs.Said.{roadSaid}
 use Rattle.text_laws.specs.Family.{Family}
+use Rattle.text_laws.specs.Counts.{saidRows}
 use Rattle.text_laws.specs.TextSays.{Formed, AsSaid, TextSays, ReadSays}
 use Rattle.text_laws.proofs.RoadSays.{road-says}
+use Rattle.text_laws.proofs.CountsSay.{admission-says}
 use Rattle.text_laws.proofs.WantRows.{wants-say, count-says}
 use Rattle.text_laws.proofs.FamilySays.{sound-is-family}
 
@@ -51,10 +55,11 @@ module _ (text : List ℕ) (l m n at count : ℕ) (track : Track) (ws : List ℕ
     sound-family : (track .sound ≡ true → Family (rowsOf text)) × (Family (rowsOf text) → track .sound ≡ true)
     sound-family = sound-is-family text l m n at count track ws ns vs (f .tables) long-words long-numbers
 
-    right : Family (rowsOf text) → AsSaid text l m n at count track ws ns vs × (readingOf text l m n ≡ admittedAs (admissionOf ws ns) end stop)
+    right : Family (rowsOf text) → AsSaid text l m n at count track ws ns vs × (readingOf text l m n ≡ admittedAs (checked (saidRows (roadSaid (rowsOf text))) (value tt)) end stop)
     right family =
         let s = sound-family .1 family in
-        (stored-says (record { words-long = long-words; numbers-long = long-numbers; wants-long = long-wants; tables = f .tables; sound = s }), judged ∙ rw s)
+        let read : Stored text l m n end = record { words-long = long-words; numbers-long = long-numbers; wants-long = long-wants; tables = f .tables; sound = s } in
+        (stored-says read, judged ∙ ap (λ (b : Bool). cond b (admittedAs (admissionOf ws ns) end stop) (stop 3)) s ∙ ap (λ (a : Answer (Unit {0})). admittedAs a end stop) (admission-says text l m n at count track ws ns vs read))
 
     wrong : (Family (rowsOf text) → ⊥) → readingOf text l m n ≡ stop 3
     wrong none = judged ∙ go (track .sound) (λ e. none (sound-family .0 e))

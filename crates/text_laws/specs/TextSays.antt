@@ -1,17 +1,18 @@
--- What is read is what the text says: two statements over reading (reader, specs/Reading), each for every text of any bytes. `TextSays` is of texts of right form, accepted or not; `ReadSays` is of accepted ones.
+-- What is read is what the text says: two statements over reading (reader, specs/Reading), each for every text of any bytes. `TextSays` is of texts of right form, accepted or not: each is judged by its lines alone. `ReadSays` is of accepted ones.
 use Prim.Native.Nat.{ℕ, _≤_}
 use mathlib.Core.Path.{_≡_}
 use mathlib.Core.List.{List}
 use lib.ListN.{length}
 use lib.Ieee.{Float}
+use Rattle.refusals.specs.Answer.{value, checked}
 use Rattle.records.specs.Roads.{roadOf}
-use Rattle.admission.specs.Admission.{admissionOf}
 use Rattle.store.specs.declared.tracks.Track.{Track}
 use Rattle.store.specs.Tracks.{startTrack}
 use Rattle.reader.specs.Reading.{done, stop, admittedAs, tablesFrom, zeros, zeroNumbers, readingOf}
 use Rattle.reading_laws.specs.Rows.{rowsOf}
 use Rattle.text_laws.specs.Said.{roadSaid, wantsSaid}
 use Rattle.text_laws.specs.Family.{Family}
+use Rattle.text_laws.specs.Counts.{saidRows}
 
 module _ (text : List ℕ) (l m n at count : ℕ) (track : Track) (ws : List ℕ) (ns : List Float) (vs : List ℕ) where
   -- rows 1 and 2 are passed: the text and the slices of l words, m numbers and n wants have their lengths, every line its form, every table its limit. What is held then is ws, ns and vs
@@ -28,11 +29,11 @@ module _ (text : List ℕ) (l m n at count : ℕ) (track : Track) (ws : List ℕ
     pub wants : count ≡ length (rowsOf text 14)
     pub wants-held : vs ≡ wantsSaid (rowsOf text 14) n
 
--- where references and order are right, what is held is what the text says, and admission judges it; where they are not, reading answers 3
+-- where references and order are right, what is held is what the text says, and rows 3, 4 and 5 of the road that its lines say decide; where they are not, reading answers 3
 abbrev pub TextSays : Type 0
 TextSays =
     (text : List ℕ) (l m n at count : ℕ) (track : Track) (ws : List ℕ) (ns : List Float) (vs : List ℕ) → Formed text l m n at count track ws ns vs
-    → (Family (rowsOf text) → AsSaid text l m n at count track ws ns vs × (readingOf text l m n ≡ admittedAs (admissionOf ws ns) (done at count track ws ns vs) stop))
+    → (Family (rowsOf text) → AsSaid text l m n at count track ws ns vs × (readingOf text l m n ≡ admittedAs (checked (saidRows (roadSaid (rowsOf text))) (value tt)) (done at count track ws ns vs) stop))
     × ((Family (rowsOf text) → ⊥) → readingOf text l m n ≡ stop 3)
 
 -- and so of every text that is accepted
