@@ -1,0 +1,12 @@
+pub mod Places
+pub mod Names
+pub mod Numbers
+pub mod Words
+pub mod Line
+pub mod Tables
+pub mod Bytes
+pub mod PrintReads
+pub mod SamplePrinted
+pub mod TextCells
+pub mod TextNames
+pub mod TextWithin

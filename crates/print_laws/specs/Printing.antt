@@ -1,0 +1,68 @@
+-- Document 01, "The job text": a text that says given lines, T n those of table n, each with its cells by column. Read `printed` first, at the end.
+-- Every table is written, with its columns in the order of 01; one without lines has its names and the empty line.
+use Prim.Native.Nat.{ℕ, zero, suc, _+_, _-_, _/_, _%_}
+use Prim.Native.String.{String}
+use mathlib.Core.Bool.{cond}
+use mathlib.Core.List.{List, [], _∷_, _++_, map}
+use lib.ListN.{getD}
+use lib.Dec.{eqb, ltb}
+use Rattle.schema.specs.Schema.{Table, tables, lists, countOf, kindOf}
+use Rattle.rows.specs.Columns.{cellOf}
+use Rattle.rows.specs.declared.columns.Cells.{Cells}
+use Rattle.surface_output.specs.Digits.{bytesOf, hexOf}
+
+-- "Lines end in one LF; one space parts words": the line of these words
+unfoldable pub lineOf : List (List ℕ) → List ℕ
+lineOf [] = 10 ∷ []
+lineOf (w ∷ []) = w ++ (10 ∷ [])
+lineOf (w ∷ (v ∷ ws)) = w ++ (32 ∷ lineOf (v ∷ ws))
+
+-- the words of a list of the schema: of lists 0 to 14 the columns of that table, of 15 to 19 a column's listed words
+unfoldable pub wordsOf : ℕ → List (List ℕ)
+wordsOf list = map (λ (s : String). bytesOf s) (getD lists list [])
+
+-- a table's name
+unfoldable pub titleOf : ℕ → List ℕ
+titleOf table = getD (map (λ (t : Table). bytesOf (t .name)) tables) table []
+
+-- "A table is a line of names (table, then columns ..)"
+unfoldable pub namesLine : ℕ → List ℕ
+namesLine table = lineOf (titleOf table ∷ wordsOf table)
+
+-- "a whole number is decimal, up to 4 digits, no leading zeros": at most k digits
+unfoldable pub decimalsOf : ℕ → ℕ → List ℕ
+decimalsOf zero n = []
+decimalsOf (suc k) n = cond (ltb n 10) ((48 + n) ∷ []) (decimalsOf k (n / 10) ++ ((48 + n % 10) ∷ []))
+
+-- "`-` if negative": the cell is 10,000 more than the number
+unfoldable pub wholeOf : ℕ → List ℕ
+wholeOf cell = cond (ltb cell 10000) (45 ∷ decimalsOf 4 (10000 - cell)) (decimalsOf 4 (cell - 10000))
+
+-- a cell by its column's kind: "An f64 is its 16 lowercase hexadecimal digits", a whole number, else the word of that list at that place
+unfoldable pub wordOf : ℕ → ℕ → List ℕ
+wordOf kind cell = cond (eqb kind 0) (hexOf 16 cell) (cond (eqb kind 1) (wholeOf cell) (getD (wordsOf kind) cell []))
+
+-- "lines of values in that order": the words of n columns, from column i on
+unfoldable pub valuesFrom : ℕ → ℕ → ℕ → Cells → List (List ℕ)
+valuesFrom zero table i cells = []
+valuesFrom (suc n) table i cells = wordOf (kindOf table i) (cellOf cells i) ∷ valuesFrom n table (i + 1) cells
+
+unfoldable pub valuesLine : ℕ → Cells → List ℕ
+valuesLine table cells = lineOf (valuesFrom (countOf table) table 0 cells)
+
+unfoldable pub valuesLines : ℕ → List Cells → List ℕ
+valuesLines table [] = []
+valuesLines table (cells ∷ rows) = valuesLine table cells ++ valuesLines table rows
+
+-- "a line of names .., lines of values .., one empty line"
+unfoldable pub tableOf : ℕ → List Cells → List ℕ
+tableOf table rows = namesLine table ++ (valuesLines table rows ++ (10 ∷ []))
+
+-- n tables, from a table on: "Tables come in the order below"
+unfoldable pub tablesOf : ℕ → ℕ → (ℕ → List Cells) → List ℕ
+tablesOf zero table T = []
+tablesOf (suc n) table T = tableOf table (T table) ++ tablesOf n (table + 1) T
+
+-- the text of the lines of the fifteen tables
+unfoldable pub printed : (ℕ → List Cells) → List ℕ
+printed T = tablesOf 15 0 T
