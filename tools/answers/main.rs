@@ -17,13 +17,27 @@
 //     l  s, t             the lane named at t: its id as an f64, 0 for none
 //     t  s, t             the lateral height: toward the left, then toward the right
 //
+// The calls of the surface layer take the first numbers of the lent slice as samples. Each answers 0 and the numbers named here,
+// whole ones as an f64 too, or the number of a refusal and zeros.
+//
+//     c  third, count     for the calls after it: a third argument, and how many numbers they are lent (at first 0 and 8,000)
+//     f  place, bits      a number of the lent slice, so that calls meet samples that the road did not make
+//     q  s                station: s, x, y, heading, z, grade, bank, its rate
+//     a  s                axes: along, across, up, each x, y, z
+//     u  s, t             surface: x, y, z, each an f32 and written as the f64 of that value, and the heading
+//     v  s, t             lane surface, the same; the third argument is 2 k for the id k, 2 k + 1 for the id -1 - k
+//     x  x, y             locate; the third argument is the guess: s, t, the count of moves, 1 for met and 0 for astray
+//
 // An answer is a line: each number's 16 digits and a space. Zeros are written alike, and NaNs (document 01). The lent slice has
 // 8,000 numbers, zeros at first. Places of the road that its lists do not name keep what the roads before it left there.
 //
 // Document 01 says what is answered for roads that it admits, so every road is put to its second text of admission
-// (tools/differential/admission.rs), and this stops where it refuses or where s or t is out of range.
+// (tools/differential/admission.rs), and this stops where it refuses or where s or t is out of range. Only the calls of the surface
+// layer are also asked what 01 refuses: the rows are in calls.rs, the road's by that second text.
+mod calls;
 mod questions;
 mod roads;
+mod surfaces;
 
 use comparison::admission;
 use comparison::model::{Memory, NUMBERS, Road, WORDS};
@@ -40,6 +54,9 @@ pub struct List {
     questions: String,
     answers: String,
     asked: BTreeMap<char, usize>,
+    /// the third number of a call, and how many numbers of the slice are lent
+    set: (u64, usize),
+    kinds: BTreeMap<String, usize>,
 }
 
 /// The word that is written for a number.
@@ -64,20 +81,24 @@ impl List {
         words + road.numbers.iter().filter(|&&(at, x)| self.memory.numbers[at].to_bits() != x.to_bits()).count()
     }
 
+    pub fn word(&mut self, at: usize, w: u16) {
+        if self.memory.words[at] != w {
+            self.line('w', at as u64, u64::from(w));
+            self.memory.words[at] = w;
+        }
+    }
+
+    pub fn number(&mut self, at: usize, x: f64) {
+        if self.memory.numbers[at].to_bits() != x.to_bits() {
+            self.line('n', at as u64, x.to_bits());
+            self.memory.numbers[at] = x;
+        }
+    }
+
     /// The road takes the place of the one before.
     pub fn put(&mut self, road: &Road, laid: &roads::Laid) {
-        for &(at, w) in &laid.words {
-            if self.memory.words[at] != w {
-                self.line('w', at as u64, u64::from(w));
-                self.memory.words[at] = w;
-            }
-        }
-        for &(at, x) in &laid.numbers {
-            if self.memory.numbers[at].to_bits() != x.to_bits() {
-                self.line('n', at as u64, x.to_bits());
-                self.memory.numbers[at] = x;
-            }
-        }
+        laid.words.iter().for_each(|&(at, w)| self.word(at, w));
+        laid.numbers.iter().for_each(|&(at, x)| self.number(at, x));
         let refusal = admission::admit(&self.memory.words, &self.memory.numbers);
         assert_eq!(refusal, 0, "the Rust answers for an admitted road, this one is refused: {road:?}");
         assert_eq!(Road::read(&self.memory.words, &self.memory.numbers), *road, "the memory holds another road");
@@ -150,14 +171,28 @@ fn main() {
     let [questions, answers]: [String; 2] =
         std::env::args().skip(1).collect::<Vec<_>>().try_into().expect("two files: answers QUESTIONS ANSWERS");
     let memory = Memory { words: vec![0; WORDS], numbers: vec![0.0; NUMBERS] };
-    let mut list =
-        List { memory, lent: vec![0.0; 8000], questions: String::new(), answers: String::new(), asked: BTreeMap::new() };
-    questions::lines(&mut list, &mut Rng::new(SEED, "lines"));
-    questions::lanes(&mut list, &mut Rng::new(SEED, "lanes"));
+    let mut list = List {
+        memory,
+        lent: vec![0.0; 8000],
+        questions: String::new(),
+        answers: String::new(),
+        asked: BTreeMap::new(),
+        set: (0, 8000),
+        kinds: BTreeMap::new(),
+    };
+    let calls = &mut Rng::new(SEED, "calls");
+    questions::lines(&mut list, &mut Rng::new(SEED, "lines"), calls);
+    questions::lanes(&mut list, &mut Rng::new(SEED, "lanes"), calls);
+    surfaces::whole(&mut list, calls);
     let asked = |letters: &str| letters.chars().map(|c| list.asked[&c]).sum::<usize>();
-    assert!(asked("sep") >= 1000 && asked("bh") >= 1000, "too few: {:?}", list.asked);
-    assert!(list.questions.len() <= 400_000, "the program has room for 12,800 lines");
+    let answered = list.kinds.iter().filter(|(kind, _)| !kind.contains("refused")).map(|(_, n)| n).sum::<usize>();
+    assert!(asked("sep") >= 1000 && asked("bh") >= 1000 && answered >= 2000, "too few: {answered}, {:?}", list.asked);
+    for kind in ["u NaN", "v lane of width 0", "v refused 10", "x met after 24 moves", "x astray, a NaN in the pair"] {
+        assert!(list.kinds.contains_key(kind), "no answer of the kind {kind}");
+    }
+    assert!(list.questions.len() <= 648_000, "the program has room for 18,000 lines");
     std::fs::write(&questions, &list.questions).expect("the list of questions");
     std::fs::write(&answers, &list.answers).expect("the list of answers");
+    list.kinds.iter().for_each(|(kind, n)| println!("{n:5} {kind}"));
     println!("{:?}, {} bytes of questions, {} of answers", list.asked, list.questions.len(), list.answers.len());
 }

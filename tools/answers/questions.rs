@@ -1,12 +1,12 @@
 // What is asked of each road: most stations lie where a record starts, at it or some nanometres beside it.
-use crate::roads::With;
+use crate::surfaces::Asked;
 use crate::{List, roads};
 use comparison::model::*;
 use comparison::oracle::{Oracle, Records};
 use comparison::random::{Rng, nudge};
 
 /// The starts of all records along the road, a lane's own added to its section's.
-fn starts(road: &Road) -> Vec<f64> {
+pub fn starts(road: &Road) -> Vec<f64> {
     let lists = [&road.elev, &road.bank, &road.offset, &road.tshift].into_iter();
     let strips = road.strips.iter().flatten().flat_map(|strip| &strip.lists);
     let mut all: Vec<f64> = lists.chain(strips).flatten().map(|c| c.start).collect();
@@ -36,7 +36,7 @@ fn beside(rng: &mut Rng, places: &[f64]) -> f64 {
 }
 
 /// A station of the road.
-fn station(rng: &mut Rng, road: &Road, starts: &[f64]) -> f64 {
+pub fn station(rng: &mut Rng, road: &Road, starts: &[f64]) -> f64 {
     loop {
         let s = match rng.below(8) {
             0 => rng.pick(&[0.0, road.length]),
@@ -72,7 +72,8 @@ fn sample_questions(list: &mut List, rng: &mut Rng, rust: &Oracle) {
     }
 }
 
-pub fn lines(list: &mut List, rng: &mut Rng) {
+/// Roads with a reference line only. The calls of the surface layer draw from a stream of their own.
+pub fn lines(list: &mut List, rng: &mut Rng, calls: &mut Rng) {
     for _ in 0..48 {
         let road = roads::line(list, rng);
         let (rust, starts) = (Oracle::new(&road), starts(&road));
@@ -83,6 +84,11 @@ pub fn lines(list: &mut List, rng: &mut Rng) {
             let s = own.unwrap_or_else(|| station(rng, &road, &starts));
             list.pose(&rust, geometry, s);
         }
+        let asked = Asked::new(&road, &rust);
+        for _ in 0..3 {
+            asked.all(list, calls);
+        }
+        asked.rare(list, calls);
     }
 }
 
@@ -95,7 +101,7 @@ fn shift(road: &Road, s: f64) -> f64 {
 }
 
 /// An offset: at a lane's border, a shape's start or where the strips begin, beside it, or anywhere.
-fn offset(rng: &mut Rng, road: &Road, rust: &Oracle, s: f64) -> f64 {
+pub fn offset(rng: &mut Rng, road: &Road, rust: &Oracle, s: f64) -> f64 {
     let mut places = rust.borders(rust.section_at(s), s).concat();
     places.extend(road.profiles.iter().flat_map(|p| &p.shapes).map(|c| c.start));
     places.extend([rust.base(s), 80.0, -80.0]);
@@ -108,7 +114,7 @@ fn offset(rng: &mut Rng, road: &Road, rust: &Oracle, s: f64) -> f64 {
 }
 
 /// The ids of the lanes of a section.
-fn ids(section: &Section) -> Vec<i32> {
+pub fn ids(section: &Section) -> Vec<i32> {
     let side = |n: usize| 1..=n as i32;
     side(section.left.len()).chain(side(section.right.len()).map(|id| -id)).collect()
 }
@@ -126,13 +132,20 @@ fn lane_questions(list: &mut List, rng: &mut Rng, road: &Road, rust: &Oracle, s:
     list.toward(rust, s, offset(rng, road, rust, s));
 }
 
-pub fn lanes(list: &mut List, rng: &mut Rng) {
+/// Roads with lanes, along a straight line.
+pub fn lanes(list: &mut List, rng: &mut Rng, calls: &mut Rng) {
     for i in 0..36 {
-        let road = roads::lanes(list, rng, [With::Strips, With::Profiles, With::Anything][i % 3]);
+        let road = roads::lanes(list, rng, roads::WITH[i % 3]);
         let (rust, starts) = (Oracle::new(&road), starts(&road));
         for _ in 0..13 {
             let s = station(rng, &road, &starts);
             lane_questions(list, rng, &road, &rust, s);
         }
+        let asked = Asked::new(&road, &rust);
+        for _ in 0..3 {
+            asked.all(list, calls);
+            asked.points(list, calls);
+        }
+        asked.rare(list, calls);
     }
 }

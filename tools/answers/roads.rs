@@ -60,6 +60,18 @@ pub enum With {
     Anything,
 }
 
+pub const WITH: [With; 3] = [With::Strips, With::Profiles, With::Anything];
+
+impl With {
+    fn fits(self, road: &Road) -> bool {
+        match self {
+            With::Strips => road.strips.iter().flatten().count() > 1,
+            With::Profiles => !road.profiles.is_empty(),
+            With::Anything => true,
+        }
+    }
+}
+
 /// A road with lanes of every kind and a bank.
 pub fn lanes(list: &mut List, rng: &mut Rng, with: With) -> Road {
     put(list, rng, 190, |rng| {
@@ -70,20 +82,29 @@ pub fn lanes(list: &mut List, rng: &mut Rng, with: With) -> Road {
             road.bank = bank(rng, road.length);
         }
         shorten(rng, &mut road);
-        let fits = match with {
-            With::Strips => road.strips.iter().flatten().count() > 1,
-            With::Profiles => !road.profiles.is_empty(),
-            With::Anything => true,
-        };
-        (fits && wide(&road)).then_some(road)
+        (with.fits(&road) && wide(&road)).then_some(road)
     })
 }
 
-/// Keeps the last records of each list, which leaves their reaches as they are, and the inner lanes of each side.
+/// A road with records of every kind, a spiral among its geometries.
+pub fn whole(list: &mut List, rng: &mut Rng, with: With) -> Road {
+    put(list, rng, 220, |rng| {
+        let mut road = generate::draft(rng);
+        last(&mut road.elev, 2);
+        shorten(rng, &mut road);
+        let lists = [&road.elev, &road.bank, &road.offset];
+        let fits = road.spirals() > 0 && road.sections.len() > 1 && lists.iter().all(|list| !list.is_empty());
+        (fits && with.fits(&road) && wide(&road)).then_some(road)
+    })
+}
+
+/// Keeps the last records of a list, which leaves their reaches as they are.
+fn last<T>(list: &mut Vec<T>, most: usize) {
+    list.drain(..list.len().saturating_sub(most));
+}
+
+/// Keeps the last records of each list across the road, and the inner lanes of each side.
 fn shorten(rng: &mut Rng, road: &mut Road) {
-    fn last<T>(list: &mut Vec<T>, most: usize) {
-        list.drain(..list.len().saturating_sub(most));
-    }
     let strips = road.strips.iter_mut().flatten().flat_map(|strip| &mut strip.lists);
     [&mut road.bank, &mut road.offset, &mut road.tshift].into_iter().chain(strips).for_each(|l| last(l, rng.from_to(1, 2)));
     last(&mut road.profiles, 3);

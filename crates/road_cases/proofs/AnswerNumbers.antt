@@ -1,12 +1,14 @@
 -- The number of an answer, from the case of the enum that was found and what the call ensures of it.
 use Prim.Native.Nat.{ℕ}
 use mathlib.Core.Path.{_≡_, ap, sym, _∙_}
+use mathlib.Core.List.{List}
 use lib.Ieee.{Float}
 use Rattle.refusals.specs.Answer.{Answer}
 use Rattle.lane_names.specs.declared.names.LaneName.{LaneName}
 use Rattle.lane_calls.specs.LaneCalls.{nameAnswer}
 use Rattle.lane_calls.specs.declared.asking.Named.{Named}
 use Rattle.road_cases.specs.Case.{countWord, nameNumber}
+use Rattle.road_cases.specs.Rows.{rowOf}
 
 -- an enum of a count or a refusal, through the definition of its answer
 module _ {E : Type 0} (of : E → Answer ℕ) {v u : E} {a : Answer ℕ} (q : of v ≡ a) (p : v ≡ u) where
@@ -16,3 +18,8 @@ module _ {E : Type 0} (of : E → Answer ℕ) {v u : E} {a : Answer ℕ} (q : of
 module _ {v u : Named} {a : Answer LaneName} (q : nameAnswer v ≡ a) (p : v ≡ u) where
   pub name-of : {x : Float} → x ≡ nameNumber (nameAnswer u) → x ≡ nameNumber a
   name-of e = e ∙ ap (λ (y : Named). nameNumber (nameAnswer y)) (sym p) ∙ ap nameNumber q
+
+-- an enum of a value or a refusal, as a row
+module _ {E A : Type 0} (of : E → Answer A) (numbers : A → List Float) {v u : E} (p : v ≡ u) where
+  pub row-of : rowOf numbers (of u) ≡ rowOf numbers (of v)
+  row-of = ap (λ (x : E). rowOf numbers (of x)) (sym p)

@@ -1,1 +1,2 @@
 pub mod Case
+pub mod Rows

@@ -14,7 +14,7 @@ pub(crate) fn put_word(words: &mut [u16], place: u64, value: u64) -> bool {
     true
 }
 
-// Puts the f64 of a pattern at a place of the road; false where there is no such place.
+// Puts the f64 of a pattern at a place of the road or of the lent slice; false where there is no such place.
 pub(crate) fn put_number(numbers: &mut [f64], place: u64, bits: u64) -> bool {
     if numbers.len() as u64 <= place {
         return false;
@@ -41,9 +41,9 @@ pub(crate) fn lent_space() -> [f64; 8000]
     [0.0; 8000]
 }
 
-// Room for 12,800 lines.
-pub(crate) fn text_space() -> [u8; 460800]
-    ensures { λ r. ⌜ 460800 ≡ length r ⌝ }
+// Room for 18,000 lines.
+pub(crate) fn text_space() -> [u8; 648000]
+    ensures { λ r. ⌜ 648000 ≡ length r ⌝ }
 {
-    [0; 460800]
+    [0; 648000]
 }

@@ -7,10 +7,13 @@ use Rattle.road_cases.proofs.lines.lines.Statement.{statement}
 use Rattle.road_cases.proofs.lines.lines.Tie as tie
 
 abbrev Inv-loop : tie.InvT-loop
-Inv-loop text words₀ numbers₀ lent₀ i₀ t7 words numbers lent i = (length words₀ ≡ length words) × (length numbers₀ ≡ length numbers) × (length lent₀ ≡ length lent)
+Inv-loop text words₀ numbers₀ lent₀ set₀ i₀ words numbers lent set i = (length words₀ ≡ length words) × (length numbers₀ ≡ length numbers) × (length lent₀ ≡ length lent)
 
 abbrev μ-loop : tie.MeasureT-loop
-μ-loop text words₀ numbers₀ lent₀ i₀ t7 words numbers lent i = length text / 36 - i
+μ-loop text words₀ numbers₀ lent₀ set₀ i₀ words numbers lent set i = length text / 36 - i
+
+first-setting-requires : tie.Need-first-setting-requires Inv-loop μ-loop
+first-setting-requires c κs = search needs
 
 loop-holds : tie.Need-loop-holds Inv-loop μ-loop
 loop-holds c = search needs
@@ -21,14 +24,8 @@ mul-line-at c = search needs
 line-at-requires : tie.Need-line-at-requires Inv-loop μ-loop
 line-at-requires c κs = search needs
 
-apply-requires : tie.Need-apply-requires Inv-loop μ-loop
-apply-requires c κs = search needs
-
-slice-aggregate-write-all : tie.Need-slice-aggregate-write-all Inv-loop μ-loop
-slice-aggregate-write-all c = search needs
-
-write-all-requires : tie.Need-write-all-requires Inv-loop μ-loop
-write-all-requires c κs = search needs
+step-requires : tie.Need-step-requires Inv-loop μ-loop
+step-requires c κs = search needs
 
 add-i : tie.Need-add-i Inv-loop μ-loop
 add-i c = search needs
@@ -57,12 +54,11 @@ lines-spec =
     (tie.spec
     Inv-loop
     μ-loop
+    first-setting-requires
     loop-holds
     mul-line-at
     line-at-requires
-    apply-requires
-    slice-aggregate-write-all
-    write-all-requires
+    step-requires
     add-i
     loop-less
     loop-again

@@ -6,7 +6,7 @@ use Rattle.road_cases.proofs.memory.text_space.Statement.{statement}
 use Rattle.road_cases.proofs.memory.text_space.Tie as tie
 
 returns : tie.Need-returns
-returns c = sym (length-replicate {A = ℕ} 460800 0)
+returns c = sym (length-replicate {A = ℕ} 648000 0)
 
 pub text-space-spec : {M : Type 1} → statement M
 text-space-spec = tie.close (tie.spec returns)
