@@ -128,7 +128,7 @@ pub fn for_counts(rng: &mut Rng) -> f64 {
 // ---- rules in whole numbers
 
 /// A finite x as (negative, mantissa, exponent of two).
-fn parts(x: f64) -> (bool, u64, i32) {
+pub fn parts(x: f64) -> (bool, u64, i32) {
     let bits = x.to_bits();
     let (field, fraction) = ((bits >> 52 & 0x7ff) as i32, bits & ((1 << 52) - 1));
     let mantissa = if field == 0 { fraction } else { fraction | 1 << 52 };

@@ -5,6 +5,7 @@
 #     library            builds the Rust that all programs share, with the patched copies in it
 #     choose             sets $archive and $probes: those named, the stub's, or those of the crates `exports` and `probes`, built
 #                        if need be
+#     choose_surface     sets $surface: the program named, the stub's, or that of the crate `surface`, built if need be
 #     stub [WORDS]       builds the stub in place of the library; WORDS go to rustc
 #     program NAME FILE  builds a program over the shared Rust, $archive and $probes
 
@@ -65,6 +66,19 @@ choose() {
   archive=$(realpath "$archive")
   probes=$(realpath "$probes")
   echo "library: $archive, and $probes" >&2
+}
+
+choose_surface() {
+  if [ -n "$stub" ]; then
+    rustc "${RUST[@]}" --crate-name stub_program -o "$build/stub_program" "$SHARED/stub_program.rs" "${USES[@]}"
+    surface=$build/stub_program
+  fi
+  if [ -z "$surface" ]; then
+    rt check surface >&2 || fail "rt check surface failed"
+    surface=target/bin/surface
+  fi
+  [ -x "$surface" ] || fail "no program $surface"
+  surface=$(realpath "$surface")
 }
 
 program() {

@@ -4,8 +4,13 @@ use crate::admission::{self, bound, spiral_samples};
 use crate::model::*;
 use crate::random::{Rng, nudge};
 
-/// A road that is admitted, with its memory. Drafts that break a limit or do not fit are drawn anew.
+/// A road that is admitted, with its memory.
 pub fn admitted(rng: &mut Rng) -> (Road, Memory) {
+    laid(rng, draft)
+}
+
+/// Drafts that break a limit or do not fit are drawn anew.
+fn laid(rng: &mut Rng, draft: impl Fn(&mut Rng) -> Road) -> (Road, Memory) {
     loop {
         let road = draft(rng);
         let style = Style::random(rng);
@@ -23,7 +28,7 @@ pub fn draft(rng: &mut Rng) -> Road {
     let crossed = rng.one_in(3);
     Road {
         length,
-        geoms: if rng.one_in(2) { chained_geoms(rng, length) } else { free_geoms(rng, length) },
+        geoms: geoms(rng, length),
         elev: steep_list(rng, length),
         bank: road_list(rng, 64, length, 0.75),
         offset: road_list(rng, 64, length, 8.0),
@@ -37,30 +42,64 @@ pub fn draft(rng: &mut Rng) -> Road {
 /// A road for what lies across it: admitted, with its memory. Its reference line is one line; most have lanes of both kinds that
 /// lie one beyond the other, with heights and level ones among them, and profiles or strips or both.
 pub fn across(rng: &mut Rng) -> (Road, Memory) {
-    loop {
-        let length = length(rng);
-        let (crossed, shaped, outward) = (rng.one_in(2), rng.one_in(2), !rng.one_in(3));
-        let geom = Geom { s: 0.0, x: 0.0, y: 0.0, hdg: 0.0, length, shape: Shape::Line };
-        let mut road = Road {
-            length,
-            geoms: vec![geom],
-            offset: road_list(rng, 64, length, 8.0),
-            tshift: if crossed { road_list(rng, 64, length, 8.0) } else { Vec::new() },
-            sections: sections(rng, length),
-            profiles: if shaped { profiles(rng, length) } else { Vec::new() },
-            strips: if crossed { strips(rng, length) } else { Default::default() },
-            ..Road::default()
-        };
-        if outward {
-            road.sections.iter_mut().for_each(|section| spread(rng, section));
-        }
-        let style = Style::random(rng);
-        if let Some(memory) = road.lay(rng, style) {
-            if admission::admit(&memory.words, &memory.numbers) == 0 {
-                return (road, memory);
-            }
-        }
+    laid(rng, draft_across)
+}
+
+fn draft_across(rng: &mut Rng) -> Road {
+    let length = length(rng);
+    let (crossed, shaped, outward) = (rng.one_in(2), rng.one_in(2), !rng.one_in(3));
+    let geom = Geom { s: 0.0, x: 0.0, y: 0.0, hdg: 0.0, length, shape: Shape::Line };
+    let mut road = Road {
+        length,
+        geoms: vec![geom],
+        offset: road_list(rng, 64, length, 8.0),
+        tshift: if crossed { road_list(rng, 64, length, 8.0) } else { Vec::new() },
+        sections: sections(rng, length),
+        profiles: if shaped { profiles(rng, length) } else { Vec::new() },
+        strips: if crossed { strips(rng, length) } else { Default::default() },
+        ..Road::default()
+    };
+    if outward {
+        road.sections.iter_mut().for_each(|section| spread(rng, section));
     }
+    road
+}
+
+/// A road for its surface: what lies across it as above, over any reference line, with elevation and bank. On one in four nothing
+/// stands off the road's plane; some have lanes so thin that a fraction across them overflows.
+pub fn surfaced(rng: &mut Rng) -> (Road, Memory) {
+    laid(rng, |rng| {
+        let mut road = draft_across(rng);
+        road.geoms = geoms(rng, road.length);
+        road.elev = steep_list(rng, road.length);
+        road.bank = road_list(rng, 64, road.length, 0.75);
+        if rng.one_in(4) {
+            lay_bare(&mut road);
+        }
+        if rng.one_in(12) {
+            make_thin(rng, &mut road);
+        }
+        road
+    })
+}
+
+/// Puts the base at 0, and beside it lanes as wide as some subnormal number.
+fn make_thin(rng: &mut Rng, road: &mut Road) {
+    road.offset.clear();
+    for lane in road.sections.iter_mut().flat_map(|s| s.left.first_mut().into_iter().chain(s.right.first_mut())) {
+        let a = f64::from_bits(rng.bits() >> rng.from_to(12, 63));
+        (lane.border, lane.extents) = (false, vec![Cubic { a, ..Cubic::default() }]);
+    }
+}
+
+fn lay_bare(road: &mut Road) {
+    for lane in road.sections.iter_mut().flat_map(|s| s.left.iter_mut().chain(&mut s.right)) {
+        lane.heights.clear();
+        lane.level = false;
+    }
+    road.profiles.clear();
+    road.tshift.clear();
+    road.strips = Default::default();
 }
 
 /// Makes most lanes wide, and most borders lie beyond the inner neighbour's.
@@ -232,6 +271,10 @@ fn shape(rng: &mut Rng, length: f64, left: &mut usize) -> Shape {
         (_, 0) => Shape::Arc(rng.pick(&[1e-9, -1e-9, 0.0, 1e-10, 0.00001, -0.00001, 1.0])),
         _ => Shape::Arc(curvature(rng, 0.00001)),
     }
+}
+
+fn geoms(rng: &mut Rng, length: f64) -> Vec<Geom> {
+    if rng.one_in(2) { chained_geoms(rng, length) } else { free_geoms(rng, length) }
 }
 
 /// Geometries that follow one another without holes in s or jumps in plan (so far as lengths and limits allow).

@@ -17,9 +17,20 @@ macro_rules! riftkettle_functions {
             riftkettle_counts: counts(v: f64, count: (mut i64)) -> u32;
             riftkettle_admit: admit(m: Road) -> u32;
             riftkettle_samples: samples(m: Road, lent: [mut f64], made: (mut usize)) -> u32;
-            riftkettle_pose: pose(m: Road, samples: [f64], geometry: usize, s: f64, pose: (mut [f64; 3])) -> u32;
+            riftkettle_pose: pose(m: Road, samples: [f64], geometry: usize, s: f64, to: (mut [f64; 3])) -> u32;
             riftkettle_borders: borders(m: Road, s: f64, list: [mut f64], lanes: (mut usize)) -> u32;
             riftkettle_lane_named: lane_named(m: Road, s: f64, t: f64, id: (mut i32)) -> u32;
+            riftkettle_station: station(m: Road, samples: [f64], s: f64, to: (mut [f64; 8])) -> u32;
+            riftkettle_axes: axes(m: Road, samples: [f64], s: f64, to: (mut [f64; 9])) -> u32;
+            riftkettle_surface: surface(
+                m: Road, samples: [f64], s: f64, t: f64, point: (mut [f32; 3]), heading: (mut f64)
+            ) -> u32;
+            riftkettle_lane_surface: lane_surface(
+                m: Road, samples: [f64], id: i32, s: f64, t: f64, point: (mut [f32; 3]), heading: (mut f64)
+            ) -> u32;
+            riftkettle_locate: locate(
+                m: Road, samples: [f64], x: f64, y: f64, guess: f64, pair: (mut [f64; 2]), moves: (mut u32), met: (mut u32)
+            ) -> u32;
             riftkettle_read: read(
                 text: [u8], words: [mut u16], numbers: [mut f64], wants: [mut u64], count: (mut usize)
             ) -> u32;
@@ -43,7 +54,7 @@ macro_rules! probe_functions {
                 m: Road, section: usize, s: f64, tangent: f64, right: u32, k: usize,
                 inner_t: (mut f64), outer_t: (mut f64), inner_height: (mut f64), outer_height: (mut f64)
             ) -> ();
-            probe_pose: pose(m: Road, samples: [f64], geometry: usize, s: f64, pose: (mut [f64; 3])) -> ();
+            probe_pose: pose(m: Road, samples: [f64], geometry: usize, s: f64, to: (mut [f64; 3])) -> ();
         }
     };
 }

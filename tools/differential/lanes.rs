@@ -2,8 +2,8 @@
 //
 // The published Rust answers for every number, so the functions inside the library are asked with any s, t and tangent. The calls
 // are held against the Rust too, and the naming of a lane also against a second text of document 01's rule.
+use crate::places::{any, asked, beside, near_borders, offsets, on_road, starts_across, stations, wide_stations, within_80};
 use crate::{same_memory, still_untouched, untouched};
-use comparison::arguments::SPECIAL;
 use comparison::generate;
 use comparison::limits;
 use comparison::model::{Cubic, Memory, Road};
@@ -14,23 +14,6 @@ use comparison::riftkettle as ours;
 use comparison::tally::{Tally, hex, same};
 
 // ---- numbers
-
-/// Any bits, or a number where something turns.
-fn any(rng: &mut Rng) -> f64 {
-    if rng.one_in(2) { rng.pattern() } else { nudge(rng.pick(&SPECIAL), rng.from_to(0, 4) as i32 - 2) }
-}
-
-/// Beside x: at it, a nanometre before it or after it, and a few f64 from there.
-fn beside(rng: &mut Rng, x: f64) -> f64 {
-    let near = match rng.below(8) {
-        0 | 1 => x,
-        2..5 => x - 1e-9,
-        5 => x + 1e-9,
-        6 => x + rng.pick(&[5e-10, -5e-10, 2e-9, -2e-9]),
-        _ => x + rng.between(-3e-9, 3e-9),
-    };
-    if rng.one_in(3) { near } else { nudge(near, rng.from_to(0, 6) as i32 - 3) }
-}
 
 fn tangent(rng: &mut Rng) -> f64 {
     match rng.below(8) {
@@ -142,73 +125,6 @@ pub fn bare_pose(rng: &mut Rng, tally: &mut Tally) {
     }
 }
 
-// ---- places on a road
-
-/// Every start along the road, lane lists' too, measured along the road.
-fn starts(road: &Road) -> Vec<f64> {
-    let along = |list: &[Cubic]| list.iter().map(|c| c.start).collect::<Vec<f64>>();
-    let mut all = [along(&road.offset), along(&road.tshift)].concat();
-    all.extend(road.profiles.iter().map(|p| p.s));
-    all.extend(road.strips.iter().flatten().flat_map(|s| &s.lists).flatten().map(|c| c.start));
-    for section in &road.sections {
-        all.push(section.start);
-        for lane in section.left.iter().chain(&section.right) {
-            let lists = lane.extents.iter().map(|c| c.start).chain(lane.heights.iter().map(|h| h.start));
-            all.extend(lists.map(|start| section.start + start));
-        }
-    }
-    all
-}
-
-/// At a start, where it becomes active or not, and beside it.
-fn around(rng: &mut Rng, start: f64) -> [f64; 3] {
-    [start, nudge(start - 1e-9, rng.from_to(0, 6) as i32 - 3), beside(rng, start)]
-}
-
-/// Stations around every start, or around some where there are more than `most`; then others on the road.
-fn stations(rng: &mut Rng, road: &Road, most: usize) -> Vec<f64> {
-    let mut all = starts(road);
-    while all.len() > most {
-        all.swap_remove(rng.below(all.len()));
-    }
-    let mut at: Vec<f64> = all.into_iter().flat_map(|x| around(rng, x)).collect();
-    at.push(road.length * rng.unit());
-    let end = rng.pick(&[0.0, -0.0, road.length]);
-    at.push(beside(rng, end));
-    at
-}
-
-/// For functions that answer for every s.
-fn wide_stations(rng: &mut Rng, road: &Road, most: usize) -> Vec<f64> {
-    let mut at = stations(rng, road, most);
-    at.push(rng.pick(&[f64::NAN, f64::INFINITY, f64::NEG_INFINITY, -1.0, 1e300, -1e300, 2.0 * road.length]));
-    at
-}
-
-/// Offsets at and beside what lies across the road at s: borders, the ridge, strips' edges, shapes' starts.
-fn offsets(rng: &mut Rng, road: &Road, oracle: &Oracle, s: f64) -> Vec<f64> {
-    let shift = Records::new(&road.tshift);
-    let ridge = shift.active(s).map_or(0.0, |i| shift.eval(i, s));
-    let edges = road.strips.iter().flatten().map(|strip| {
-        let width = Records::new(&strip.lists[0]);
-        width.active(s).map_or(0.0, |i| width.eval(i, s))
-    });
-    let mut all: Vec<f64> = edges.flat_map(|w| [ridge + w, ridge - w]).collect();
-    all.extend([ridge, ridge + 1e-9, ridge - 1e-9, oracle.base(s)]);
-    all.extend(road.profiles.iter().flat_map(|p| &p.shapes).map(|c| c.start));
-    while all.len() > 6 {
-        all.swap_remove(rng.below(all.len()));
-    }
-    let mut at: Vec<f64> = all.into_iter().map(|x| beside(rng, x)).collect();
-    at.extend([rng.between(-80.0, 80.0), rng.pick(&[80.0, -80.0, 0.0, -0.0]), any(rng)]);
-    at
-}
-
-/// A road and its numbers for a message: short enough to read, whole enough to run again.
-fn asked(road: &Road, s: f64) -> String {
-    format!("at s {}: {road:?}", hex(&[s]))
-}
-
 // ---- across the road
 
 /// A section and a side where their lanes are not asked for.
@@ -217,8 +133,8 @@ const NO_LANES: (usize, u32) = (0, 0);
 fn across(rng: &mut Rng, tally: &mut Tally, one: impl Fn(&mut Rng, &mut Tally, (&Road, &Memory, &Oracle), f64, f64)) {
     let (road, m) = generate::across(rng);
     let oracle = Oracle::new(&road);
-    for s in wide_stations(rng, &road, 8) {
-        for t in offsets(rng, &road, &oracle, s) {
+    for s in wide_stations(rng, &road, starts_across(&road), 8) {
+        for t in offsets(rng, &road, &oracle, s, 6) {
             one(rng, tally, (&road, &m, &oracle), s, t);
         }
     }
@@ -260,7 +176,7 @@ pub fn height(rng: &mut Rng, tally: &mut Tally) {
 pub fn lane_heights(rng: &mut Rng, tally: &mut Tally) {
     let (road, m) = generate::across(rng);
     let (oracle, before) = (Oracle::new(&road), m.clone());
-    for s in wide_stations(rng, &road, 30) {
+    for s in wide_stations(rng, &road, starts_across(&road), 30) {
         let found = inside::across(&m, (s, 0.0, -1.0), NO_LANES).section;
         let expected = oracle.section_at(s);
         tally.check(found == expected, || format!("section: ours {found}, theirs {expected} {}", asked(&road, s)));
@@ -284,10 +200,6 @@ pub fn lane_heights(rng: &mut Rng, tally: &mut Tally) {
     tally.check(same_memory(&m, &before), || "a function inside changed the road".into());
 }
 
-fn on_road(road: &Road, s: f64) -> bool {
-    0.0 <= s && s <= road.length
-}
-
 /// One call of borders with a list of that many numbers, against the number or the borders that it must answer.
 fn check_borders(tally: &mut Tally, m: &Memory, s: f64, numbers: usize, expected: Result<&[f64], u32>, road: &Road) {
     let (mut list, mut lanes) = (untouched(numbers), 777);
@@ -303,7 +215,7 @@ fn check_borders(tally: &mut Tally, m: &Memory, s: f64, numbers: usize, expected
 pub fn borders(rng: &mut Rng, tally: &mut Tally) {
     let (road, m) = generate::across(rng);
     let (oracle, before) = (Oracle::new(&road), m.clone());
-    for s in stations(rng, &road, 30) {
+    for s in stations(rng, &road, starts_across(&road), 30) {
         let expected = oracle.borders(oracle.section_at(s), s).concat();
         let n = expected.len();
         let answer = if on_road(&road, s) { Ok(&expected[..]) } else { Err(7) };
@@ -342,24 +254,14 @@ fn check_name(tally: &mut Tally, m: &Memory, (s, t): (f64, f64), expected: Resul
     });
 }
 
-/// Offsets at and beside every border at s, and beyond them.
-fn near_borders(rng: &mut Rng, oracle: &Oracle, s: f64) -> Vec<f64> {
-    let mut all: Vec<f64> = oracle.borders(oracle.section_at(s), s).iter().flat_map(|b| [b[0], b[1]]).collect();
-    all.push(oracle.base(s));
-    all.dedup();
-    let mut at: Vec<f64> = all.into_iter().map(|t| nudge(t, rng.from_to(0, 2) as i32 - 1)).collect();
-    at.extend([rng.between(-80.0, 80.0), nudge(80.0 * rng.sign(), rng.from_to(0, 2) as i32 - 1), any(rng)]);
-    at
-}
-
 pub fn lane_named(rng: &mut Rng, tally: &mut Tally) {
     let (road, m) = generate::across(rng);
     let oracle = Oracle::new(&road);
-    for s in wide_stations(rng, &road, 5) {
+    for s in wide_stations(rng, &road, starts_across(&road), 5) {
         for t in near_borders(rng, &oracle, s) {
             let expected = match () {
                 () if !on_road(&road, s) => Err(7),
-                () if !(-80.0 <= t && t <= 80.0) => Err(8),
+                () if !within_80(t) => Err(8),
                 () => Ok(named_by_rule(&road, &oracle, s, t)),
             };
             check_name(tally, &m, (s, t), expected, &road);

@@ -11,6 +11,7 @@ mod road;
 
 pub mod admission;
 pub mod arguments;
+pub mod exact;
 pub mod generate;
 pub mod interface;
 pub mod limits;
@@ -20,6 +21,7 @@ pub mod probes;
 pub mod random;
 pub mod reader;
 pub mod riftkettle;
+pub mod second_program;
 pub mod stand_ins;
 pub mod tally;
 pub mod texts;

@@ -1,10 +1,17 @@
 // Compares the library with the published Rust, bit for bit: zeros alike, NaNs alike (document 01).
 //
-//     differential [full] [--seed N] [--only NAME] [--steps N]
+//     differential [full] [--seed N] [--only NAME].. [--steps N] [--program FILE]
 //
 // Each comparison below is a function for one random input; a new one is such a function and a line in COMPARISONS. The last line
 // says how many results were compared and how many differ. A seed gives the same run everywhere.
+mod demands;
 mod lanes;
+mod lent;
+mod locates;
+mod places;
+mod program;
+mod reading;
+mod surfaces;
 
 use comparison::admission::{self, spiral_samples};
 use comparison::arguments::{self, exact_counts, exact_root};
@@ -17,11 +24,11 @@ use comparison::riftkettle as ours;
 use comparison::stand_ins as rust;
 use comparison::tally::{Tally, hex, same, same_f32};
 use comparison::texts::SAMPLE_BYTES;
+use places::on_road;
+use std::sync::Mutex;
 use std::sync::atomic::{AtomicUsize, Ordering};
 
-mod reading;
-
-/// Name, steps of the short form, steps of the full form, one step.
+/// Name, steps of the short form, steps of the full form, one step. Names that begin alike are asked for together.
 type Comparison = (&'static str, u64, u64, fn(&mut Rng, &mut Tally));
 
 const COMPARISONS: &[Comparison] = &[
@@ -45,11 +52,19 @@ const COMPARISONS: &[Comparison] = &[
     ("borders", 2_000, 100_000, lanes::borders),
     ("lane named", 2_000, 100_000, lanes::lane_named),
     ("lanes refused", 2_000, 100_000, lanes::lanes_refused),
+    ("station", 300, 40_000, surfaces::station),
+    ("axes", 300, 40_000, surfaces::axes),
+    ("surface", 100, 36_000, surfaces::surface),
+    ("lane surface", 100, 20_000, surfaces::lane_surface),
+    ("locate", 200, 120_000, locates::locate),
+    ("foreign surfaces", 60, 12_000, surfaces::foreign),
+    ("surfaces refused", 1_000, 60_000, surfaces::refused),
     ("limits", 3_000, 120_000, around_limits),
     ("damage", 3_000, 120_000, damage),
     ("read", 1_000, 50_000, reading::read),
     ("read bytes", 18 * SAMPLE_BYTES, 256 * SAMPLE_BYTES, reading::bytes),
     ("read cuts", reading::CUTS, reading::CUTS, reading::cuts),
+    ("program", 200, 52_000, program::program),
 ];
 
 // ---- arithmetic
@@ -185,10 +200,6 @@ fn check_pose(tally: &mut Tally, m: &Memory, lent: &[f64], at: (usize, f64), exp
     });
 }
 
-fn on_road(road: &Road, s: f64) -> bool {
-    0.0 <= s && s <= road.length
-}
-
 fn pose(rng: &mut Rng, tally: &mut Tally) {
     let (road, m) = generate::admitted(rng);
     let oracle = Oracle::new(&road);
@@ -223,15 +234,8 @@ fn pose_by_rule(samples: &[f64], distance: f64) -> [f64; 3] {
     [1, 2, 3].map(|k| a[k] + (b[k] - a[k]) * t)
 }
 
-/// Samples that were not made from the road: the answers follow what the slice holds.
-fn foreign_samples(rng: &mut Rng, tally: &mut Tally) {
-    let (road, m) = loop {
-        let (road, m) = generate::admitted(rng);
-        if road.spirals() > 0 {
-            break (road, m);
-        }
-    };
-    let mut lent = Oracle::new(&road).samples();
+/// Samples become any numbers, out of order or damaged.
+fn make_foreign(rng: &mut Rng, lent: &mut [f64]) {
     let kind = rng.below(4);
     for i in 0..lent.len() {
         lent[i] = match kind {
@@ -242,6 +246,18 @@ fn foreign_samples(rng: &mut Rng, tally: &mut Tally) {
             _ => lent[i],
         };
     }
+}
+
+/// Samples that were not made from the road: the answers follow what the slice holds.
+fn foreign_samples(rng: &mut Rng, tally: &mut Tally) {
+    let (road, m) = loop {
+        let (road, m) = generate::admitted(rng);
+        if road.spirals() > 0 {
+            break (road, m);
+        }
+    };
+    let mut lent = Oracle::new(&road).samples();
+    make_foreign(rng, &mut lent);
     let mut at = 0;
     for (i, g) in road.geoms.iter().enumerate().filter(|(_, g)| matches!(g.shape, Shape::Spiral(..))) {
         let n = 4 * spiral_samples(g.length);
@@ -294,28 +310,73 @@ fn damage(rng: &mut Rng, tally: &mut Tally) {
 
 // ----
 
-fn main() {
-    let arguments: Vec<String> = std::env::args().skip(1).collect();
-    let value = |name: &str| arguments.iter().position(|a| a == name).and_then(|i| arguments.get(i + 1)).cloned();
-    let full = arguments.iter().any(|a| a == "full");
-    let seed: u64 = value("--seed").map_or(1, |s| s.parse().expect("--seed takes a whole number"));
-    let (only, steps_asked) = (value("--only"), value("--steps").map(|n| n.parse().expect("--steps takes a whole number")));
-    println!("{} form, seed {seed}", if full { "full" } else { "short" });
-    let (mut compared, mut differ) = (0, 0);
-    for &(name, short_steps, full_steps, step) in COMPARISONS {
-        if only.as_deref().is_some_and(|only| !name.starts_with(only)) {
-            continue;
-        }
-        let steps = steps_asked.unwrap_or(if full { full_steps } else { short_steps });
-        let (mut rng, mut tally) = (Rng::new(seed, name), Tally::new(name, steps));
-        for _ in 0..steps {
-            step(&mut rng, &mut tally);
+/// So many parts of each comparison run by themselves, each with its own random numbers: a run is the same on any machine.
+const PARTS: usize = 16;
+
+/// A comparison that is asked for, and the tallies of its parts.
+struct Chosen {
+    name: &'static str,
+    steps: u64,
+    step: fn(&mut Rng, &mut Tally),
+    tallies: Mutex<Vec<Tally>>,
+}
+
+impl Chosen {
+    fn part(&self, seed: u64, k: usize) -> Tally {
+        let stream = if k == 0 { self.name.to_string() } else { format!("{} {k}", self.name) };
+        let first = |k: usize| self.steps * k as u64 / PARTS as u64;
+        let (mut rng, mut tally) = (Rng::new(seed, &stream), Tally::new(self.name, first(k)..first(k + 1)));
+        while !tally.is_done() {
+            (self.step)(&mut rng, &mut tally);
             tally.step();
         }
-        let (c, d) = tally.end();
-        compared += c;
-        differ += d;
+        tally.finished()
     }
+
+    /// Does one part. After the last it prints the lines of all and answers (compared, differ).
+    fn run(&self, seed: u64, k: usize) -> (u64, u64) {
+        let tally = self.part(seed, k);
+        let mut tallies = self.tallies.lock().expect("no part has failed");
+        tallies.push(tally);
+        let all = if tallies.len() == PARTS { tallies.drain(..).reduce(Tally::join) } else { None };
+        all.map_or((0, 0), Tally::end)
+    }
+}
+
+/// Does all parts, as many at a time as there are processors: (compared, differ).
+fn run(chosen: &[Chosen], seed: u64) -> (u64, u64) {
+    let next = AtomicUsize::new(0);
+    let worker = || {
+        let mut sum = (0, 0);
+        loop {
+            let i = next.fetch_add(1, Ordering::Relaxed);
+            let Some(comparison) = chosen.get(i / PARTS) else { return sum };
+            let (compared, differ) = comparison.run(seed, i % PARTS);
+            sum = (sum.0 + compared, sum.1 + differ);
+        }
+    };
+    std::thread::scope(|scope| {
+        let workers = std::thread::available_parallelism().map_or(1, usize::from);
+        let workers: Vec<_> = (0..workers).map(|_| scope.spawn(worker)).collect();
+        let sums = workers.into_iter().map(|w| w.join().expect("a comparison failed"));
+        sums.fold((0, 0), |a, b| (a.0 + b.0, a.1 + b.1))
+    })
+}
+
+fn main() {
+    let arguments: Vec<String> = std::env::args().skip(1).collect();
+    let values = |name: &str| arguments.windows(2).filter(|w| w[0] == name).map(|w| w[1].clone()).collect::<Vec<_>>();
+    let whole = |name: &str| values(name).first().map(|s| s.parse::<u64>().expect("a whole number"));
+    let full = arguments.iter().any(|a| a == "full");
+    let (seed, only) = (whole("--seed").unwrap_or(1), values("--only"));
+    program::set(values("--program").pop());
+    let asked = |name: &str| only.is_empty() || only.iter().any(|only| name.starts_with(only));
+    let chosen = COMPARISONS.iter().filter(|c| asked(c.0)).map(|&(name, short_steps, full_steps, step)| {
+        let steps = whole("--steps").unwrap_or(if full { full_steps } else { short_steps });
+        Chosen { name, steps, step, tallies: Mutex::new(Vec::new()) }
+    });
+    println!("{} form, seed {seed}", if full { "full" } else { "short" });
+    let (compared, differ) = run(&chosen.collect::<Vec<_>>(), seed);
     println!("{compared} compared, {differ} differ");
     std::process::exit(i32::from(differ > 0 || compared == 0));
 }

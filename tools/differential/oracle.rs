@@ -66,6 +66,16 @@ impl Oracle {
         })
     }
 
+    /// The road with samples that somebody lent. Where they were not made from it, ask it within `stand_ins::by_count`.
+    pub fn with_samples(r: &model::Road, lent: &[f64]) -> Self {
+        let (mut oracle, mut lent) = (Self::new(r), lent.chunks_exact(4));
+        for to in oracle.0.geoms.iter_mut().flat_map(|g| &mut g.samples) {
+            let p = lent.next().expect("as many samples as the road needs");
+            *to = (p[0], p[1], p[2], p[3]);
+        }
+        oracle
+    }
+
     /// The samples of all geometries in order, four numbers each.
     pub fn samples(&self) -> Vec<f64> {
         self.0.geoms.iter().flat_map(|g| &g.samples).flat_map(|&(u, x, y, h)| [u, x, y, h]).collect()
@@ -180,6 +190,29 @@ impl Oracle {
     /// The point in f32 and the reference line's heading.
     pub fn surface(&self, s: f64, t: f64) -> ([f32; 3], f64) {
         let (point, heading) = self.0.surface(s, t);
+        (point.to_array(), heading)
+    }
+
+    /// s, x, y, heading, z, grade, bank and the bank's rate.
+    pub fn station(&self, s: f64) -> [f64; 8] {
+        let p = self.0.station(s);
+        [p.s, p.x, p.y, p.heading, p.z, p.grade, p.bank, p.bank_rate]
+    }
+
+    /// Along, across and up.
+    pub fn axes(&self, s: f64) -> [f64; 9] {
+        let a = self.0.axes(s);
+        std::array::from_fn(|i| a[i / 3][i % 3])
+    }
+
+    /// The point before it narrows, and the heading.
+    pub fn xyz(&self, s: f64, t: f64) -> [f64; 4] {
+        let (p, h) = self.0.surface_xyz(s, t);
+        [p[0], p[1], p[2], h]
+    }
+
+    pub fn lane_surface(&self, section: usize, id: i32, s: f64, t: f64) -> ([f32; 3], f64) {
+        let (point, heading) = self.0.lane_surface(&self.0.sections[section], id, s, t);
         (point.to_array(), heading)
     }
 

@@ -76,10 +76,20 @@ const CHANGES: &[Change] = &[
         1,
         "                |a| crate::stand_ins::kept_height(&a, t),",
     ),
-    // No change of behaviour: `side_heights` also takes a tangent in place of the angle, the samples are read from outside the
-    // file, and `locate` counts its moves.
+    // 01, "Values": on a spiral the distance is raised to 0, then lowered to the last sample's, and the segment starts by the count
+    // of leading samples. The published `clamp` and search do the same where the samples were made from the road.
+    change("                let ds = ds.clamp(0.0, max);", 1, "                let ds = crate::stand_ins::held(ds, max);"),
+    change("                let i = samples", 1, "                let i = crate::stand_ins::leading(samples, ds)"),
+    change("                    .partition_point(|p| p.0 <= ds)", 1, ""),
+    // No change of behaviour: `side_heights` also takes a tangent in place of the angle, the samples and the point before it narrows
+    // are read from outside the file, and `locate` counts its moves.
     change("    phi: f64,", 1, "    phi: impl crate::stand_ins::Tangent + 'a,"),
     change("    samples: Vec<(f64, f64, f64, f64)>,", 1, "    pub(crate) samples: Vec<(f64, f64, f64, f64)>,"),
+    change(
+        "    fn surface_xyz(&self, s: f64, t: f64) -> ([f64; 3], f64) {",
+        1,
+        "    pub(crate) fn surface_xyz(&self, s: f64, t: f64) -> ([f64; 3], f64) {",
+    ),
     change("            (s, t) = (next, t + dt);", 1, "            (s, t) = (next, t + dt); crate::stand_ins::count_move();"),
 ];
 

@@ -71,7 +71,7 @@ fn check(tally: &mut Tally, place: &'static str, text: &[u8], lengths: [usize; 3
 }
 
 /// Writes a text that shows a difference to a file.
-fn keep(text: &[u8]) -> String {
+pub fn keep(text: &[u8]) -> String {
     static KEPT: AtomicUsize = AtomicUsize::new(0);
     let path = format!("target/differential/differs-{}.job", KEPT.fetch_add(1, Ordering::Relaxed));
     std::fs::write(&path, text).map_or_else(|e| e.to_string(), |()| path)
@@ -101,7 +101,7 @@ fn sample() -> &'static Job {
 /// Every byte of the sample job in turn with one other byte in its place; after the last, the next other byte.
 pub fn bytes(_: &mut Rng, tally: &mut Tally) {
     static OTHERS: OnceLock<Vec<u8>> = OnceLock::new();
-    let (step, others) = (tally.done() as usize, OTHERS.get_or_init(texts::other_bytes));
+    let (step, others) = (tally.at() as usize, OTHERS.get_or_init(texts::other_bytes));
     let mut text = sample().text.clone();
     let n = text.len();
     text[step % n] = others[step / n % others.len()];
@@ -114,7 +114,7 @@ pub const CUTS: u64 = SAMPLE_BYTES + 1 + 6 * SAMPLE_LINES;
 /// The sample job cut after every byte; then each of its lines dropped, doubled, swapped with each of the next three, and an
 /// empty line put before it.
 pub fn cuts(_: &mut Rng, tally: &mut Tally) {
-    let (step, text, lines) = (tally.done() as usize, &sample().text, sample().lines());
+    let (step, text, lines) = (tally.at() as usize, &sample().text, sample().lines());
     let whole = [WORDS, NUMBERS, WANTS];
     let Some(step) = step.checked_sub(text.len() + 1) else { return check(tally, "cut", &text[..step], whole) };
     let (i, way) = (step % lines.len(), step / lines.len());

@@ -2,11 +2,13 @@
 // layout there and back, the generator, and the second admission on document 01's own examples.
 use comparison::admission::{admit, spiral_samples};
 use comparison::arguments::{exact_counts, exact_root};
+use comparison::exact::{Squares, between, equal, ordered, outward, placed, sized};
 use comparison::generate;
 use comparison::model::*;
 use comparison::oracle::{Oracle, Records};
 use comparison::random::Rng;
 use comparison::reader::{self, TABLES, WANTS};
+use comparison::second_program::output;
 use comparison::stand_ins;
 use comparison::texts::{self, SAMPLE_BYTES, SAMPLE_LINES};
 
@@ -186,6 +188,69 @@ fn generator(rng: &mut Rng) {
     }
 }
 
+// ---- surfaces
+
+/// Exact arithmetic at its bounds: the f64 on either side of each.
+fn exact() {
+    let far = 2_000_000f64;
+    assert_eq!(
+        [far, -far, far.next_up(), f64::NAN, f64::INFINITY, 5e-324].map(|x| sized(x, 2_000_000)),
+        [true, true, false, false, false, true]
+    );
+    assert!(ordered(-0.0, 0.0) && ordered(0.0, -0.0) && ordered(-1.0, -5e-324) && ordered(-1.0, 2.0) && !ordered(2.0, -1.0));
+    assert!(!ordered(1f64.next_up(), 1.0) && !ordered(f64::NAN, 1.0) && !ordered(0.0, f64::INFINITY) && !equal(1.0, -1.0));
+    // The last f64 whose square is at most 1001/1000, and the first whose square is at least 999/1000, by fractions elsewhere.
+    let (most, least) = (f64::from_bits(0x3ff0_020c_2830_b9c7), f64::from_bits(0x3fef_fbe7_2966_ccad));
+    let near = |x: f64| Squares::of_axis(&[x, 0.0, 5e-324]).is_some_and(|s| s.near_one());
+    assert_eq!([most, most.next_up(), least, least.next_down()].map(near), [true, false, true, false]);
+    assert!(!near(f64::INFINITY) && !near(0.0) && near(-1.0));
+    let under = |a: [f64; 2], b: [f64; 2]| Squares::of_distance(a, b).is_some_and(|s| s.under_a_micrometre());
+    assert!(under([1e-6, 0.0], [0.0, 0.0]) && !under([1e-6f64.next_up(), 0.0], [0.0, -0.0]));
+    assert!(
+        under([5e-7, far], [-5e-7, far]) && !under([5e-7, far], [-5e-7, far.next_up()]) && under([far; 2], [far.next_up(); 2])
+    );
+    assert!(!under([f64::NAN, 0.0], [f64::NAN, 0.0]));
+    let over = 80f64.next_up();
+    assert!(outward(None, [1.0, 80.0], true) && outward(Some(1.0), [1.0, 1.0], true) && outward(None, [1.0, -80.0], false));
+    assert!(!outward(None, [1.0, 0.5], true) && !outward(None, [0.5, 1.0], false) && !outward(None, [1.0, over], true));
+    assert!(!outward(Some(1.0), [1f64.next_up(), 2.0], true) && !outward(None, [f64::NAN, 2.0], true));
+    assert!(
+        between([1.0, 2.0], 1.0) && between([2.0, 1.0], 1.0) && !between([1.0, 2.0], 2f64.next_up()) && between([0.0, 0.0], -0.0)
+    );
+    let place = |s, t| placed([s, t], 10.0);
+    assert!(place(-0.0, 80.0) && place(10.0, -80.0) && !place(10f64.next_up(), 0.0) && !place(-5e-324, 0.0) && !place(1.0, over));
+    assert!(!place(f64::NAN, 0.0) && !place(1.0, f64::NAN));
+}
+
+/// The road with its own samples lent is the road, by either way to find the segment; with others it is not.
+fn samples_lent(rng: &mut Rng) {
+    let mut unlike = 0;
+    for _ in 0..500 {
+        let road = generate::surfaced(rng).0;
+        let own = Oracle::new(&road);
+        let mut samples = own.samples();
+        let lent = Oracle::with_samples(&road, &samples);
+        let at: Vec<[f64; 2]> = (0..20).map(|_| [rng.unit() * road.length, rng.between(-80.0, 80.0)]).collect();
+        let points = |o: &Oracle| at.iter().map(|[s, t]| o.xyz(*s, *t)).collect::<Vec<_>>();
+        assert_eq!(points(&own), stand_ins::by_count(|| points(&lent)), "{road:?}");
+        samples.iter_mut().for_each(|x| *x += 1.0);
+        unlike += usize::from(points(&own) != stand_ins::by_count(|| points(&Oracle::with_samples(&road, &samples))));
+    }
+    assert!(unlike >= 50, "too few roads whose points follow their samples: {unlike}");
+}
+
+/// M1 whole, and what document 01 says of other jobs.
+fn program() {
+    let line = "3ff0000000000000 4000000000000000 3f800000 40000000 00000000\n";
+    assert_eq!(output(M1.as_bytes()), format!("s t x y z\n{line}"));
+    let want = |s: &str, t: &str| output(M1.replace("3ff0000000000000 4000000000000000", &format!("{s} {t}")).as_bytes());
+    let (one, nan) = ("3ff0000000000000", "7ff8000000000001");
+    assert_eq!(want(nan, nan), format!("s t x y z\n{nan} {nan} - 7\n"));
+    assert_eq!(want(one, nan), format!("s t x y z\n{one} {nan} - 8\n"));
+    assert_eq!(output(M1.split("want").next().expect("a part").as_bytes()), "s t x y z\n");
+    assert_eq!([output(b""), output(b"\n"), output(&[b'x'; 65_537])], ["refused 3\n", "refused 1\n", "refused 2\n"]);
+}
+
 // ---- the second reader and its texts
 
 const M1: &str = "road length\n4024000000000000\n\n\
@@ -269,6 +334,9 @@ fn main() {
     oracle(&mut rng);
     marked(&mut rng);
     across(&mut rng);
+    exact();
+    samples_lent(&mut rng);
+    program();
     generator(&mut rng);
     println!("self test: passed");
 }

@@ -4,8 +4,8 @@
 #     tools/differential/self_test.sh [--source DIR] [--edits FILE] [quick]
 #
 # the parts by themselves (self_test.rs); then a library that answers by the published Rust, which must show no difference; then
-# that library with each fault of stub.rs and each edit of edits.txt put in (`quick`: not the edits; --edits: these
-# in their place), which must show one. All edits take some ten minutes.
+# that library with each fault of faults.txt and each edit of edits.txt and reader_edits.txt put in (`quick`: not the edits; --edits:
+# these in place of edits.txt), which must show one. All edits take some ten minutes.
 set -euo pipefail
 cd "$(dirname "$0")/../.."
 here=tools/differential
@@ -14,6 +14,7 @@ build=target/differential
 source=../shared/docs/src
 archive=
 probes=
+surface=
 stub=yes
 quick=
 edits=$here/edits.txt
@@ -30,6 +31,7 @@ done
 published "$source"
 library
 choose
+choose_surface
 program self_test "$here/self_test.rs"
 "$build/self_test"
 program differential "$here/main.rs"
@@ -40,7 +42,7 @@ found=0
 must_differ() {
   local what=$1
   shift
-  if "$build/differential" "$@" > "$build/self_test.out" 2>&1; then
+  if "$build/differential" --program "$surface" "$@" > "$build/self_test.out" 2>&1; then
     echo "NOT FOUND: $what"
     missed=$((missed + 1))
   elif ! tail -n 1 "$build/self_test.out" | grep -q ' differ$'; then
@@ -51,15 +53,11 @@ must_differ() {
   fi
 }
 
+"$build/differential" --program "$surface" | tail -n 1
 while IFS=: read -r fault only; do
   case $fault in '#'*) continue ;; esac
   RIFTKETTLE_FAULT=$fault must_differ "fault $fault in $only" --only "$only"
-done < "$here/lane_faults.txt"
-
-"$build/differential" | tail -n 1
-for fault in root hypot "sine range" sine tan narrow counts bank rows early tail leading 'read count' 'read zeros' 'read short'; do
-  RIFTKETTLE_FAULT=$fault must_differ "fault $fault"
-done
+done < "$here/faults.txt"
 
 # Puts each edit of a file (old ==> new) into a copy of one of the second texts, which the stub then uses:
 # put_edits EDITS FILE CFG, then the words for the comparison.

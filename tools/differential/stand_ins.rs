@@ -106,6 +106,30 @@ pub(crate) fn kept_height(lane: &Across, t: f64) -> f64 {
     lane.inner_height + (lane.outer_height - lane.inner_height) * fraction
 }
 
+/// Raised to 0 if below it, then lowered to the last sample's distance if above it.
+#[inline(always)]
+pub(crate) fn held(distance: f64, last: f64) -> f64 {
+    let raised = if distance < 0.0 { 0.0 } else { distance };
+    if raised > last { last } else { raised }
+}
+
+thread_local!(static BY_COUNT: Cell<bool> = const { Cell::new(false) });
+
+/// How many leading samples have at most that distance: by the published search, which finds it where distances rise, or by count.
+#[inline(always)]
+pub(crate) fn leading(samples: &[(f64, f64, f64, f64)], distance: f64) -> usize {
+    let near = |p: &(f64, f64, f64, f64)| p.0 <= distance;
+    if BY_COUNT.get() { samples.iter().take_while(|p| near(p)).count() } else { samples.partition_point(near) }
+}
+
+/// Does something with leading samples counted, for samples that were not made from the road.
+pub fn by_count<T>(f: impl FnOnce() -> T) -> T {
+    let before = BY_COUNT.replace(true);
+    let answer = f();
+    BY_COUNT.set(before);
+    answer
+}
+
 thread_local!(static MOVES: Cell<u32> = const { Cell::new(0) });
 
 /// Counts one move of `locate`.

@@ -12,8 +12,10 @@ use std::sync::OnceLock;
 
 mod stub_lanes;
 mod stub_probes;
+mod stub_surfaces;
 
 use stub_lanes::{borders, lane_named};
+use stub_surfaces::{axes, lane_surface, locate, station, surface};
 
 comparison::riftkettle_functions!(answers);
 

@@ -1,6 +1,7 @@
 // Counting what was compared and what differs, and showing the first differences with their inputs.
 use std::collections::BTreeMap;
 use std::io::IsTerminal;
+use std::ops::Range;
 use std::time::Instant;
 
 /// Zeros alike and NaNs alike (document 01), else bit for bit.
@@ -18,33 +19,45 @@ pub fn hex(numbers: &[f64]) -> String {
 }
 
 pub struct Tally {
-    name: String,
+    name: &'static str,
     terminal: bool,
     began: Instant,
     shown: Instant,
-    planned: u64,
+    seconds: f64,
+    steps: Range<u64>,
     done: u64,
     compared: u64,
     differ: u64,
     outcomes: BTreeMap<&'static str, BTreeMap<u32, u64>>,
+    demands: BTreeMap<&'static str, (u64, f64)>,
 }
 
-const SHOW: u64 = 5;
+/// A part shows so many differences.
+const SHOW: u64 = 1;
 
 impl Tally {
-    /// `planned` is how many steps are to come, for the progress shown.
-    pub fn new(name: &str, planned: u64) -> Self {
+    /// For a part of a comparison: those of its steps.
+    pub fn new(name: &'static str, steps: Range<u64>) -> Self {
         let now = Instant::now();
         Self {
-            name: name.into(),
+            name,
             terminal: std::io::stderr().is_terminal(),
             began: now,
             shown: now,
-            planned,
-            done: 0,
+            seconds: 0.0,
+            done: steps.start,
+            steps,
             compared: 0,
             differ: 0,
             outcomes: BTreeMap::new(),
+            demands: BTreeMap::new(),
+        }
+    }
+
+    fn differs(&mut self, input: impl FnOnce() -> String) {
+        self.differ += 1;
+        if self.differ <= SHOW {
+            eprintln!("{}: DIFFERS: {}", self.name, input());
         }
     }
 
@@ -52,10 +65,7 @@ impl Tally {
     pub fn check(&mut self, equal: bool, input: impl FnOnce() -> String) {
         self.compared += 1;
         if !equal {
-            self.differ += 1;
-            if self.differ <= SHOW {
-                eprintln!("{}: DIFFERS: {}", self.name, input());
-            }
+            self.differs(input);
         }
     }
 
@@ -63,14 +73,28 @@ impl Tally {
         self.check(same(ours, theirs), || format!("{}: ours {}, theirs {}", input(), hex(&[ours]), hex(&[theirs])));
     }
 
+    /// One answer held to a bound of demand 3, with how large it is, to be shown. It is not counted as compared.
+    pub fn demand(&mut self, what: &'static str, size: f64, holds: bool, input: impl FnOnce() -> String) {
+        let (times, largest) = self.demands.entry(what).or_default();
+        *times += 1;
+        *largest = largest.max(size);
+        if !holds {
+            self.differs(|| format!("demand 3, {what} {size}: {}", input()));
+        }
+    }
+
     /// Remembers which number came out at a place, so that a run shows which places were met from both sides.
     pub fn outcome(&mut self, place: &'static str, number: u32) {
         *self.outcomes.entry(place).or_default().entry(number).or_default() += 1;
     }
 
-    /// How many steps are done: the number of this one, from 0.
-    pub fn done(&self) -> u64 {
+    /// The number of this step among all of the comparison, from 0.
+    pub fn at(&self) -> u64 {
         self.done
+    }
+
+    pub fn is_done(&self) -> bool {
+        self.done == self.steps.end
     }
 
     /// One step done. Progress is shown twice a second on a terminal, else every ten seconds.
@@ -79,22 +103,52 @@ impl Tally {
         let terminal = self.terminal;
         if self.done % 64 == 0 && self.shown.elapsed().as_millis() > if terminal { 500 } else { 10_000 } {
             self.shown = Instant::now();
-            let percent = 100 * self.done / self.planned.max(1);
-            eprint!("{}{:<10} {percent:3} %{}", if terminal { "\r" } else { "" }, self.name, if terminal { "" } else { "\n" });
+            let (at, of) = (self.done - self.steps.start, self.steps.end - self.steps.start);
+            let percent = 100 * at / of.max(1);
+            eprint!(
+                "{}{:<10} {percent:3} % of a part{}",
+                if terminal { "\r" } else { "" },
+                self.name,
+                if terminal { "" } else { "\n" }
+            );
         }
     }
 
-    /// Prints the line of this comparison and answers (compared, differ).
-    pub fn end(self) -> (u64, u64) {
-        let seconds = self.began.elapsed().as_secs_f64();
-        if self.terminal {
-            eprint!("\r");
+    /// The part is done.
+    pub fn finished(mut self) -> Self {
+        self.seconds = self.began.elapsed().as_secs_f64();
+        self
+    }
+
+    /// The tally of two parts.
+    pub fn join(mut self, other: Self) -> Self {
+        self.seconds += other.seconds;
+        self.compared += other.compared;
+        self.differ += other.differ;
+        for (place, numbers) in other.outcomes {
+            let all = self.outcomes.entry(place).or_default();
+            numbers.into_iter().for_each(|(number, times)| *all.entry(number).or_default() += times);
         }
-        println!("{:<10} {:>12} compared, {} differ, {seconds:.1} s", self.name, self.compared, self.differ);
+        for (what, (times, size)) in other.demands {
+            let (all, largest) = self.demands.entry(what).or_default();
+            (*all, *largest) = (*all + times, largest.max(size));
+        }
+        self
+    }
+
+    /// Prints the lines of this comparison and answers (compared, differ).
+    pub fn end(self) -> (u64, u64) {
+        let (name, compared, differ, seconds) = (self.name, self.compared, self.differ, self.seconds);
+        let mut text = format!("{name:<10} {compared:>12} compared, {differ} differ, {seconds:.1} s\n");
         for (place, numbers) in &self.outcomes {
             let each: Vec<String> = numbers.iter().map(|(number, times)| format!("{number}: {times}")).collect();
-            println!("    {place:<16} {}", each.join(", "));
+            text += &format!("    {place:<16} {}\n", each.join(", "));
         }
+        for (what, (times, largest)) in &self.demands {
+            let largest = if *largest < 0.001 { format!("{largest:.4e}") } else { largest.to_string() };
+            text += &format!("    {what:<16} at most {largest}, of {times}\n");
+        }
+        print!("{}{text}", if self.terminal { "\r" } else { "" });
         (self.compared, self.differ)
     }
 }

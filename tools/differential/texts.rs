@@ -2,7 +2,7 @@
 use crate::admission::spiral_samples;
 use crate::generate;
 use crate::model::*;
-use crate::random::Rng;
+use crate::random::{Rng, nudge};
 use crate::reader::{Cell, Form, Name, TABLES, TEXT};
 use std::ops::Range;
 
@@ -169,11 +169,30 @@ impl Job {
 
 // ---- jobs that are read
 
-/// Wants: any bits, most of them on the road.
-fn wants(rng: &mut Rng, length: f64) -> Vec<[f64; 2]> {
+/// Wants: on the road, at its ends and edges and beside them, off it, any bits.
+pub fn wants(rng: &mut Rng, length: f64) -> Vec<[f64; 2]> {
     let n = rng.pick(&[0, 1, 2, 16, 15, 3]);
-    let free = rng.one_in(2);
-    (0..n).map(|_| if free { [rng.pattern(), rng.pattern()] } else { [rng.unit() * length, rng.between(-9.0, 9.0)] }).collect()
+    (0..n).map(|_| want(rng, length)).collect()
+}
+
+fn want(rng: &mut Rng, length: f64) -> [f64; 2] {
+    let no_number = [f64::NAN, -f64::NAN, f64::INFINITY, f64::NEG_INFINITY, f64::from_bits((0x7ff0 << 48) + 1)];
+    let one_beside = |rng: &mut Rng, x: f64| nudge(x, rng.from_to(0, 2) as i32 - 1);
+    let (end, edge) = (rng.pick(&[0.0, -0.0, length]), rng.pick(&[80.0, -80.0, 0.0, -0.0]));
+    let s = match rng.below(8) {
+        0 => rng.pattern(),
+        1 => one_beside(rng, end),
+        2 => rng.pick(&no_number),
+        _ => rng.unit() * length,
+    };
+    let t = match rng.below(8) {
+        0 => rng.pattern(),
+        1 => one_beside(rng, edge),
+        2 => rng.pick(&no_number),
+        3 => rng.between(-81.0, 81.0),
+        _ => rng.between(-9.0, 9.0),
+    };
+    [s, t]
 }
 
 /// A random job. Most are read; some roads need more text or lines than there may be.
