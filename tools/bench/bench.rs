@@ -17,6 +17,7 @@ use comparison::texts;
 use std::hint::black_box;
 
 mod lanes;
+mod surface;
 
 const ROUNDS: usize = 21;
 const ROUND_NANOS: f64 = 5e6;
@@ -125,7 +126,18 @@ fn poses(what: &str, shape: Shape, length: f64, stations: &[f64]) {
     row(what, times);
 }
 
+/// Without words all tables; with `surface` that of the surface layer; with three numbers one side of one case of it, for counts.sh.
 fn main() {
+    let words: Vec<String> = std::env::args().skip(1).collect();
+    let number = |i: usize| words[i].parse().expect("a whole number");
+    match words.len() {
+        0 => tables(),
+        3 => surface::one(number(0), number(1), number(2)),
+        _ => surface::surface(),
+    }
+}
+
+fn tables() {
     let mut rng = Rng::new(1, "bench");
     let angles: Vec<f64> = (0..1024).map(|_| rng.between(-12_000.0, 12_000.0)).collect();
     let sizes: Vec<f64> = (0..1024).map(|_| rng.log_between(1e-6, 1e7)).collect();
@@ -176,6 +188,7 @@ fn main() {
     row("samples of a 400 m spiral (1,601); ours admits the road first", times);
 
     lanes::lanes(&stations);
+    surface::surface();
 
     println!(
         "\n| What | ours, ns | a second text in Rust, ns | ratio | ours, in 100 sine pairs of ours |\n|---|---|---|---|---|"

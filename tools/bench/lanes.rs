@@ -106,7 +106,7 @@ pub fn poses(stations: &[f64]) {
 }
 
 /// A section of 6 lanes a side, each with 2 extents and 2 heights, on a road with 2 offsets and 2 profiles of 4 shapes.
-fn twelve_lanes() -> Road {
+pub fn twelve_lanes() -> Road {
     let cubic = |start: f64, a: f64| Cubic { start, a, b: 0.001, c: 0.00001, d: 0.0 };
     let height = |start: f64| Height { start, inner: 0.1, outer: 0.2 };
     let lane = |_| Lane {

@@ -26,6 +26,8 @@ done
 . tools/differential/build.sh
 published "$source"
 library
+rustc "${RUST[@]}" --crate-name own --crate-type rlib -o "$build/libown.rlib" tools/bench/own.rs "${USES[@]}"
+USES+=(--extern own="$build/libown.rlib")
 choose
 program bench tools/bench/bench.rs
 "$build/bench"

@@ -27,9 +27,9 @@ pub mod tally;
 pub mod texts;
 
 // What the published files name of others. None of it has behaviour that is compared.
-mod crg {
+pub mod crg {
     #[derive(Debug, Clone, Copy, PartialEq)]
-    pub(crate) struct RefPoint {
+    pub struct RefPoint {
         pub s: f64,
         pub x: f64,
         pub y: f64,

@@ -1,5 +1,6 @@
 pub mod Fields
 pub mod RootDigits
+pub mod RootLower
 pub mod RootRounded
 pub mod RootTests
 pub mod RootCases

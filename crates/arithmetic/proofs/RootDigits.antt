@@ -2,31 +2,16 @@
 -- One step (`digit`) is `omega`'s: from root² + rem to (2 * root + b)² + rem' of four times that number and two digits more.
 use mathlib.Core.Path.{_≡_, sym, ap, _∙_, subst}
 use Prim.Native.Nat.{ℕ, suc, _+_, _-_, _*_, _/_, _%_, _^_, _≤_, _<_}
-use native.Mathlib.Nat.{pow-suc, lt-trans, div-eq-of-lt, div-one, div-div-eq-div-mul, div-add-mod', mul-mod-left, mul-assoc}
+use native.Mathlib.Nat.{pow-suc, lt-trans, div-eq-of-lt, div-one, div-div-eq-div-mul, div-add-mod'}
 use native.Mathlib.Numerals.{add-one}
 use native.Mathlib.Omega.{arith}
-use lib.Pow.{pow-lt, pow-pos, pow-add, shl-shr}
-use lib.Ieee.Nearest.{div-same}
+use lib.Pow.{pow-lt, pow-add}
 use Rattle.arithmetic.specs.RootSteps.{RootOf}
 
--- ---- the digits of m * 2 ^ 54
+-- ---- the digits of m
 
--- a place of m itself
-pub two-early : (m i : ℕ) {u : ℕ} → i < 27 → u ≡ 2 ^ (52 - 2 * i) → m / u % 4 ≡ m * 2 ^ 54 / 2 ^ (2 * (53 - i)) % 4
-two-early m i h e =
-    let g = 52 - 2 * i in
-    let s : 2 * (53 - i) ≡ 54 + g = omega arith in
-    let c : m * 2 ^ (2 * (53 - i)) ≡ m * 2 ^ 54 * 2 ^ g = rw s (ap (λ (z : ℕ). m * z) (pow-add 2 54 g) ∙ sym (mul-assoc m (2 ^ 54) (2 ^ g))) in
-    rw e (ap (λ (z : ℕ). z % 4) (div-same m (2 ^ g) (m * 2 ^ 54) (2 ^ (2 * (53 - i))) (pow-pos g) (pow-pos (2 * (53 - i))) c))
-
--- one of the zeros below m
-pub two-late : (m i : ℕ) → 27 ≤ i → i < 54 → 0 ≡ m * 2 ^ 54 / 2 ^ (2 * (53 - i)) % 4
-two-late m i h l =
-    let d = 2 * (53 - i) in
-    let g = 2 * i - 54 in
-    let s : 54 ≡ g + 2 + d = omega arith in
-    let c : m * 2 ^ 54 ≡ m * 2 ^ g * 4 * 2 ^ d = ap (λ (z : ℕ). m * 2 ^ z) s ∙ ap (λ (z : ℕ). m * z) (pow-add 2 (g + 2) d ∙ ap (λ (z : ℕ). z * 2 ^ d) (pow-add 2 g 2)) ∙ sym (mul-assoc m (2 ^ g * 4) (2 ^ d)) ∙ ap (λ (z : ℕ). z * 2 ^ d) (sym (mul-assoc m (2 ^ g) 4)) in
-    sym (ap (λ (z : ℕ). z / 2 ^ d % 4) c ∙ ap (λ (z : ℕ). z % 4) (shl-shr (m * 2 ^ g * 4) d) ∙ mul-mod-left (m * 2 ^ g) 4)
+pub two-is : (m i : ℕ) {u : ℕ} → i < 27 → u ≡ 2 ^ (52 - 2 * i) → m / u % 4 ≡ m / 2 ^ (2 * (26 - i)) % 4
+two-is m i h e = let s : 52 - 2 * i ≡ 2 * (26 - i) = omega arith in rw (e, s)
 
 pub two-small : (n : ℕ) → n % 4 < 4
 two-small n = omega arith
@@ -58,5 +43,5 @@ root-next n k r q {r'} {q'} {two} h e g =
 pub grows : (i r r' : ℕ) → r < 2 ^ i → r' ≤ 2 * r + 1 → r' < 2 ^ (i + 1)
 grows i r r' h k = rw (add-one, pow-suc) (omega arith)
 
-pub within : (i r : ℕ) → i < 54 → r < 2 ^ i → r < 2 ^ 54
-within i r h k = let p : 2 ^ i < 2 ^ 54 = pow-lt h in lt-trans k p
+pub within : (i r : ℕ) → i < 27 → r < 2 ^ i → r < 2 ^ 54
+within i r h k = let p : 2 ^ i < 2 ^ 54 = pow-lt (let l : i < 54 = omega arith in l) in lt-trans k p

@@ -1,7 +1,7 @@
 // The square root of an f64, nearest to the exact one, by integer work on the bit pattern; and hypot, which is made of it.
 //
 // x is m * 2^j of the smallest f64, 2^-1074. Leading zeros move m's leading digit to bit 52, for a subnormal x too, and one digit more makes the power of two that is
-// left even. The root then has 54 digits, one more than an f64 keeps, worked out one by one. A last digit of 1 is never a tie:
+// left even. The root then has 54 digits, one more than an f64 keeps: the upper 27, worked out one by one, are the root of m itself, and the lower 27 follow as one digit of base 2^27. A last digit of 1 is never a tie:
 // the number under the root is even, so an odd root is not the whole of it and the exact root lies above the half-way point.
 use crate::bits::power;
 ghost use mathlib.Core.Path.{_≡_};
@@ -39,27 +39,54 @@ fn digit(s: Partial, two: u64) -> Partial
     }
 }
 
-// The digits of m * 2^54 at place i of 54, two a place from the highest on. The lower 27 places are zeros.
+// The digits of m at place i of 27, two a place from the highest on.
 fn two_at(m: u64, i: u64) -> u64
-    requires { ⌜ i < 54 ⌝ }
-    ensures { λ r. ⌜ r ≡ m * 2 ^ 54 / 2 ^ (2 * (53 - i)) % 4 ⌝ }
+    requires { ⌜ i < 27 ⌝ }
+    ensures { λ r. ⌜ r ≡ m / 2 ^ (2 * (26 - i)) % 4 ⌝ }
 {
-    if i < 27 { m / power(52 - 2 * i) % 4 } else { 0 }
+    m / power(52 - 2 * i) % 4
 }
 
-// The 54 digits of the root of m * 2^54.
-fn digits(m: u64) -> Partial
+// The upper 27 digits, one by one.
+fn upper(m: u64) -> Partial
     requires { ⌜ m < 2 ^ 54 ⌝ }
-    ensures { λ r. ⌜ RootOf (m * 2 ^ 54) (r .root) (r .rem) ⌝ }
-    ensures { λ r. ⌜ r .root < 2 ^ 54 ⌝ }
+    ensures { λ r. ⌜ RootOf m (r .root) (r .rem) ⌝ }
+    ensures { λ r. ⌜ r .root < 2 ^ 27 ⌝ }
 {
     let mut s = Partial { root: 0, rem: 0 };
     let mut i: u64 = 0;
-    while i < 54 {
+    while i < 27 {
         s = digit(s, two_at(m, i));
         i += 1;
     }
     s
+}
+
+// The lower 27 digits at once, as one digit of base 2^27: what is left, over twice the root so far, is that digit or one more. It is one more where its square can't be taken off.
+fn lower(s: Partial) -> Partial
+    requires { ⌜ (2 ^ 26 ≤ s .root) × (s .root < 2 ^ 27) × (s .rem ≤ 2 * s .root) ⌝ }
+    ensures { λ r. ⌜ RootOf ((s .root * s .root + s .rem) * 2 ^ 54) (r .root) (r .rem) ⌝ }
+    ensures { λ r. ⌜ r .root ≤ 2 ^ 54 ⌝ }
+{
+    let half = s.rem * 0x400_0000;
+    let q = half / s.root;
+    let left = half % s.root;
+    let d = next_digit(left * 0x1000_0000 + 1, q * q);
+    let low = q - d;
+    let rest = left + s.root * d;
+    Partial {
+        root: s.root * 0x800_0000 + low,
+        rem: rest * 0x1000_0000 - low * low,
+    }
+}
+
+// The 54 digits of the root of m * 2^54.
+fn digits(m: u64) -> Partial
+    requires { ⌜ (2 ^ 52 ≤ m) × (m < 2 ^ 54) ⌝ }
+    ensures { λ r. ⌜ RootOf (m * 2 ^ 54) (r .root) (r .rem) ⌝ }
+    ensures { λ r. ⌜ r .root ≤ 2 ^ 54 ⌝ }
+{
+    lower(upper(m))
 }
 
 // By how many places m's leading digit stands below bit 52: 0 for a normal f64.

@@ -21,20 +21,22 @@ fn side_raised(words: &[u16], numbers: &[f64], section: usize, right: bool) -> b
     ensures { λ r. ⌜ r ≡ anyBelow (λ (k : ℕ). isRaised (getD (sideOf (roadOf (now (words .entry)) (now (numbers .entry))) section right) k noLane)) (length (sideOf (roadOf (now (words .entry)) (now (numbers .entry))) section right)) ⌝ }
 {
     let n = lane_count(words, numbers, section, right);
-    let mut raised = false;
     let mut k = 0;
     while k < n {
-        raised = raised | lane_raised(words, numbers, section, right, k);
+        if lane_raised(words, numbers, section, right, k) {
+            return true;
+        }
         k += 1;
     }
-    raised
+    false
 }
 
 // Whether any lane of a section has a height or is level.
 pub fn section_raised(words: &[u16], numbers: &[f64], section: usize) -> bool
     ensures { λ r. ⌜ r ≡ sectionRaised (roadOf (now (words .entry)) (now (numbers .entry))) section ⌝ }
 {
-    let left = side_raised(words, numbers, section, false);
-    let right = side_raised(words, numbers, section, true);
-    left | right
+    if side_raised(words, numbers, section, false) {
+        return true;
+    }
+    side_raised(words, numbers, section, true)
 }

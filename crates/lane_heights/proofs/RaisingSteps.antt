@@ -1,8 +1,11 @@
 -- The steps of a side's heights as the code takes them: level from its lane outward, one lane across from where its inner neighbour ends, and a test that some lane passes.
-use mathlib.Core.Path.{_≡_, refl}
+use mathlib.Core.Path.{_≡_, refl, sym, ap, _∙_}
+use mathlib.Core.Logic.{⊎-elim}
 use mathlib.Core.Bool.{Bool, true, false, _||_}
 use mathlib.Core.List.{List}
-use Prim.Native.Nat.{ℕ, zero, suc, _+_, _/_}
+use Prim.Native.Nat.{ℕ, zero, suc, _+_, _/_, _≤_, _<_}
+use native.Mathlib.Nat.{eq-or-lt-of-le}
+use native.Mathlib.Omega.{arith}
 use native.Mathlib.Numerals.{add-one}
 use lib.Dec.{ltb}
 use lib.ListN.{length, getD}
@@ -72,6 +75,18 @@ module _ (road : Road) (i : ℕ) (s tangent : Float) (right : Bool) (k : ℕ) wh
   unfolding acrossAt heightsAt heightAfter
   height-after e = rw (add-one, e)
 
+-- with no level lane up to it a lane's heights are its own and the road's
+pub across-alone : (road : Road) (i : ℕ) (s tangent : Float) (right : Bool) (k : ℕ) {start sign : Float} {b : LaneBorders} {hs : List HeightDef} {own h : Pair} {a : Across}
+    → b ≡ bordersOf road i s right k → start ≡ sectionOf road i .start → hs ≡ laneOf road i right k .heights → own ≡ heightOf hs (s ⊖ start) → sign ≡ signOf right → h ≡ tiltedHeights road s own b sign → a ≡ paired b h
+    → levelUpTo (sideOf road i right) k ≡ false → a ≡ acrossAt road i s tangent right k
+unfolding acrossAt heightsAt
+across-alone road i s tangent right k q p e f g t r l = rw (r, t, g, f, e, q, p, l)
+
+-- and the bank's tangent doesn't count
+pub tangent-free : (road : Road) (i : ℕ) (s tangent other : Float) (right : Bool) (k : ℕ) → levelUpTo (sideOf road i right) k ≡ false → acrossAt road i s tangent right k ≡ acrossAt road i s other right k
+unfolding acrossAt heightsAt
+tangent-free road i s tangent other right k l = rw l
+
 pub height-first : (road : Road) (i : ℕ) (s tangent : Float) (right : Bool) {base sign h : Float} → base ≡ baseAt road s → sign ≡ signOf right → h ≡ heightToward road s base sign → h ≡ heightAfter road i s tangent right 0
 unfolding heightAfter
 height-first road i s tangent right e f g = rw (g, f, e)
@@ -81,11 +96,27 @@ height-first road i s tangent right e f g = rw (g, f, e)
 pub raised-is : (lane : Lane) (xs : List Float) {m : Bool} → heightsOf xs ≡ lane .heights → m ≡ lane .level → ltb 0 (length xs / 3) || m ≡ isRaised lane
 raised-is lane xs e f = rw (← height-count xs, e, f)
 
+or-left : (a b : Bool) → a ≡ true → a || b ≡ true
+or-left a b e = rw e
+
+or-right : (a b : Bool) → b ≡ true → a || b ≡ true
+or-right true b e = refl
+or-right false b e = e
+
 module _ (p : ℕ → Bool) where
-  pub any-none : false ≡ anyBelow p 0
+  pub any-none : anyBelow p 0 ≡ false
   unfolding anyBelow
   any-none = refl
 
-  pub any-next : (k : ℕ) {a b : Bool} → a ≡ anyBelow p k → b ≡ p k → a || b ≡ anyBelow p (k + 1)
+  -- none so far, and not this one
+  pub any-next : (k : ℕ) → anyBelow p k ≡ false → p k ≡ false → anyBelow p (k + 1) ≡ false
   unfolding anyBelow
   any-next k e f = rw (add-one, e, f)
+
+  -- this one
+  pub any-hit : (n k : ℕ) → k < n → p k ≡ true → anyBelow p n ≡ true
+  unfolding anyBelow
+  any-hit zero k l e = absurd (omega arith)
+  any-hit (suc n) k l e =
+      let le : k ≤ n = omega arith in
+      ⊎-elim (λ (h : k ≡ n). or-right (anyBelow p n) (p n) (ap p (sym h) ∙ e)) (λ (h : k < n). or-left (anyBelow p n) (p n) (any-hit n k h e)) (eq-or-lt-of-le le)

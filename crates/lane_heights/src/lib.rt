@@ -4,3 +4,4 @@ mod raising;
 
 pub use across::Across;
 pub use raising::lane_across;
+pub use raising::level_up_to;

@@ -6,16 +6,19 @@ use lane_records::heights;
 use lane_records::lane_is_level;
 use lanes::LaneBorders;
 use lanes::base_at;
+use lanes::lane_borders;
 use lanes::next_border;
 use lanes::sign_of;
 use lateral::Pair;
 use lateral::height_at;
 use section_records::section_start;
 ghost use mathlib.Core.Path.{_≡_};
+ghost use mathlib.Core.Bool.{false};
+ghost use lib.Ieee.{Float};
 ghost use Rattle.float_laws.specs.Binary64.{_⊖_};
 ghost use Rattle.records.specs.Roads.{roadOf, sectionOf, laneOf};
-ghost use Rattle.lanes.specs.Borders.{signOf, bordersFrom};
-ghost use Rattle.lane_heights.specs.Heights.{levelHeights, tiltedHeights, acrossBy, ownHeights, acrossAt};
+ghost use Rattle.lanes.specs.Borders.{signOf, sideOf, bordersFrom};
+ghost use Rattle.lane_heights.specs.Heights.{levelUpTo, levelHeights, tiltedHeights, acrossBy, ownHeights, acrossAt};
 
 // ---- a lane across the road
 fn level_heights(own: Pair, outer: f64, sign: f64, width: f64, tangent: f64) -> Pair
@@ -82,8 +85,38 @@ fn next_across(
     }
 }
 
-// The k-th lane of a side across the road at s. Level holds from its lane outward.
-pub fn lane_across(
+// Whether the k-th lane of a side or one inside it is level.
+pub fn level_up_to(words: &[u16], numbers: &[f64], section: usize, right: bool, k: usize) -> bool
+    ensures { λ r. ⌜ r ≡ levelUpTo (sideOf (roadOf (now (words .entry)) (now (numbers .entry))) section right) k ⌝ }
+{
+    let mut found = false;
+    let mut j = 0;
+    while j < k {
+        found = found | lane_is_level(words, numbers, section, right, j);
+        j += 1;
+    }
+    found | lane_is_level(words, numbers, section, right, k)
+}
+
+// The k-th lane of a side across the road at s where no lane up to it is level: its neighbours' heights don't count.
+fn tilted_across(
+    words: &[u16],
+    numbers: &[f64],
+    section: usize,
+    s: f64,
+    right: bool,
+    k: usize,
+) -> Across
+    ensures { λ r. ⌜ ((tangent : Float) → levelUpTo (sideOf (roadOf (now (words .entry)) (now (numbers .entry))) section right) k ≡ false → r ≡ acrossAt (roadOf (now (words .entry)) (now (numbers .entry))) section s tangent right k) ⌝ }
+{
+    let b = lane_borders(words, numbers, section, s, right, k);
+    let into = s - section_start(words, numbers, section);
+    let own = height_at(heights(words, numbers, section, right, k), into);
+    across_of(b, tilted_heights(words, numbers, s, own, b, sign_of(right)))
+}
+
+// The k-th lane of a side across the road at s, with every lane inside it: level holds from its lane outward, and a level lane stands on its inner neighbour.
+fn stacked_across(
     words: &[u16],
     numbers: &[f64],
     section: usize,
@@ -129,4 +162,23 @@ pub fn lane_across(
         outer,
         last,
     )
+}
+
+// The k-th lane of a side across the road at s.
+pub fn lane_across(
+    words: &[u16],
+    numbers: &[f64],
+    section: usize,
+    s: f64,
+    tangent: f64,
+    right: bool,
+    k: usize,
+) -> Across
+    ensures { λ r. ⌜ r ≡ acrossAt (roadOf (now (words .entry)) (now (numbers .entry))) section s tangent right k ⌝ }
+{
+    if level_up_to(words, numbers, section, right, k) {
+        stacked_across(words, numbers, section, s, tangent, right, k)
+    } else {
+        tilted_across(words, numbers, section, s, right, k)
+    }
 }

@@ -1,5 +1,9 @@
 // The pose of a geometry at a station.
+mod bearings;
+mod counting;
 mod differences;
 mod posing;
 
+pub use bearings::Bearing;
+pub use posing::bearing_of;
 pub use posing::pose;

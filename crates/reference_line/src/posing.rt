@@ -1,4 +1,6 @@
-// The pose of a geometry at a station. A line and an arc run on past their length; a spiral stops at its first and last sample.
+// The pose of a geometry at a station, with the sine and the cosine of its heading. A line and an arc run on past their length; a spiral stops at its first and last sample.
+use crate::bearings::Bearing;
+use crate::counting::leading_at;
 use crate::differences::less;
 use records::GeomRec;
 use records::GeomShape;
@@ -7,36 +9,40 @@ use spirals::Sample;
 use spirals::least;
 use spirals::sample_count;
 use spirals::samples_before;
+use trigonometry::sin_cos;
 ghost use mathlib.Core.Path.{_≡_};
 ghost use Prim.Native.Nat.{_<_, _≤_};
 ghost use mathlib.Core.Bool.{cond};
 ghost use lib.Ieee.{lt};
 ghost use Rattle.float_laws.specs.Binary64.{f64, zero64, absOf};
 ghost use Rattle.records.specs.Roads.{roadOf};
-ghost use Rattle.spirals.specs.Poses.{linePose, arcPose, sampleAt, held, leading, segment, fractionOf, between, spiralPose, poseOf};
+ghost use Rattle.spirals.specs.Poses.{linePose, arcPose, sampleAt, held, segment, fractionOf, between, spiralPose, poseOf};
+ghost use Rattle.reference_line.specs.Bearings.{bearingOf};
 
-fn line_pose(g: GeomRec, ds: f64) -> Pose
-    ensures { λ r. ⌜ r ≡ linePose g ds ⌝ }
+fn line_bearing(g: GeomRec, ds: f64) -> Bearing
+    ensures { λ r. ⌜ r ≡ bearingOf (linePose g ds) ⌝ }
 {
-    let h = trigonometry::sin_cos(g.hdg);
-    Pose {
-        x: g.x + ds * h.cos,
-        y: g.y + ds * h.sin,
+    let turn = sin_cos(g.hdg);
+    let pose = Pose {
+        x: g.x + ds * turn.cos,
+        y: g.y + ds * turn.sin,
         heading: g.hdg,
-    }
+    };
+    Bearing { pose, turn }
 }
 
-fn arc_pose(g: GeomRec, k: f64, ds: f64) -> Pose
-    ensures { λ r. ⌜ r ≡ arcPose g k ds ⌝ }
+fn arc_bearing(g: GeomRec, k: f64, ds: f64) -> Bearing
+    ensures { λ r. ⌜ r ≡ bearingOf (arcPose g k ds) ⌝ }
 {
     let h = g.hdg + k * ds;
-    let to = trigonometry::sin_cos(h);
-    let from = trigonometry::sin_cos(g.hdg);
-    Pose {
-        x: g.x + (to.sin - from.sin) / k,
-        y: g.y - (to.cos - from.cos) / k,
+    let turn = sin_cos(h);
+    let from = sin_cos(g.hdg);
+    let pose = Pose {
+        x: g.x + (turn.sin - from.sin) / k,
+        y: g.y - (turn.cos - from.cos) / k,
         heading: h,
-    }
+    };
+    Bearing { pose, turn }
 }
 
 // The k-th sample from place first on.
@@ -65,23 +71,6 @@ fn hold(last: f64, d: f64) -> f64
 {
     let up = raise(d);
     if last < up { last } else { up }
-}
-
-// How many of the n samples from first on lead with a distance of at most d.
-fn leading_at(samples: &[f64], first: usize, d: f64, n: usize) -> usize
-    requires { ⌜ (first < 268435456) × (n < 4096) ⌝ }
-    ensures { λ r. ⌜ r ≡ leading (now (samples .entry)) first d n ⌝ }
-    ensures small { λ r. ⌜ r ≤ n ⌝ }
-{
-    let mut k = 0;
-    while k < n {
-        if lent::number(samples, (first + k) * 4) <= d {
-            k += 1;
-        } else {
-            return k;
-        }
-    }
-    k
 }
 
 // The first sample of the segment: the last leading one, but never the very last.
@@ -126,31 +115,46 @@ fn size(k: f64) -> f64
 }
 
 // An arc of curvature 1e-9 or less is a line.
-fn arc_or_line(g: GeomRec, k: f64, ds: f64) -> Pose
-    ensures { λ r. ⌜ r ≡ cond (lt (f64 0x3e11_2e0b_e826_d695) (absOf k)) (arcPose g k ds) (linePose g ds) ⌝ }
+fn arc_or_line(g: GeomRec, k: f64, ds: f64) -> Bearing
+    ensures { λ r. ⌜ r ≡ bearingOf (cond (lt (f64 0x3e11_2e0b_e826_d695) (absOf k)) (arcPose g k ds) (linePose g ds)) ⌝ }
 {
     if 1e-9 < size(k) {
-        arc_pose(g, k, ds)
+        arc_bearing(g, k, ds)
     } else {
-        line_pose(g, ds)
+        line_bearing(g, ds)
     }
 }
 
-// The pose of the i-th geometry at s, with the lent samples.
-pub fn pose(words: &[u16], numbers: &[f64], samples: &[f64], i: usize, s: f64) -> Pose
-    ensures { λ r. ⌜ r ≡ poseOf (roadOf (now (words .entry)) (now (numbers .entry))) (now (samples .entry)) i s ⌝ }
+fn turned(pose: Pose) -> Bearing
+    ensures { λ r. ⌜ r ≡ bearingOf pose ⌝ }
+{
+    let turn = sin_cos(pose.heading);
+    Bearing { pose, turn }
+}
+
+// The pose of the i-th geometry at s, with the lent samples, and the sine and the cosine of its heading.
+pub fn bearing_of(words: &[u16], numbers: &[f64], samples: &[f64], i: usize, s: f64) -> Bearing
+    ensures { λ r. ⌜ r ≡ bearingOf (poseOf (roadOf (now (words .entry)) (now (numbers .entry))) (now (samples .entry)) i s) ⌝ }
 {
     let g = geometry::geom(words, numbers, i);
     let ds = s - g.s;
     let shape = g.shape;
     match shape {
-        GeomShape::Line => line_pose(g, ds),
+        GeomShape::Line => line_bearing(g, ds),
         GeomShape::Arc(k) => arc_or_line(g, k, ds),
-        GeomShape::Spiral(_, _) => spiral_pose(
+        GeomShape::Spiral(_, _) => turned(spiral_pose(
             samples,
             samples_before(words, numbers, i),
             sample_count(g),
             ds,
-        ),
+        )),
     }
+}
+
+// The pose alone.
+pub fn pose(words: &[u16], numbers: &[f64], samples: &[f64], i: usize, s: f64) -> Pose
+    ensures { λ r. ⌜ r ≡ poseOf (roadOf (now (words .entry)) (now (numbers .entry))) (now (samples .entry)) i s ⌝ }
+{
+    let b = bearing_of(words, numbers, samples, i, s);
+    b.pose
 }

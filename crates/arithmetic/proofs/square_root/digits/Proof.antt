@@ -1,66 +1,24 @@
--- Invariant: after i of 54 places `RootOf` holds of the digits of m * 2 ^ 54 that came down, and the root has at most i digits. One turn is `root-next`. Measure: the places left.
+-- The root of m has 27 digits (`leads`), and those below follow.
+use Prim.Native.Nat.{ℕ, _*_, _^_}
+use mathlib.Core.Path.{subst}
 use Rattle.arithmetic.specs.RootSteps.{RootOf}
-use mathlib.Core.Path.{_≡_}
-use native.Mathlib.Nat.{le-antisymm}
-use native.Mathlib.Omega.{arith}
-use Prim.Native.Nat.{_≤_, _<_, _+_, _-_, _^_, _*_, _/_, suc}
-use Rattle.arithmetic.proofs.RootDigits.{root-none, root-next, root-all, within, two-small, grows}
+use Rattle.arithmetic.proofs.RootLower.{leads}
 use borrow.Author.Needs.{needs}
 use Rattle.arithmetic.proofs.square_root.digits.Statement.{statement}
 use Rattle.arithmetic.proofs.square_root.digits.Tie as tie
 
-abbrev Inv-loop : tie.InvT-loop
-Inv-loop m s₀ i₀ s i = (i ≤ 54) × (s .root < 2 ^ i) × RootOf (m * 2 ^ 54 / 2 ^ (2 * (54 - i))) (s .root) (s .rem)
+upper-requires : tie.Need-upper-requires
+upper-requires c κs = search needs
 
-abbrev μ-loop : tie.MeasureT-loop
-μ-loop m s₀ i₀ s i = 54 - i
+lower-requires : tie.Need-lower-requires
+lower-requires c κs =
+    let u = c .upper in
+    (leads (c .before .args .m) (u .result .root) (u .result .rem) (u .ensures .0) (c .before .pre .0), u .ensures .1, u .ensures .0 .below)
 
-loop-holds : tie.Need-loop-holds Inv-loop μ-loop
-loop-holds c = (search needs, search needs, root-none (c .args .m * 2 ^ 54) 54 (omega (arith, c .pre)))
-
-two-at-requires : tie.Need-two-at-requires Inv-loop μ-loop
-two-at-requires c κs = search needs
-
-digit-requires : tie.Need-digit-requires Inv-loop μ-loop
-digit-requires c κs =
-    let at = c .before .before .loop in
-    let a = c .before .before .before .args in
-    (within (at .i) (at .s .root) (c .before .loop-test .taken) (at .inv .1), at .inv .2 .below, rw (c .two-at .ensures) (two-small (a .m * 2 ^ 54 / 2 ^ (2 * (53 - at .i)))))
-
-add-i : tie.Need-add-i Inv-loop μ-loop
-add-i c = search needs
-
-loop-less : tie.Need-loop-less Inv-loop μ-loop
-loop-less c = search needs
-
-loop-again : tie.Need-loop-again Inv-loop μ-loop
-loop-again c =
-    let at = c .before .before .before .loop in
-    let a = c .before .before .before .before .args in
-    let t = c .before .before .loop-test .taken in
-    let e : 54 - at .i ≡ suc (53 - at .i) = omega arith in
-    let f : 54 - (at .i + 1) ≡ 53 - at .i = omega arith in (
-      search needs,
-      grows (at .i) (at .s .root) (c .digit .result .root) (at .inv .1) (c .digit .ensures .1),
-      rw f (root-next (a .m * 2 ^ 54) (53 - at .i) (at .s .root) (at .s .rem) (rw e at (at .inv .2)) (c .before .two-at .ensures) (c .digit .ensures .0)),
-    )
-
-returns : tie.Need-returns Inv-loop μ-loop
+returns : tie.Need-returns
 returns c =
-    let at = c .before .loop in
-    let e : at .i ≡ 54 = le-antisymm (at .inv .0) (c .loop-test .left) in
-    (root-all _ _ _ (rw e at (at .inv .2)), rw e at (at .inv .1))
+    let l = c .lower in
+    (subst (λ (n : ℕ). RootOf (n * 2 ^ 54) (l .result .root) (l .result .rem)) (c .before .upper .ensures .0 .square) (l .ensures .0), l .ensures .1)
 
 pub digits-spec : {M : Type 1} → statement M
-digits-spec =
-    tie.close
-    (tie.spec
-    Inv-loop
-    μ-loop
-    loop-holds
-    two-at-requires
-    digit-requires
-    add-i
-    loop-less
-    loop-again
-    returns)
+digits-spec = tie.close (tie.spec upper-requires lower-requires returns)

@@ -1,6 +1,7 @@
 -- The root's pattern by `pattern-is`, from the leading digit at bit 52 (`places`) and 54 digits of the root (`digits`). The other needs are that nothing overflows 64 bits.
 use lib.Ieee.{binary64}
 use Prim.Native.Nat.{suc-le-suc, _+_, _-_, _%_, _*_, _^_}
+use native.Mathlib.Nat.{le-trans}
 use native.Mathlib.Omega.{arith}
 use Rattle.arithmetic.proofs.RootCases.{doubled, pattern-is}
 use borrow.Author.Needs.{needs}
@@ -37,7 +38,7 @@ digits-requires c κs =
     let a = c .before .before .args in
     let z = c .before .places .result in
     let d = doubled 53 (a .m * 2 ^ z) ((a .j + 1020 - z) % 2) (omega arith) (c .before .places .ensures .2) in
-    rw (c .power .ensures) (d .1)
+    rw (c .power .ensures) (le-trans (c .before .places .ensures .1) (d .0), d .1)
 
 add-result : tie.Need-add-result
 add-result c = search needs

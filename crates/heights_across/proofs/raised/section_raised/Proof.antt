@@ -1,5 +1,6 @@
 -- `section_raised`: the two sides.
 use Rattle.lane_heights.specs.Heights.{sectionRaised}
+use mathlib.Core.Path.{sym, _∙_}
 use borrow.Author.Needs.{needs}
 use Rattle.heights_across.proofs.raised.section_raised.Statement.{statement}
 use Rattle.heights_across.proofs.raised.section_raised.Tie as tie
@@ -12,7 +13,11 @@ side-raised-requires-2 c κs = search needs
 
 returns : tie.Need-returns
 unfolding sectionRaised
-returns c = rw (c .before .side-raised .ensures, c .side-raised2 .ensures)
+returns c = let e = sym (c .before .side-raised .ensures) ∙ c .if1 .taken in rw e
+
+returns-2 : tie.Need-returns-2
+unfolding sectionRaised
+returns-2 c = let e = sym (c .before .before .side-raised .ensures) ∙ c .before .if1 .left in rw (c .side-raised2 .ensures, e)
 
 pub section-raised-spec : {M : Type 1} → statement M
-section-raised-spec = tie.close (tie.spec side-raised-requires side-raised-requires-2 returns)
+section-raised-spec = tie.close (tie.spec side-raised-requires returns side-raised-requires-2 returns-2)

@@ -1,8 +1,8 @@
 -- What `sin_cos` gives of the heading, put in its place.
 use Rattle.spirals.specs.Poses.{linePose}
 use borrow.Author.Needs.{needs}
-use Rattle.reference_line.proofs.posing.line_pose.Statement.{statement}
-use Rattle.reference_line.proofs.posing.line_pose.Tie as tie
+use Rattle.reference_line.proofs.posing.line_bearing.Statement.{statement}
+use Rattle.reference_line.proofs.posing.line_bearing.Tie as tie
 
 sin-cos-requires : tie.Need-sin-cos-requires
 sin-cos-requires c κs = search needs
@@ -11,5 +11,5 @@ returns : tie.Need-returns
 unfolding linePose
 returns c = rw (c .before .before .before .before .sin-cos .ensures .0, c .before .before .before .before .sin-cos .ensures .1)
 
-pub line-pose-spec : {M : Type 1} → statement M
-line-pose-spec = tie.close (tie.spec sin-cos-requires returns)
+pub line-bearing-spec : {M : Type 1} → statement M
+line-bearing-spec = tie.close (tie.spec sin-cos-requires returns)

@@ -1,8 +1,8 @@
 -- What `sin_cos` gives of the two headings, put in its place.
 use Rattle.spirals.specs.Poses.{arcPose}
 use borrow.Author.Needs.{needs}
-use Rattle.reference_line.proofs.posing.arc_pose.Statement.{statement}
-use Rattle.reference_line.proofs.posing.arc_pose.Tie as tie
+use Rattle.reference_line.proofs.posing.arc_bearing.Statement.{statement}
+use Rattle.reference_line.proofs.posing.arc_bearing.Tie as tie
 
 sin-cos-requires : tie.Need-sin-cos-requires
 sin-cos-requires c κs = search needs
@@ -18,5 +18,5 @@ returns c =
     let b = from .before .sin-cos .ensures in
     rw (a .0, a .1, b .0, b .1)
 
-pub arc-pose-spec : {M : Type 1} → statement M
-arc-pose-spec = tie.close (tie.spec sin-cos-requires sin-cos-requires-2 returns)
+pub arc-bearing-spec : {M : Type 1} → statement M
+arc-bearing-spec = tie.close (tie.spec sin-cos-requires sin-cos-requires-2 returns)

@@ -4,10 +4,10 @@ use native.Mathlib.Omega.{arith}
 use mathlib.Core.Path.{_≡_, _∙_, sym, ap}
 use lib.Ieee.{Float, le}
 use Rattle.spirals.specs.Poses.{leading}
-use Rattle.spirals.proofs.PoseLaws.{lead-start, lead-next, lead-stop, lead-full}
+use Rattle.spirals.proofs.PoseLaws.{lead-next, lead-stop, lead-full}
 use borrow.Author.Needs.{needs}
-use Rattle.reference_line.proofs.posing.leading_at.Statement.{statement}
-use Rattle.reference_line.proofs.posing.leading_at.Tie as tie
+use Rattle.reference_line.proofs.counting.leading_at.Statement.{statement}
+use Rattle.reference_line.proofs.counting.leading_at.Tie as tie
 
 abbrev Inv-loop : tie.InvT-loop
 Inv-loop samples first d n k₀ k = (k ≤ n) × (leading samples first d n ≡ k + leading samples (first + k) d (n - k))
@@ -16,7 +16,10 @@ abbrev μ-loop : tie.MeasureT-loop
 μ-loop samples first d n k₀ k = n - k
 
 loop-holds : tie.Need-loop-holds Inv-loop μ-loop
-loop-holds c = let a = c .before .args in (omega arith, lead-start (a .samples .now) (a .d) (a .first) (a .n))
+loop-holds c = (c .leading-eights .ensures .1, c .leading-eights .ensures .0)
+
+leading-eights-requires : tie.Need-leading-eights-requires Inv-loop μ-loop
+leading-eights-requires c κs = search needs
 
 add-number : tie.Need-add-number Inv-loop μ-loop
 add-number c = search needs
@@ -36,21 +39,21 @@ loop-less c = search needs
 loop-again : tie.Need-loop-again Inv-loop μ-loop
 loop-again c =
     let at = c .before .before .before in
-    let a = at .before .before .args in
+    let a = at .before .before .before .args in
     let test = ap (λ (x : Float). le x (a .d)) (sym (c .before .number .ensures)) ∙ c .if1 .taken in
     (omega arith, at .loop .inv .1 ∙ lead-next (a .samples .now) (a .d) (a .first) (a .n) (at .loop .k) (c .before .before .loop-test .taken) test)
 
 returns : tie.Need-returns Inv-loop μ-loop
 returns c =
     let at = c .before .before .before in
-    let a = at .before .before .args in
+    let a = at .before .before .before .args in
     let test = ap (λ (x : Float). le x (a .d)) (sym (c .before .number .ensures)) ∙ c .if1 .left in
     (sym (at .loop .inv .1 ∙ lead-stop (a .samples .now) (a .d) (a .first) (a .n) (at .loop .k) (c .before .before .loop-test .taken) test), at .loop .inv .0)
 
 returns-2 : tie.Need-returns-2 Inv-loop μ-loop
 returns-2 c =
     let at = c .before in
-    let a = at .before .before .args in
+    let a = at .before .before .before .args in
     (sym (at .loop .inv .1 ∙ lead-full (a .samples .now) (a .d) (a .first) (a .n) (at .loop .k) (c .loop-test .left)), at .loop .inv .0)
 
 pub leading-at-spec : {M : Type 1} → statement M
@@ -59,6 +62,7 @@ leading-at-spec =
     (tie.spec
     Inv-loop
     μ-loop
+    leading-eights-requires
     loop-holds
     add-number
     mul-number

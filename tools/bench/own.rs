@@ -1,0 +1,73 @@
+// The published Rust with its own sine, cosine, tangent, root and hypot: the patched file once more, over a module `stand_ins` that
+// calls what the published lines call. So the benchmark can say what document 01's stand-ins cost the Rust.
+#![allow(dead_code)]
+
+#[path = "../../target/differential/source/coords.rs"]
+mod coords;
+#[path = "../differential/oracle.rs"]
+pub mod oracle;
+#[path = "../../target/differential/source/road.rs"]
+mod road;
+
+use comparison::{Direction, LaneId, RoadMarkId, crg, model};
+
+mod stand_ins {
+    use crate::road::Across;
+
+    #[inline(always)]
+    pub fn root(x: f64) -> f64 {
+        x.sqrt()
+    }
+
+    #[inline(always)]
+    pub fn hypot(a: f64, b: f64) -> f64 {
+        a.hypot(b)
+    }
+
+    #[inline(always)]
+    pub fn sin_cos(h: f64) -> (f64, f64) {
+        h.sin_cos()
+    }
+
+    #[inline(always)]
+    pub fn sin(h: f64) -> f64 {
+        h.sin()
+    }
+
+    #[inline(always)]
+    pub fn cos(h: f64) -> f64 {
+        h.cos()
+    }
+
+    pub(crate) trait Tangent: Copy {
+        fn tangent(self) -> f64;
+    }
+
+    impl Tangent for f64 {
+        #[inline(always)]
+        fn tangent(self) -> f64 {
+            self.tan()
+        }
+    }
+
+    #[derive(Clone, Copy)]
+    pub(crate) struct Given(pub f64);
+
+    impl Tangent for Given {
+        fn tangent(self) -> f64 {
+            self.0
+        }
+    }
+
+    /// The published line: t is kept to the lane, and the fraction across is left as it comes out.
+    #[inline(always)]
+    pub(crate) fn kept_height(lane: &Across, t: f64) -> f64 {
+        lane.height(t.clamp(lane.inner_t.min(lane.outer_t), lane.inner_t.max(lane.outer_t)))
+    }
+
+    pub(crate) fn count_move() {}
+
+    pub fn take_moves() -> u32 {
+        0
+    }
+}
