@@ -65,6 +65,17 @@ mod stand_ins {
         lane.height(t.clamp(lane.inner_t.min(lane.outer_t), lane.inner_t.max(lane.outer_t)))
     }
 
+    /// The published clamp and search.
+    #[inline(always)]
+    pub(crate) fn held(distance: f64, last: f64) -> f64 {
+        distance.clamp(0.0, last)
+    }
+
+    #[inline(always)]
+    pub(crate) fn leading(samples: &[(f64, f64, f64, f64)], distance: f64) -> usize {
+        samples.partition_point(|p| p.0 <= distance)
+    }
+
     pub(crate) fn count_move() {}
 
     pub fn take_moves() -> u32 {
