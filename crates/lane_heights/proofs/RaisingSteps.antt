@@ -82,11 +82,6 @@ pub across-alone : (road : Road) (i : ℕ) (s tangent : Float) (right : Bool) (k
 unfolding acrossAt heightsAt
 across-alone road i s tangent right k q p e f g t r l = rw (r, t, g, f, e, q, p, l)
 
--- and the bank's tangent doesn't count
-pub tangent-free : (road : Road) (i : ℕ) (s tangent other : Float) (right : Bool) (k : ℕ) → levelUpTo (sideOf road i right) k ≡ false → acrossAt road i s tangent right k ≡ acrossAt road i s other right k
-unfolding acrossAt heightsAt
-tangent-free road i s tangent other right k l = rw l
-
 pub height-first : (road : Road) (i : ℕ) (s tangent : Float) (right : Bool) {base sign h : Float} → base ≡ baseAt road s → sign ≡ signOf right → h ≡ heightToward road s base sign → h ≡ heightAfter road i s tangent right 0
 unfolding heightAfter
 height-first road i s tangent right e f g = rw (g, f, e)

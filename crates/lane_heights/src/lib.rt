@@ -4,4 +4,3 @@ mod raising;
 
 pub use across::Across;
 pub use raising::lane_across;
-pub use raising::level_up_to;

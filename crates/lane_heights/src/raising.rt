@@ -86,7 +86,7 @@ fn next_across(
 }
 
 // Whether the k-th lane of a side or one inside it is level.
-pub fn level_up_to(words: &[u16], numbers: &[f64], section: usize, right: bool, k: usize) -> bool
+fn level_up_to(words: &[u16], numbers: &[f64], section: usize, right: bool, k: usize) -> bool
     ensures { λ r. ⌜ r ≡ levelUpTo (sideOf (roadOf (now (words .entry)) (now (numbers .entry))) section right) k ⌝ }
 {
     let mut found = false;
