@@ -3,7 +3,7 @@ use crate::surfaces::Asked;
 use crate::{List, roads};
 use comparison::model::*;
 use comparison::oracle::{Oracle, Records};
-use comparison::random::{Rng, nudge};
+use comparison::random::{Rng, beside};
 
 /// The starts of all records along the road, a lane's own added to its section's.
 pub fn starts(road: &Road) -> Vec<f64> {
@@ -22,17 +22,10 @@ pub fn starts(road: &Road) -> Vec<f64> {
     all
 }
 
-/// At one of some places, a nanometre before it or after it, or a few f64 from there.
-fn beside(rng: &mut Rng, places: &[f64]) -> f64 {
+/// Beside one of some places.
+fn beside_one(rng: &mut Rng, places: &[f64]) -> f64 {
     let x = rng.pick(places);
-    let near = match rng.below(8) {
-        0 | 1 => x,
-        2..5 => x - 1e-9,
-        5 => x + 1e-9,
-        6 => x + rng.pick(&[5e-10, -5e-10, 2e-9, -2e-9]),
-        _ => x + rng.between(-3e-9, 3e-9),
-    };
-    if rng.one_in(3) { near } else { nudge(near, rng.from_to(0, 6) as i32 - 3) }
+    beside(rng, x)
 }
 
 /// A station of the road.
@@ -41,7 +34,7 @@ pub fn station(rng: &mut Rng, road: &Road, starts: &[f64]) -> f64 {
         let s = match rng.below(8) {
             0 => rng.pick(&[0.0, road.length]),
             1 => road.length * rng.unit(),
-            _ => beside(rng, starts),
+            _ => beside_one(rng, starts),
         };
         if 0.0 <= s && s <= road.length {
             return s;
@@ -55,7 +48,7 @@ pub fn station(rng: &mut Rng, road: &Road, starts: &[f64]) -> f64 {
 fn station_of(rng: &mut Rng, road: &Road, g: &Geom) -> Option<f64> {
     let sample = g.s + 0.25 * rng.below(1 + (4.0 * g.length) as usize) as f64;
     let s = match rng.below(4) {
-        0 | 1 => beside(rng, &[sample, g.s + g.length]),
+        0 | 1 => beside_one(rng, &[sample, g.s + g.length]),
         _ => g.s + g.length * rng.unit(),
     };
     (0.0 <= s && s <= road.length).then_some(s)
@@ -107,8 +100,8 @@ pub fn offset(rng: &mut Rng, road: &Road, rust: &Oracle, s: f64) -> f64 {
     places.extend([rust.base(s), 80.0, -80.0]);
     let t = match rng.below(6) {
         0 => rng.between(-30.0, 30.0),
-        1 => beside(rng, &[shift(road, s)]),
-        _ => beside(rng, &places),
+        1 => beside_one(rng, &[shift(road, s)]),
+        _ => beside_one(rng, &places),
     };
     t.clamp(-80.0, 80.0)
 }

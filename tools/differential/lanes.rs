@@ -2,14 +2,14 @@
 //
 // The published Rust answers for every number, so the functions inside the library are asked with any s, t and tangent. The calls
 // are held against the Rust too, and the naming of a lane also against a second text of document 01's rule.
-use crate::places::{any, asked, beside, near_borders, offsets, on_road, starts_across, stations, wide_stations, within_80};
+use crate::places::{any, asked, near_borders, offsets, on_road, starts_across, stations, wide_stations, within_80};
 use crate::{same_memory, still_untouched, untouched};
 use comparison::generate;
 use comparison::limits;
 use comparison::model::{Cubic, Memory, Road};
 use comparison::oracle::{Oracle, Records};
 use comparison::probes as inside;
-use comparison::random::{Rng, nudge};
+use comparison::random::{Rng, beside, nudge};
 use comparison::riftkettle as ours;
 use comparison::tally::{Tally, hex, same};
 

@@ -2,8 +2,8 @@
 // document 01's rule, worked out afresh at the Rust's pair by the Rust's surface.
 use crate::demands;
 use crate::lent::{Lent, ROWS, before, check};
-use crate::places::{any, beside, on_road, within_80};
-use comparison::random::{Rng, nudge};
+use crate::places::{any, on_road, within_80};
+use comparison::random::{Rng, beside, nudge};
 use comparison::riftkettle as ours;
 use comparison::stand_ins::hypot;
 use comparison::tally::{Tally, hex};

@@ -2,24 +2,12 @@
 use comparison::arguments::SPECIAL;
 use comparison::model::{Cubic, Road, Shape};
 use comparison::oracle::{Oracle, Records};
-use comparison::random::{Rng, nudge};
+use comparison::random::{Rng, beside, nudge};
 use comparison::tally::hex;
 
 /// Any bits, or a number where something turns.
 pub fn any(rng: &mut Rng) -> f64 {
     if rng.one_in(2) { rng.pattern() } else { nudge(rng.pick(&SPECIAL), rng.from_to(0, 4) as i32 - 2) }
-}
-
-/// Beside x: at it, a nanometre before it or after it, and a few f64 from there.
-pub fn beside(rng: &mut Rng, x: f64) -> f64 {
-    let near = match rng.below(8) {
-        0 | 1 => x,
-        2..5 => x - 1e-9,
-        5 => x + 1e-9,
-        6 => x + rng.pick(&[5e-10, -5e-10, 2e-9, -2e-9]),
-        _ => x + rng.between(-3e-9, 3e-9),
-    };
-    if rng.one_in(3) { near } else { nudge(near, rng.from_to(0, 6) as i32 - 3) }
 }
 
 // ---- where a call answers

@@ -63,3 +63,15 @@ impl Rng {
 pub fn nudge(x: f64, steps: i32) -> f64 {
     (0..steps.unsigned_abs()).fold(x, |x, _| if steps > 0 { x.next_up() } else { x.next_down() })
 }
+
+/// Beside x: at it, a nanometre before it or after it, and a few f64 from there.
+pub fn beside(rng: &mut Rng, x: f64) -> f64 {
+    let near = match rng.below(8) {
+        0 | 1 => x,
+        2..5 => x - 1e-9,
+        5 => x + 1e-9,
+        6 => x + rng.pick(&[5e-10, -5e-10, 2e-9, -2e-9]),
+        _ => x + rng.between(-3e-9, 3e-9),
+    };
+    if rng.one_in(3) { near } else { nudge(near, rng.from_to(0, 6) as i32 - 3) }
+}
