@@ -1,4 +1,4 @@
--- What admission says of a road, how a call goes on whose rows begin with the road's, and what the samples call writes. The rows are one list, so each law is one of RowLaws at that list.
+-- What admission says of a road, and how a call goes on whose rows begin with the road's. The rows are one list, so each law is one of RowLaws at that list.
 use Prim.Native.Nat.{ℕ, _*_, _/_, _≤_, _<_}
 use native.Mathlib.Omega.{arith}
 use mathlib.Core.Path.{_≡_, refl, sym, _∙_, ap}
@@ -15,20 +15,15 @@ use Rattle.records.specs.Roads.{roadOf}
 use Rattle.structure.specs.Structure.{structured}
 use Rattle.structure.specs.Order.{ordered}
 use Rattle.bounds.specs.Limits.{limited}
-use Rattle.spirals.specs.Spiral.{samplesNeeded, samplesOf}
-use Rattle.admission.specs.declared.admitting.Verdict.{Verdict}
-use Rattle.admission.specs.declared.admitting.Verdict.the-variants.{Admitted, Refused}
+use Rattle.spirals.specs.Spiral.{samplesNeeded}
+use Rattle.admission.specs.declared.verdicts.Verdict.{Verdict}
+use Rattle.admission.specs.declared.verdicts.Verdict.the-variants.{Admitted, Refused}
 use Rattle.admission.specs.Admission.{roadRows, admissionOf, admitted, answerOf}
-use Rattle.admission.specs.Samples.{needed, sampleRow, sampledOf, writtenBy, sampledList}
 use Rattle.admission.proofs.RowLaws.{pass-checked, checked-pass, checked-first, refused-more, pass-more}
 
 both : (a b : Bool) → a && b ≡ true → (a ≡ true) × (b ≡ true)
 both true b e = (refl, e)
 both false b e = let z : _≡_ {A = ℕ} 0 1 = cc in absurd (omega arith)
-
-room-of : (b : Bool) (k m n : ℕ) → _≡_ {A = Answer ℕ} (cond b (value m) (refused k)) (value n) → (b ≡ true) × (n ≡ m)
-room-of true k m n e = (refl, cc)
-room-of false k m n e = let z : _≡_ {A = ℕ} 0 1 = cc in absurd (omega arith)
 
 module _ (words : List ℕ) (numbers : List Float) where
   -- the ways out of `admit`
@@ -106,57 +101,3 @@ module _ (words : List ℕ) (numbers : List Float) where
     pub admitted-samples : samplesNeeded (roadOf words numbers) ≤ 2000
     admitted-samples =
         leb-true (samplesNeeded (roadOf words numbers)) 2000 (both (leb (samplesNeeded (roadOf words numbers)) 2000) true (numbers-hold .1) .0)
-
-  -- ---- row 6, and the slice
-
-  -- too few whole fours, or enough
-  pub no-room : (len : ℕ) {m : ℕ} → m ≡ needed words numbers → len / 4 < m → refused 6 ≡ checked (sampleRow words numbers len ∷ []) (value (needed words numbers))
-  no-room len e h = let l : len / 4 < needed words numbers = omega arith in rw (lt-leb (needed words numbers) (len / 4) l)
-
-  pub room : (len : ℕ) {m : ℕ} → m ≡ needed words numbers → m ≤ len / 4 → value m ≡ checked (sampleRow words numbers len ∷ []) (value (needed words numbers))
-  room len e h = let l : needed words numbers ≤ len / 4 = omega arith in rw (le-leb (needed words numbers) (len / 4) l, e)
-
-  -- the two ways of `samples`: the road is refused, or row 6 decides
-  pub sampled-refused : (len n : ℕ) → refused n ≡ admissionOf words numbers → refused n ≡ sampledOf words numbers len
-  unfolding sampledOf
-  sampled-refused len n e = road-refused (sampleRow words numbers len ∷ []) n (value (needed words numbers)) e
-
-  pub sampled-made : (len : ℕ) {a : Answer ℕ} → value tt ≡ admissionOf words numbers → a ≡ checked (sampleRow words numbers len ∷ []) (value (needed words numbers)) → a ≡ sampledOf words numbers len
-  unfolding sampledOf
-  sampled-made len e f = f ∙ sym (road-admitted (sampleRow words numbers len ∷ []) (value (needed words numbers)) (value-admitted (sym e)))
-
-  -- the slice by the answer
-  pub list-written : (xs : List Float) {ys : List Float} {a : Answer ℕ} → a ≡ sampledOf words numbers (length xs) → ys ≡ writtenBy words numbers a xs → ys ≡ sampledList words numbers xs
-  unfolding sampledList
-  list-written xs e f = f ∙ ap (λ (a : Answer ℕ). writtenBy words numbers a xs) e
-
-  pub made-list : (xs : List Float) {ys : List Float} {m : ℕ} → m ≡ needed words numbers
-      → ys ≡ samplesOf (roadOf words numbers) ++ drop (4 * samplesNeeded (roadOf words numbers)) xs → ys ≡ writtenBy words numbers (value m) xs
-  made-list xs e f = f ∙ ap (λ (n : ℕ). samplesOf (roadOf words numbers) ++ drop (4 * n) xs) (sym e)
-
-  -- an admitted road with room: all its samples, and the rest as it was
-  module _ (h : admitted words numbers ≡ true) where
-    pub samples-made : (len : ℕ) → 4 * samplesNeeded (roadOf words numbers) ≤ len → sampledOf words numbers len ≡ value (samplesNeeded (roadOf words numbers))
-    samples-made len l = sym (sampled-made len (sym (admitted-value h)) (room len {m = needed words numbers} refl (omega arith)))
-
-    pub samples-written : (xs : List Float) → 4 * samplesNeeded (roadOf words numbers) ≤ length xs
-        → sampledList words numbers xs ≡ samplesOf (roadOf words numbers) ++ drop (4 * samplesNeeded (roadOf words numbers)) xs
-    samples-written xs l = sym (list-written xs (sym (samples-made (length xs) l)) refl)
-
-  -- where samples were made the road is admitted, they are all of its own, and the slice has room for them
-  pub made-admitted : (len n : ℕ) → sampledOf words numbers len ≡ value n → admitted words numbers ≡ true
-  unfolding sampledOf
-  made-admitted len n e = road-answered (sampleRow words numbers len ∷ []) (value (needed words numbers)) n e
-
-  pub made-needed : (len n : ℕ) → sampledOf words numbers len ≡ value n → (n ≡ samplesNeeded (roadOf words numbers)) × (4 * n ≤ len)
-  unfolding sampledOf
-  made-needed len n e =
-      let w = road-admitted (sampleRow words numbers len ∷ []) (value (needed words numbers)) (made-admitted len n e) in
-      let r = room-of (leb (needed words numbers) (len / 4)) 6 (needed words numbers) n (sym w ∙ e) in
-      let l = leb-true (needed words numbers) (len / 4) (r .0) in
-      let m = r .1 in
-      (m, omega arith)
-
-  -- a refusal changes nothing
-  pub refused-kept : (xs : List Float) (n : ℕ) → sampledOf words numbers (length xs) ≡ refused n → sampledList words numbers xs ≡ xs
-  refused-kept xs n e = sym (list-written xs (sym e) refl)

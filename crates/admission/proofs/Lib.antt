@@ -1,3 +1,4 @@
 pub mod RowLaws
 pub mod AdmissionLaws
 pub mod WritingLaws
+pub mod SampleCalls

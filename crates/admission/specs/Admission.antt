@@ -12,8 +12,8 @@ use Rattle.structure.specs.Structure.{structured}
 use Rattle.structure.specs.Order.{ordered}
 use Rattle.bounds.specs.Limits.{limited}
 use Rattle.spirals.specs.Spiral.{samplesNeeded}
-use Rattle.admission.specs.declared.admitting.Verdict.{Verdict}
-use Rattle.admission.specs.declared.admitting.Verdict.the-variants.{Admitted, Refused}
+use Rattle.admission.specs.declared.verdicts.Verdict.{Verdict}
+use Rattle.admission.specs.declared.verdicts.Verdict.the-variants.{Admitted, Refused}
 
 -- 3 counts, references, order; 4 numbers; 5 samples: each over the whole road
 abbrev pub roadRows : List ℕ → List Float → List Row

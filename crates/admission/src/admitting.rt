@@ -1,12 +1,8 @@
 // Whether a lent road is admitted.
+use crate::verdicts::Verdict;
 use refusals::Refusal;
 ghost use mathlib.Core.Path.{_≡_};
 ghost use Rattle.admission.specs.Admission.{admissionOf, answerOf};
-
-pub enum Verdict {
-    Admitted,
-    Refused(Refusal),
-}
 
 // Rows 3, 4 and 5, in this order. Every call that takes a road begins with it.
 pub fn admit(words: &[u16], numbers: &[f64]) -> Verdict

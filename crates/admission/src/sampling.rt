@@ -1,6 +1,6 @@
 // The samples of a road's spirals, written into a lent slice, four f64 each: distance, x, y, heading.
-use crate::admitting::Verdict;
 use crate::admitting::admit;
+use crate::verdicts::Verdict;
 use records::GeomRec;
 use records::GeomShape;
 use refusals::Refusal;

@@ -11,8 +11,8 @@ use Rattle.admission.specs.Admission.{admissionOf}
 use Rattle.admission.specs.Admission as admission
 use Rattle.admission.specs.Samples.{sampledOf}
 use Rattle.admission.specs.Samples as samples
-use Rattle.admission.specs.declared.admitting.Verdict.{Verdict}
-use Rattle.admission.specs.declared.admitting.Verdict.the-variants as verdict
+use Rattle.admission.specs.declared.verdicts.Verdict.{Verdict}
+use Rattle.admission.specs.declared.verdicts.Verdict.the-variants as verdict
 use Rattle.admission.specs.declared.sampling.Sampled.{Sampled}
 use Rattle.admission.specs.declared.sampling.Sampled.the-variants as sampled
 use Rattle.admission_cases.specs.Case.{admissionWord, samplesWord, answerWord}

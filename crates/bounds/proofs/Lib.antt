@@ -1,2 +1,3 @@
-pub mod CheckLaws
+pub mod LimitTests
+mod Greatest
 mod Parts

@@ -21,7 +21,7 @@ use Rattle.records.specs.Active.{activeIn, valueIn}
 use Rattle.records.specs.Roads.{Road, Lane, noLane, laneOf, sectionIndex}
 use Rattle.records.proofs.CubicLaws.{value-at}
 use Rattle.limit_laws.proofs.RoadBounds.{OnRoad, offset-within, width-within, border-within}
-use Rattle.lateral.specs.declared.heights.Pair.{Pair}
+use Rattle.lateral.specs.declared.pairs.Pair.{Pair}
 use Rattle.lateral.specs.Lateral.{notBelowZero, heightToward}
 use Rattle.lateral_laws.proofs.LateralBounds.{two-wide, height-most}
 use Rattle.lanes.specs.Borders.{signOf, borderWidth, widthOf, baseAt, sideOf, bordersAt, bordersOf}

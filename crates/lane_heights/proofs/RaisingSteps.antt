@@ -14,7 +14,7 @@ use Rattle.float_laws.specs.Binary64.{_⊖_}
 use Rattle.records.specs.declared.points.HeightDef.{HeightDef}
 use Rattle.records.specs.Roads.{Road, Lane, noLane, sectionOf, laneOf, heightsOf}
 use Rattle.records.proofs.CubicLaws.{height-count}
-use Rattle.lateral.specs.declared.heights.Pair.{Pair}
+use Rattle.lateral.specs.declared.pairs.Pair.{Pair}
 use Rattle.lateral.specs.Lateral.{heightOf, heightToward}
 use Rattle.lanes.specs.declared.across.LaneBorders.{LaneBorders}
 use Rattle.lane_heights.specs.declared.across.Across.{Across}

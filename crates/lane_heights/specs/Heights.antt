@@ -9,7 +9,7 @@ use lib.Ieee.{Float}
 use Rattle.float_laws.specs.Binary64.{_⊕_, _⊖_, _⊗_}
 use Rattle.records.specs.Roads.{Road, Lane, noLane, sectionOf}
 use Rattle.lanes.specs.declared.across.LaneBorders.{LaneBorders}
-use Rattle.lateral.specs.declared.heights.Pair.{Pair}
+use Rattle.lateral.specs.declared.pairs.Pair.{Pair}
 use Rattle.lane_heights.specs.declared.across.Across.{Across}
 use Rattle.lateral.specs.Lateral.{heightOf, heightToward}
 use Rattle.lanes.specs.Borders.{signOf, baseAt, sideOf, bordersOf}

@@ -13,7 +13,7 @@ use Rattle.records.specs.declared.points.Found.the-variants.{At, Nothing}
 use Rattle.cubics.specs.Cubics.{cubicAt, evalAt}
 use Rattle.records.specs.Active.{activeIn, valueIn, lastStart, reached}
 use Rattle.records.specs.Roads.{Road, Profile, Lane, Strip, StripDef, absent, present, profileAt, stripAt, heightDefAt, columnBy}
-use Rattle.lateral.specs.declared.heights.Pair.{Pair}
+use Rattle.lateral.specs.declared.pairs.Pair.{Pair}
 
 -- a + (b - a)×f
 abbrev pub blend : Float → Float → Float → Float

@@ -1,4 +1,5 @@
 // A lane's own heights: linear from one to the next, the first before all, the last after all.
+use crate::pairs::Pair;
 use lane_records::height_def;
 use records::Found;
 use records::HeightDef;
@@ -6,12 +7,6 @@ use stations::active_height;
 ghost use mathlib.Core.Path.{_≡_};
 ghost use Rattle.records.specs.Roads.{heightsOf};
 ghost use Rattle.lateral.specs.Lateral.{heightOf, heightBetween, heightHeld};
-
-// A lane's height off the road at its inner and outer border.
-pub struct Pair {
-    pub inner: f64,
-    pub outer: f64,
-}
 
 // Straight from a to b.
 fn between(a: HeightDef, b: HeightDef, s: f64) -> Pair

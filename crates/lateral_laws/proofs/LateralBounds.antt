@@ -18,7 +18,7 @@ use Rattle.records.specs.declared.points.Found.the-variants.{At, Nothing}
 use Rattle.cubics.specs.Cubics.{cubicAt, evalAt}
 use Rattle.records.specs.Active.{activeIn, valueIn, lastStart, reached}
 use Rattle.records.specs.Roads.{Road, StripDef, present, profileAt, stripAt, heightDefAt}
-use Rattle.lateral.specs.declared.heights.Pair.{Pair}
+use Rattle.lateral.specs.declared.pairs.Pair.{Pair}
 use Rattle.lateral.specs.Lateral.{blend, shapeBy, profileHeight, shapeBetween, shapeFrom, shapeOf, heightBetween, heightHeld, noHeights, heightFrom, heightOf, crossHeight, heightToward}
 use Rattle.lateral_laws.proofs.StationBounds.{Stations, Wider, starts-far, starts-any, far, largest, between, along, along-within}
 use Rattle.lateral_laws.proofs.StripBounds.{StripWithin, cross-within}

@@ -1,5 +1,7 @@
 -- A road as the Rust's `Road` has it, a record of nested lists, and the road that two lent lists stand for. Every definition above this crate speaks of `Road`, never of places.
 -- Decoding is total. A code that stands for no listed word, a count over its limit or a range past its table's end is refused by admission (row 3), so what they decode to does not matter.
+use denote.Triple.Both.{Both}
+use denote.Ref.{RefT}
 use Prim.Native.Nat.{ℕ, zero, suc, _+_, _*_, _/_}
 use mathlib.Core.Bool.{Bool, true, false, _&&_, cond}
 use mathlib.Core.List.{List, [], _∷_}
@@ -248,3 +250,7 @@ geomIndex road s = orFirst (lastStart (λ i. geomAt road i .s) (reached s) (leng
 unfoldable pub sectionIndex : Road → Float → ℕ
 unfolding lastStart
 sectionIndex road s = orFirst (lastStart (λ i. sectionOf road i .start) (reached s) (length (road .sections)))
+
+-- The road of the two slices that a function was lent, as its contract names it
+abbrev pub lentRoad : {X Y : Type 0} → Both (RefT (List ℕ)) X → Both (RefT (List Float)) Y → Road
+lentRoad words numbers = roadOf (words .entry .now) (numbers .entry .now)

@@ -16,7 +16,8 @@ ghost use mathlib.Core.Bool.{cond};
 ghost use lib.Ieee.{lt};
 ghost use Rattle.float_laws.specs.Binary64.{f64, zero64, absOf};
 ghost use Rattle.records.specs.Roads.{roadOf};
-ghost use Rattle.spirals.specs.Poses.{linePose, arcPose, sampleAt, held, segment, fractionOf, between, spiralPose, poseOf};
+ghost use Rattle.spirals.specs.Poses.{linePose, arcPose, held, segment, fractionOf, between, spiralPose, poseOf};
+ghost use Rattle.spirals.specs.Spiral.{sampleAt};
 ghost use Rattle.reference_line.specs.Bearings.{bearingOf};
 
 fn line_bearing(g: GeomRec, ds: f64) -> Bearing

@@ -21,8 +21,8 @@ use Rattle.records.specs.declared.points.GeomShape.{GeomShape}
 use Rattle.records.specs.declared.points.GeomShape.the-variants.{Line, Arc, Spiral}
 use Rattle.records.specs.Roads.{Road, geomAt, geomIndex}
 use Rattle.spirals.specs.declared.line.Sample.{Sample}
-use Rattle.spirals.specs.Spiral.{spiralSteps, sampleCount, samplesBefore, samplesNeeded, geomSamples, samplesOf}
-use Rattle.spirals.specs.Poses.{linePose, arcPose, sampleAt, held, leading, segment, fractionOf, between, spiralPose, poseBy, poseOf}
+use Rattle.spirals.specs.Spiral.{spiralSteps, sampleCount, samplesBefore, samplesNeeded, geomSamples, samplesOf, sampleAt}
+use Rattle.spirals.specs.Poses.{linePose, arcPose, held, leading, segment, fractionOf, between, spiralPose, poseBy, poseOf}
 use Rattle.spirals.proofs.SpiralLaws.{count-spiral, samples-held, first-distance}
 use Rattle.spirals.proofs.SpiralFirst.{admitted-count}
 use Rattle.spirals.proofs.PoseLaws.{segment-in}

@@ -13,8 +13,8 @@ use Rattle.records.specs.declared.points.GeomShape.the-variants.{Line, Arc, Spi
 use Rattle.records.specs.Roads.{Road, geomAt}
 use Rattle.spirals.specs.declared.line.Sample.{Sample}
 use Rattle.spirals.specs.declared.line.Pose.{Pose}
-use Rattle.spirals.specs.Poses.{leading, sampleAt, held, segment, fractionOf, between, spiralPose, linePose, arcPose, poseOf}
-use Rattle.spirals.specs.Spiral.{sampleCount, samplesBefore}
+use Rattle.spirals.specs.Poses.{leading, held, segment, fractionOf, between, spiralPose, linePose, arcPose, poseOf}
+use Rattle.spirals.specs.Spiral.{sampleCount, samplesBefore, sampleAt}
 
 cond-le : (b : Bool) (m n : ℕ) → m ≤ n → cond b m 0 ≤ n
 cond-le true m n h = h

@@ -18,8 +18,7 @@ use Rattle.records.specs.declared.points.GeomShape.{GeomShape}
 use Rattle.records.specs.declared.points.GeomShape.the-variants.{Line, Arc, Spiral}
 use Rattle.records.specs.Roads.{Road, geomAt, noGeom}
 use Rattle.spirals.specs.declared.line.Sample.{Sample}
-use Rattle.spirals.specs.Poses.{sampleAt}
-use Rattle.spirals.specs.Spiral.{goesOn, stepAt, stepsFrom, mostSteps, spiralSteps, countBy, sampleCount, samplesBefore, samplesNeeded, firstSample, nextSample, samplesAfter, samplesBy, geomSamples, samplesUpTo, flat, samplesOf}
+use Rattle.spirals.specs.Spiral.{goesOn, stepAt, stepsFrom, mostSteps, spiralSteps, countBy, sampleCount, samplesBefore, samplesNeeded, firstSample, nextSample, samplesAfter, samplesBy, geomSamples, samplesUpTo, flat, samplesOf, sampleAt}
 
 -- ---- steps
 

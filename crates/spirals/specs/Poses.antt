@@ -1,9 +1,8 @@
 -- Document 01, "Values": "Pose: line and arc by `pose`; arc of size ≤ 1e-9 is a line; neither stops at its length", and the last bullet on samples, grouped as in src/road.rs.
-use Prim.Native.Nat.{ℕ, zero, suc, _+_, _-_, _*_, min}
+use Prim.Native.Nat.{ℕ, zero, suc, _+_, _-_, min}
 use mathlib.Core.Bool.{cond}
 use mathlib.Core.List.{List, [], _∷_}
-use lib.ListN.{getD}
-use lib.Ieee.{Float, nan, lt, le}
+use lib.Ieee.{Float, lt, le}
 use Rattle.float_laws.specs.Binary64.{_⊕_, _⊖_, _⊗_, _⊘_, f64, zero64, absOf}
 use Rattle.trigonometry.specs.Sine.{sineOf, cosineOf}
 use Rattle.records.specs.declared.points.GeomRec.{GeomRec}
@@ -12,7 +11,7 @@ use Rattle.records.specs.declared.points.GeomShape.the-variants.{Line, Arc, Spi
 use Rattle.records.specs.Roads.{Road, geomAt}
 use Rattle.spirals.specs.declared.line.Sample.{Sample}
 use Rattle.spirals.specs.declared.line.Pose.{Pose}
-use Rattle.spirals.specs.Spiral.{sampleCount, samplesBefore}
+use Rattle.spirals.specs.Spiral.{sampleCount, samplesBefore, sampleAt}
 
 -- x, y and heading in an array of three
 abbrev pub poseList : Pose → List Float
@@ -33,16 +32,6 @@ arcPose g k ds =
     }
 
 -- ---- spiral: n samples from place `first` of the lent slice on
-
--- the k-th of them; what the slice does not hold is NaN
-abbrev pub sampleAt : List Float → ℕ → ℕ → Sample
-sampleAt samples first k =
-    record {
-      distance = getD samples ((first + k) * 4) nan;
-      x = getD samples ((first + k) * 4 + 1) nan;
-      y = getD samples ((first + k) * 4 + 2) nan;
-      heading = getD samples ((first + k) * 4 + 3) nan;
-    }
 
 -- "raised to 0 if below it, then lowered to the last sample's if above it"; a NaN stays
 abbrev pub held : Float → Float → Float

@@ -1,10 +1,10 @@
 -- Document 01, "Values": "Spiral samples by `bake_spiral`: steps of 0.25, the last shorter, while u < length - 1e-9", grouped as in src/road.rs, with the stand-ins for sine and cosine.
 -- A spiral's samples are its start and one for each step. An admitted spiral is at least 0.01 long, so there is at least one step.
-use Prim.Native.Nat.{ℕ, zero, suc, _+_}
+use Prim.Native.Nat.{ℕ, zero, suc, _+_, _*_}
 use mathlib.Core.Bool.{Bool, true, false, cond}
 use mathlib.Core.List.{List, [], _∷_, _++_}
-use lib.ListN.{length}
-use lib.Ieee.{Float, lt}
+use lib.ListN.{length, getD}
+use lib.Ieee.{Float, nan, lt}
 use Rattle.float_laws.specs.Binary64.{_⊕_, _⊖_, _⊗_, _⊘_, f64, zero64}
 use Rattle.trigonometry.specs.Sine.{sineOf, cosineOf}
 use Rattle.records.specs.declared.points.GeomRec.{GeomRec}
@@ -116,3 +116,13 @@ flat (p ∷ ps) = p .distance ∷ p .x ∷ p .y ∷ p .heading ∷ flat ps
 unfoldable pub samplesOf : Road → List Float
 unfolding samplesUpTo flat
 samplesOf road = flat (samplesUpTo road (length (road .geoms)))
+
+-- the k-th sample from place `first` of a lent slice on; what the slice does not hold is NaN
+abbrev pub sampleAt : List Float → ℕ → ℕ → Sample
+sampleAt samples first k =
+    record {
+      distance = getD samples ((first + k) * 4) nan;
+      x = getD samples ((first + k) * 4 + 1) nan;
+      y = getD samples ((first + k) * 4 + 2) nan;
+      heading = getD samples ((first + k) * 4 + 3) nan;
+    }

@@ -13,7 +13,7 @@ use Rattle.spirals.proofs.SpiralLaws.{length-samples-of}
 use Rattle.limit_laws.proofs.Fitting.{Fits64, Fitting}
 use Rattle.admission.specs.Admission.{admitted}
 use Rattle.admission.specs.Samples.{sampledList}
-use Rattle.admission.proofs.AdmissionLaws.{samples-made, samples-written}
+use Rattle.admission.proofs.SampleCalls.{samples-made, samples-written}
 use Rattle.surface_points.specs.declared.points.SurfacePoint32.{SurfacePoint32}
 use Rattle.surface_laws.specs.Sizes.{SizedPoint}
 use Rattle.surface_calls.specs.SurfaceCalls.{surfaceCall}

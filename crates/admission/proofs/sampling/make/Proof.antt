@@ -1,7 +1,7 @@
 -- `make`: the slice's whole fours against what the road needs.
 use mathlib.Core.Path.{refl}
 use lib.ListN.{length}
-use Rattle.admission.proofs.AdmissionLaws.{no-room, room, made-list}
+use Rattle.admission.proofs.SampleCalls.{no-room, room, made-list}
 use borrow.Author.Needs.{needs}
 use Rattle.admission.proofs.sampling.make.Statement.{statement}
 use Rattle.admission.proofs.sampling.make.Tie as tie

@@ -1,7 +1,8 @@
 -- `samples`: a road that is refused, else what row 6 says.
 use mathlib.Core.Path.{refl}
 use lib.ListN.{length}
-use Rattle.admission.proofs.AdmissionLaws.{sampled-refused, sampled-made, list-written, refused-of, admitted-of}
+use Rattle.admission.proofs.AdmissionLaws.{refused-of, admitted-of}
+use Rattle.admission.proofs.SampleCalls.{sampled-refused, sampled-made, list-written}
 use borrow.Author.Needs.{needs}
 use Rattle.admission.proofs.sampling.samples.Statement.{statement}
 use Rattle.admission.proofs.sampling.samples.Tie as tie

@@ -1,5 +1,5 @@
 -- `geom_limited`: the tests of the geometry's numbers put together.
-use Rattle.bounds.proofs.CheckLaws.{geom-by}
+use Rattle.bounds.proofs.LimitTests.{geom-by}
 use borrow.Author.Needs.{needs}
 use Rattle.geometry_limits.proofs.geometries.geom_limited.Statement.{statement}
 use Rattle.geometry_limits.proofs.geometries.geom_limited.Tie as tie

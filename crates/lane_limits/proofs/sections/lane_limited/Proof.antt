@@ -1,5 +1,5 @@
 -- `lane_limited`: the lane's parts put together.
-use Rattle.bounds.proofs.CheckLaws.{lane-by}
+use Rattle.bounds.proofs.LimitTests.{lane-by}
 use borrow.Author.Needs.{needs}
 use Rattle.lane_limits.proofs.sections.lane_limited.Statement.{statement}
 use Rattle.lane_limits.proofs.sections.lane_limited.Tie as tie

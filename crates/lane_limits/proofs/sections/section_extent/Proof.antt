@@ -1,5 +1,5 @@
 -- `section_extent`: by whether there is a next section.
-use Rattle.bounds.proofs.CheckLaws.{extent-next, extent-last}
+use Rattle.bounds.proofs.LimitTests.{extent-next, extent-last}
 use borrow.Author.Needs.{needs}
 use Rattle.lane_limits.proofs.sections.section_extent.Statement.{statement}
 use Rattle.lane_limits.proofs.sections.section_extent.Tie as tie

@@ -1,5 +1,5 @@
 -- `section_limited`: the section's parts put together.
-use Rattle.bounds.proofs.CheckLaws.{section-by}
+use Rattle.bounds.proofs.LimitTests.{section-by}
 use borrow.Author.Needs.{needs}
 use Rattle.lane_limits.proofs.sections.section_limited.Statement.{statement}
 use Rattle.lane_limits.proofs.sections.section_limited.Tie as tie

@@ -1,5 +1,5 @@
 -- `limited`: the tables put together.
-use Rattle.bounds.proofs.CheckLaws.{limited-by}
+use Rattle.bounds.proofs.LimitTests.{limited-by}
 use borrow.Author.Needs.{needs}
 use Rattle.limits.proofs.checking.limited.Statement.{statement}
 use Rattle.limits.proofs.checking.limited.Tie as tie

@@ -1,5 +1,5 @@
 -- `profile_limited`: the profile's parts put together.
-use Rattle.bounds.proofs.CheckLaws.{profile-by}
+use Rattle.bounds.proofs.LimitTests.{profile-by}
 use borrow.Author.Needs.{needs}
 use Rattle.shape_limits.proofs.shapes.profile_limited.Statement.{statement}
 use Rattle.shape_limits.proofs.shapes.profile_limited.Tie as tie

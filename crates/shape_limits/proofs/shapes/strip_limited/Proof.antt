@@ -1,5 +1,5 @@
 -- `strip_limited`: the strip's columns put together.
-use Rattle.bounds.proofs.CheckLaws.{strip-by}
+use Rattle.bounds.proofs.LimitTests.{strip-by}
 use borrow.Author.Needs.{needs}
 use Rattle.shape_limits.proofs.shapes.strip_limited.Statement.{statement}
 use Rattle.shape_limits.proofs.shapes.strip_limited.Tie as tie

@@ -1,7 +1,5 @@
--- How the tests of a road go together: the greatest of a list as a loop meets it, a section by its extent, and the whole road regrouped. By computation and by cases on a Bool.
+-- How the tests of a road go together: a section by its extent, and the whole road regrouped. By computation and by cases on a Bool.
 use Prim.Native.Nat.{ℕ, _+_, _≤_, _<_}
-use native.Mathlib.Numerals.{add-one}
-use native.Mathlib.Nat.{le-antisymm}
 use mathlib.Core.Path.{_≡_, refl}
 use mathlib.Core.Bool.{Bool, true, false, _&&_, cond}
 use mathlib.Core.List.{List}
@@ -14,22 +12,8 @@ use Rattle.cubics.specs.declared.cubics.Cubic.{Cubic}
 use Rattle.records.specs.declared.points.GeomRec.{GeomRec}
 use Rattle.records.specs.declared.points.HeightDef.{HeightDef}
 use Rattle.records.specs.Roads.{Road, Lane, Strip, columnOf, geomAt, unusedZero, sectionOf, laneOf, profileAt, stripAt}
-use Rattle.ranges.specs.Bounds.{inRange, sized, largest, cubicsWithin, slopesWithin, greatest}
+use Rattle.ranges.specs.Bounds.{inRange, sized, largest, cubicsWithin, slopesWithin}
 use Rattle.bounds.specs.Limits.{lengthOk, roadCubicsWithin, shapeLimited, geomLimited, heightsLimited, sectionExtent, laneLimited, sectionLimited, profileLimited, termsBound, stripLimited, limited}
-
--- ---- the greatest of the first values
-
-module _ (f : ℕ → Float) where
-  pub greatest-none : greatest f 0 ≡ zero64
-  unfolding greatest
-  greatest-none = refl
-
-  pub greatest-next : (i : ℕ) {a b r : Float} → a ≡ greatest f i → b ≡ f i → r ≡ cond (lt a b) b a → r ≡ greatest f (i + 1)
-  unfolding greatest
-  greatest-next i e g h = rw (add-one, h, e, g)
-
-  pub greatest-done : (i n : ℕ) {a : Float} → i ≤ n → n ≤ i → a ≡ greatest f i → a ≡ greatest f n
-  greatest-done i n h k e = rw (le-antisymm k h) e
 
 -- ---- a section by the values that a function has read
 
