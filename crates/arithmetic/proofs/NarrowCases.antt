@@ -12,9 +12,10 @@ use lib.Dec.{T, leb, ltb, eqb}
 use borrow.Author.Tests.{leb-true, leb-false, eq-eqb, eqb-true, not-false, le-ltb, ltb-true, ltb-false}
 use lib.Ieee.Nearest.{closest}
 use lib.Ieee.Exact.{HasValue}
-use Rattle.arithmetic.specs.Narrow.{narrowed, NarrowsTo}
+use Rattle.arithmetic.specs.Narrow.{infinity32, narrowed, NarrowsTo}
 use Rattle.arithmetic.proofs.Fields.{value-fields, value-low, of-fields}
-use Rattle.arithmetic.proofs.NarrowBits.{low-bits, none-bits, high-bits, over-bits, infinite, closest-le}
+use Rattle.arithmetic.proofs.NarrowBits.{low-bits, none-bits, high-bits, over-bits, closest-le}
+use Rattle.float_laws.proofs.Pattern.{infinite}
 
 value-normal : (s : Bool) (x t : ℕ) → x < 2046 → HasValue (ofFields binary64 s (suc x) t) s ((2 ^ 52 + t) * 2 ^ x) (2 ^ 1074)
 value-normal s x t h = value-fields binary64 s x t (λ (e : suc x ≡ 2047). omega arith)
@@ -50,7 +51,7 @@ case-high (suc x) frac q g h b e =
           rw f (high-bits s _ (2 ^ 52 + frac) k v (omega arith) (omega arith) (omega arith));
     }
 
-case-over : (field frac : ℕ) → 1150 < field → field < 2047 → frac < 2 ^ 52 → NarrowsTo field frac 0x7f80_0000
+case-over : (field frac : ℕ) → 1150 < field → field < 2047 → frac < 2 ^ 52 → NarrowsTo field frac infinity32
 case-over zero frac g h b = absurd (omega arith)
 case-over (suc x) frac g h b =
     let k = suc x - 897 in
@@ -62,18 +63,18 @@ case-over (suc x) frac g h b =
           over-bits s _ (2 ^ 52 + frac) k v (omega arith) (omega arith) (omega arith);
     }
 
-case-inf : (field frac : ℕ) → field ≡ 2047 → frac ≡ 0 → NarrowsTo field frac 0x7f80_0000
+case-inf : (field frac : ℕ) → field ≡ 2047 → frac ≡ 0 → NarrowsTo field frac infinity32
 unfolding narrowed ofFields
-case-inf field frac e f = record { small = omega arith; is = λ s. rw (e, f) (infinite s ∙ of-inf s) }
+case-inf field frac e f = record { small = omega arith; is = λ s. rw (e, f) (infinite binary32 s ∙ of-inf s) }
   where
     of-inf : (s : Bool) → inf s ≡ narrowed (ofFields binary64 s 2047 0)
     of-inf s = refl
 
 -- too large for an f32, or the infinity itself
-pub case-top : (field frac : ℕ) → 1150 < field → field < 2048 → frac < 2 ^ 52 → (field ≡ 2047 → frac ≡ 0) → NarrowsTo field frac 0x7f80_0000
+pub case-top : (field frac : ℕ) → 1150 < field → field < 2048 → frac < 2 ^ 52 → (field ≡ 2047 → frac ≡ 0) → NarrowsTo field frac infinity32
 case-top field frac g h b z = go (ltb field 2047) refl
   where
-    go : (t : Bool) → ltb field 2047 ≡ t → NarrowsTo field frac 0x7f80_0000
+    go : (t : Bool) → ltb field 2047 ≡ t → NarrowsTo field frac infinity32
     go true e = case-over field frac g (ltb-true field 2047 e) b
     go false e = let i : field ≡ 2047 = le-antisymm (le-of-suc-le-suc h) (ltb-false field 2047 e) in case-inf field frac i (z i)
 
@@ -111,9 +112,9 @@ module _ (x : Float) (fit : T (fits binary64 x)) (no : T (not (isNan x))) where
       rw (sign-is n bits-lt) (h .is (leb (2 ^ 63) n) ∙ ap narrowed (of-fields binary64 x fit))
 
   -- and the pattern is no NaN's
-  pub narrow-small : (r : ℕ) → r ≤ 0x7f80_0000 → T (not (nanBits binary32 (toBits binary64 x / 2 ^ 63 * 2 ^ 31 + r)))
+  pub narrow-small : (r : ℕ) → r ≤ infinity32 → T (not (nanBits binary32 (toBits binary64 x / 2 ^ 63 * 2 ^ 31 + r)))
   narrow-small r h =
       let n = toBits binary64 x in
       let l = bits-lt in
-      let m : (n / 2 ^ 63 * 2 ^ 31 + r) % 2 ^ 31 ≤ 0x7f80_0000 = omega arith in
+      let m : (n / 2 ^ 63 * 2 ^ 31 + r) % 2 ^ 31 ≤ infinity32 = omega arith in
       rw (nanBits-above, le-ltb _ _ m) tt

@@ -9,15 +9,13 @@ use lib.Dec.{T}
 use lib.Pow.{pow-add, pow-pos, pow-mono}
 use lib.Ieee.{Float, Format, binary32, binary64, prec, emax, ofBits, toBits, fits, nanBits, lt, eq, low, hid, ones, top}
 use lib.Ieee.Bits.{nanBits-above}
-use lib.Ieee.Fits.{two}
 use lib.Ieee.Exact.{HasValue}
 use lib.Ieee.Positive.{positive, value-pos}
 use borrow.Author.Tests.{le-ltb}
 use Rattle.float_laws.proofs.Interval.{nil}
-use Rattle.arithmetic.specs.RootSteps.{RootOf}
 use Rattle.arithmetic.specs.Root.{rootUnits, rootOf}
-use Rattle.arithmetic.specs.RootSteps.{RootsTo}
-use Rattle.arithmetic.proofs.RootRounded.{root-pattern, half-small}
+use Rattle.arithmetic.specs.RootSteps.{RootOf, RootsTo}
+use Rattle.arithmetic.proofs.RootRounded.{root-pattern, pattern-lt}
 use Rattle.arithmetic.proofs.Fields.{fields-value, fields-low}
 use Rattle.arithmetic.proofs.RootTests.{positive-is, sign-plus, root-of-value}
 
@@ -80,9 +78,6 @@ in-fours f m j z h =
     ∙ sym (mul-assoc m (2 ^ z * (1 + o) * 2 ^ p) (2 ^ t))
     ∙ ap (λ (x : ℕ). x * 2 ^ t) (sym (mul-assoc m (2 ^ z * (1 + o)) (2 ^ p)) ∙ ap (λ (x : ℕ). x * 2 ^ p) (sym (mul-assoc m (2 ^ z) (1 + o))))
 
-pattern-small : (t h H N : ℕ) → t + 3 < N → 0 < H → h ≤ H * 2 → (t + 1) * H + h < N * H
-pattern-small t h H N a b c = let k : (t + 4) * H ≤ N * H = mul-le-mul-right H (omega arith) in omega arith
-
 -- the pattern that `pattern` makes, from the leading digit in its place and prec + 1 digits of the root
 pub pattern-is : (f : Format) (m j z w r q : ℕ) → j < 2 * emax f → z < prec f → w ≡ 2 ^ z → hid f ≤ m * 2 ^ z → m * 2 ^ z < 2 ^ prec f
     → RootOf (m * w * (1 + above f j z % 2) * 2 ^ suc (prec f)) r q
@@ -92,17 +87,13 @@ pattern-is f m j z w r q J Z E lo hi R =
     let t = e / 2 in
     let M = m * 2 ^ z * (1 + e % 2) in
     let wd = wide f in
-    let tw = two f in
     let d = doubled (prec f) (m * 2 ^ z) (e % 2) (omega arith) hi in
     let R' : RootOf (M * 2 ^ suc (prec f)) r q = rw E at R in
     let fine : prec f + t < low f + emax f = omega arith in
     let a = root-pattern f M t (m * 2 ^ j) r q R' (le-trans lo (d .0)) (d .1) (in-fours f m j z Z) fine in
-    let b = half-small f M t (m * 2 ^ j) r q R' (le-trans lo (d .0)) (d .1) (in-fours f m j z Z) fine in
-    let i : prec f ≡ suc (prec f - 1) = omega arith in
-    let c : 2 ^ prec f ≡ hid f * 2 = ap (λ (x : ℕ). 2 ^ x) i ∙ pow-suc 2 (prec f - 1) in
-    let n : t + 3 < ones f = omega arith in
+    let b = pattern-lt f M t (m * 2 ^ j) r q R' (le-trans lo (d .0)) (d .1) (in-fours f m j z Z) fine in
     record {
-      small = pattern-small t ((r + 1) / 2) (hid f) (ones f) n (pow-pos (prec f - 1)) (le-trans b (le-of-eq c));
+      small = rw (add-one t) b;
       is = ap (λ (x : ℕ). ofBits f (x * hid f + (r + 1) / 2)) (add-one t) ∙ a;
     }
 

@@ -4,12 +4,12 @@ use mathlib.Core.Path.{_≡_, refl, sym, ap, _∙_, subst}
 use mathlib.Core.Bool.{Bool, true, false, cond}
 use mathlib.Core.Logic.{_⊎_, inl, inr, ⊎-elim}
 use Prim.Native.Nat.{ℕ, zero, suc, _+_, _-_, _*_, _/_, _^_, _≤_, _<_}
-use native.Mathlib.Nat.{le-refl, mul-le-mul, le-trans, lt-of-le-of-lt, le-of-suc-le-suc, lt-irrefl, eq-or-lt-of-le, mul-pos, mul-le-mul-right, le-antisymm, le-of-mul-le-mul-right, zero-mul, zero-div, zero-lt-suc}
+use native.Mathlib.Nat.{le-trans, lt-of-le-of-lt, le-of-suc-le-suc, lt-irrefl, eq-or-lt-of-le, mul-pos, mul-le-mul-right, le-antisymm, zero-mul, zero-div, zero-lt-suc}
 use native.Mathlib.Omega.{arith}
 use lib.IntN.{ℤ}
 use lib.Dec.{T, eqb, lt→ltb}
 use lib.Pow.{pow-pos}
-use lib.Ieee.{Float, nan, inf, fin, Format, binary32, binary64, prec, low, up, down, size, fits, le}
+use lib.Ieee.{Float, nan, inf, fin, Format, prec, low, up, down, size, fits, le}
 use lib.Ieee.Digits.{size-lt}
 use lib.Ieee.Fits.{up-pos}
 use lib.Ieee.Scale.{finite}
@@ -20,8 +20,9 @@ use Rattle.float_laws.proofs.Value.{mag, pl, mi, Real, units-of, mag-is}
 use Rattle.float_laws.proofs.Operation.{Is, round-Is}
 use Rattle.float_laws.proofs.Exact.{is-le}
 use Rattle.float_laws.proofs.Interval.{In, le→parts}
+use Rattle.float_laws.proofs.UnitVector.{coarser}
 use Rattle.arithmetic.specs.Root.{wholeRoot, rootUnits, rootOf}
-use Rattle.arithmetic.proofs.RootRounded.{WholePart, sq-lt, whole-is}
+use Rattle.arithmetic.proofs.RootRounded.{WholePart, sq-lt, whole-is, sticky, sticky-le}
 pub use Rattle.arithmetic.proofs.RootTests.{root-fits}
 use Rattle.arithmetic.proofs.RootNearest.{root-positive, root-squared, SquareNear}
 
@@ -29,7 +30,7 @@ use Rattle.arithmetic.proofs.RootNearest.{root-positive, root-squared, 
 
 -- twice the whole part of the root of n, and one more where the root is not whole
 abbrev doubled : ℕ → ℕ → ℕ
-doubled n r = 2 * r + cond (eqb (r * r) n) 0 1
+doubled n r = 2 * r + sticky n r
 
 doubled-mono : (n n' r r' : ℕ) → WholePart n r → WholePart n' r' → n ≤ n' → doubled n r ≤ doubled n' r'
 doubled-mono n n' r r' F G h =
@@ -38,12 +39,8 @@ doubled-mono n n' r r' F G h =
     le : r ≤ r'
     le = le-of-suc-le-suc (sq-lt r (suc r') (lt-of-le-of-lt (le-trans (F .at-most) h) (G .above)))
 
-    one : (b : Bool) → cond b 0 1 ≤ 1
-    one true = omega arith
-    one false = omega arith
-
     more : r < r' → doubled n r ≤ doubled n' r'
-    more l = let a = one (eqb (r * r) n) in omega arith
+    more l = let a = sticky-le n r in omega arith
 
     go : (b c : Bool) → (b ≡ false → r * r ≡ n → ⊥) → (c ≡ true → r' * r' ≡ n') → r ≡ r' → 2 * r + cond b 0 1 ≤ 2 * r' + cond c 0 1
     go true c p q e = omega arith
@@ -191,21 +188,6 @@ root-square-near f x r z = ⊎-elim more none (positive-or-zero f x r z)
         let b : pl f (rootOf f x) ≡ 0 = root-Is f x r z .plus (q .1) ∙ ap (λ (y : ℕ). rnd f (halves f y - 0) 2) a ∙ ap (λ (y : ℕ). rnd f (y - 0) 2) (halves-none f) ∙ rnd-zero f 2 (omega arith) in
         subst (λ (y : ℕ). SquareNear (2 ^ prec f) (pl f x * 2 ^ low f) y) (sym b) (subst (λ (y : ℕ). SquareNear (2 ^ prec f) (y * 2 ^ low f) 0) (sym a) (none-near (2 ^ prec f) (2 ^ low f)))
 
-prec-split : (f : Format) → 2 ^ prec f ≡ 2 ^ 20 * 2 ^ (prec f - 20)
-prec-split binary32 = refl
-prec-split binary64 = refl
-
-prec-room : (f : Format) → 3 ≤ 2 ^ (prec f - 20)
-prec-room binary32 = omega arith
-prec-room binary64 = omega arith
-
-coarser : (u v P K : ℕ) → P ≡ 2 ^ 20 * K → 3 ≤ K → u * P ≤ v * (P + 3) → u * 2 ^ 20 ≤ v * (2 ^ 20 + 1)
-coarser u v P K e k h =
-    let a : u * (2 ^ 20 * K) ≤ v * (2 ^ 20 * K + 3) = rw e at h in
-    let b : v * (2 ^ 20 * K + 3) ≤ v * (2 ^ 20 * K + K) = mul-le-mul (le-refl v) (omega arith) in
-    let c : u * 2 ^ 20 * K ≤ v * (2 ^ 20 + 1) * K = omega arith in
-    le-of-mul-le-mul-right c (le-trans (omega arith) k)
-
 -- to one part in 2 ^ 20, at any format
 pub root-square : (f : Format) (x : Float) → Real f x → mi f x ≡ 0
     → (pl f (rootOf f x) * pl f (rootOf f x) * 2 ^ 20 ≤ pl f x * 2 ^ low f * (2 ^ 20 + 1)) × (pl f x * 2 ^ low f * 2 ^ 20 ≤ pl f (rootOf f x) * pl f (rootOf f x) * (2 ^ 20 + 1))
@@ -213,5 +195,4 @@ root-square f x r z =
     let n = root-square-near f x r z in
     let Q = pl f (rootOf f x) in
     let X = pl f x * 2 ^ low f in
-    let K = 2 ^ (prec f - 20) in
-    (coarser (Q * Q) X (2 ^ prec f) K (prec-split f) (prec-room f) (n .above), coarser X (Q * Q) (2 ^ prec f) K (prec-split f) (prec-room f) (n .below))
+    (coarser f (Q * Q) X (n .above), coarser f X (Q * Q) (n .below))

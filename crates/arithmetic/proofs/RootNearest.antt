@@ -13,7 +13,7 @@ use lib.Pow.{pow-add, pow-pos, pow-mono}
 use lib.Ieee.{Float, nan, inf, fin, Format, prec, emax, low, up, down, size, fits, hid, ofBits}
 use lib.Ieee.Bits.{ofBits-toBits}
 use Rattle.float_laws.proofs.Exact.{exponent}
-use Rattle.float_laws.proofs.Pattern.{bits-of}
+use Rattle.float_laws.proofs.Pattern.{bits-of, twice-hid}
 use lib.Ieee.Digits.{size-lt, size-le, size-reaches}
 use lib.Ieee.Fits.{and-l, and-r, two, down-pos}
 use lib.Ieee.Exact.{HasValue}
@@ -121,7 +121,7 @@ module _ (P W c : ℕ) (mult : P * W ≤ c → (w : ℕ) × (c ≡ w * (W * 2)))
       rw (e, half-odd h) (omega arith)
 
   -- below: at most twice r times W, and less where r is even
-  down-odd : (h Q : ℕ) → P ≡ Q * 2 → P ≤ 2 * h + 1 → c < suc h * (W * 2) → suc h * (W * 2) + c ≤ 2 * ((2 * h + 1) * W)
+  down-odd : (h Q : ℕ) → P ≡ Q + Q → P ≤ 2 * h + 1 → c < suc h * (W * 2) → suc h * (W * 2) + c ≤ 2 * ((2 * h + 1) * W)
   down-odd h Q q p l = go (ltb c (P * W)) refl
     where
       go : (b : Bool) → ltb c (P * W) ≡ b → suc h * (W * 2) + c ≤ 2 * ((2 * h + 1) * W)
@@ -143,7 +143,7 @@ module _ (P W c : ℕ) (mult : P * W ≤ c → (w : ℕ) × (c ≡ w * (W * 2)))
       let l' : c < h * (W * 2) = rw (half-even h) at (rw e at l) in
       rw (e, half-even h) (omega arith)
 
-  down-odd-at : (r h Q : ℕ) → P ≡ Q * 2 → P ≤ r → r ≡ 2 * h + 1 → c < (r + 1) / 2 * (W * 2) → (r + 1) / 2 * (W * 2) + c ≤ 2 * (r * W)
+  down-odd-at : (r h Q : ℕ) → P ≡ Q + Q → P ≤ r → r ≡ 2 * h + 1 → c < (r + 1) / 2 * (W * 2) → (r + 1) / 2 * (W * 2) + c ≤ 2 * (r * W)
   down-odd-at r h Q q p e l =
       let l' : c < suc h * (W * 2) = rw (half-odd h) at (rw e at l) in
       rw (e, half-odd h) (down-odd h Q q (rw e at p) l')
@@ -260,9 +260,6 @@ whole-root n =
 odd-is : (r : ℕ) → r ≡ 2 * (r / 2) + 1 → r % 2 ≡ 1
 odd-is r e = omega arith
 
-half-power : (f : Format) → 2 ^ prec f ≡ 2 ^ (prec f - 1) * 2
-half-power f = let t = two f in let e : prec f ≡ suc (prec f - 1) = omega arith in ap (λ (z : ℕ). 2 ^ z) e ∙ pow-suc 2 (prec f - 1)
-
 module _ (f : Format) (a : ℕ) (d : Normal f a) where
   n : ℕ
   n = d .m * 2 ^ suc (prec f)
@@ -296,7 +293,7 @@ module _ (f : Format) (a : ℕ) (d : Normal f a) where
     where
       go : (r ≡ 2 * (r / 2)) ⊎ (r ≡ 2 * (r / 2) + 1) → (b + c) * (b + c) < 4 * (a * 2 ^ low f)
       go (inl e) = below-sq (a * 2 ^ low f) (r * 2 ^ d .t) (b + c) (square-ge f (d .m) (d .t) a r _ R (d .lo) (d .hi) (d .is) (d .fine)) (down-even-at (2 ^ prec f) (2 ^ d .t) c (multiple f c (d .t) k) (pow-pos (d .t)) r (r / 2) e l)
-      go (inr e) = below-sq' (a * 2 ^ low f) (r * 2 ^ d .t) (b + c) (square-gt f (d .m) (d .t) a r _ R (d .lo) (d .hi) (d .is) (d .fine) (odd-is r e)) (down-odd-at (2 ^ prec f) (2 ^ d .t) c (multiple f c (d .t) k) (pow-pos (d .t)) r (r / 2) (2 ^ (prec f - 1)) (half-power f) ge e l)
+      go (inr e) = below-sq' (a * 2 ^ low f) (r * 2 ^ d .t) (b + c) (square-gt f (d .m) (d .t) a r _ R (d .lo) (d .hi) (d .is) (d .fine) (odd-is r e)) (down-odd-at (2 ^ prec f) (2 ^ d .t) c (multiple f c (d .t) k) (pow-pos (d .t)) r (r / 2) (2 ^ (prec f - 1)) (twice-hid f) ge e l)
 
   b-near : SquareNear (2 ^ prec f) (a * 2 ^ low f) b
   unfolding b

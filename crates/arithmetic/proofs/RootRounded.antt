@@ -4,24 +4,25 @@
 use mathlib.Core.Path.{_≡_, refl, sym, ap, _∙_, subst}
 use mathlib.Core.Logic.{_⊎_, inl, inr}
 use mathlib.Core.Bool.{Bool, true, false, cond}
-use Prim.Native.Nat.{ℕ, zero, suc, _+_, _-_, _*_, _/_, _%_, _^_, _≤_, _<_}
-use native.Mathlib.Nat.{le-trans, le-of-eq, lt-of-lt-of-le, lt-of-le-of-lt, lt-of-not-le, not-le-of-lt, le-of-suc-le-suc, mul-le-mul, mul-le-mul-right, mul-pos, mul-lt-mul-of-pos-right, mul-assoc, mul-mod-left, pow-suc, zero-add, zero-mul, div-eq-of-lt-le, div-add-mod', eq-of-mul-eq-mul-right}
+use Prim.Native.Nat.{ℕ, zero, suc, _+_, _-_, _*_, _/_, _%_, _^_, _≤_, _<_, min}
+use native.Mathlib.Nat.{le-trans, le-of-lt, le-of-eq, lt-of-lt-of-le, lt-of-le-of-lt, lt-of-not-le, not-le-of-lt, le-of-suc-le-suc, mul-le-mul, mul-le-mul-right, mul-pos, mul-lt-mul-of-pos-right, mul-assoc, mul-mod-left, pow-suc, zero-add, zero-mul, min-eq-left, div-eq-of-lt-le, div-add-mod', eq-of-mul-eq-mul-right}
 use native.Mathlib.Omega.{arith}
 use native.Mathlib.Numerals.{add-one}
 use lib.Dec.{leb, ltb, eqb}
 use lib.Pow.{pow-add, pow-pos, pow-lt}
-use lib.Ieee.{Format, prec, emax, low, size, units, round, hid, ofBits, Float}
+use lib.Ieee.{Format, prec, emax, low, size, units, round, hid, ones, ofBits, Float}
 use lib.Ieee.Exact.{HasValue, units-val}
 use lib.Arith.{lt-of-le-ne}
 use lib.Ieee.Digits.{size-lt}
 use lib.Ieee.Fits.{two, round-is}
 use lib.Ieee.Nearest.{closest, closest-same}
+use lib.Ieee.Order.{drop}
+use lib.Ieee.Scale.{overflow}
 use borrow.Author.Tests.{leb-true, leb-false, eqb-true, ltb-true, ltb-false}
-use Rattle.float_laws.proofs.Pattern.{dropped, drops, round-pattern}
+use Rattle.float_laws.proofs.Pattern.{twice-hid, drops, below-infinite, round-pattern}
 use Rattle.float_laws.proofs.Nearest.{rounds-down, rounds-up}
 use Rattle.arithmetic.specs.RootSteps.{RootOf}
-use Rattle.arithmetic.specs.Root.{grown, wholeRoot}
-use Rattle.arithmetic.specs.Root.{rootUnits}
+use Rattle.arithmetic.specs.Root.{grown, wholeRoot, rootUnits}
 
 -- ---- squares
 
@@ -85,25 +86,13 @@ closest-is n u q h l = go (leb (q * u) n) refl q refl
         let y : u < n % u * 2 = rw (d .1) (omega arith) in
         sym (rounds-up n u (omega arith) (λ j. omega arith)) ∙ ap (λ (z : ℕ). z + 1) (d .0) ∙ add-one w ∙ i
 
--- the pattern of a rounded fraction, by what is dropped and kept
-pub rounds-to : (f : Format) (num den q k : ℕ) → dropped f (num * 2 ^ low f) den ≡ k → closest (num * 2 ^ low f) (den * 2 ^ k) ≡ q → q * 2 ^ k < 2 ^ (low f + suc (emax f))
-    → ofBits f (k * hid f + q) ≡ round f false num den
-rounds-to f num den q k e c fine =
-    let n = num * 2 ^ low f in
-    let B = 2 ^ (low f + suc (emax f)) in
-    let all : (x : ℕ) → closest n (den * 2 ^ k) ≡ x → x * 2 ^ k < B → ofBits f (0 + k * hid f + x) ≡ round f false num den =
-    subst (λ (z : ℕ). (x : ℕ) → closest n (den * 2 ^ z) ≡ x → x * 2 ^ z < B → ofBits f (0 + z * hid f + x) ≡ round f false num den) e
-    (λ x c'. subst (λ (y : ℕ). y * 2 ^ dropped f n den < B → ofBits f (0 + dropped f n den * hid f + y) ≡ round f false num den) c' (round-pattern f false num den)) in
-    let z : 0 + k * hid f + q ≡ k * hid f + q = ap (λ (y : ℕ). y + q) (zero-add (k * hid f)) in
-    ap (ofBits f) (sym z) ∙ all q c fine
-
 -- ---- the root of a smallest values, by prec + 1 digits of the root of m * 2 ^ (prec + 1): that number, t times four, is a * 2 ^ low
 
-sticky : ℕ → ℕ → ℕ
+-- what is put on twice the whole part r of the root of N: 1 where the root is not r itself
+abbrev pub sticky : ℕ → ℕ → ℕ
 sticky N r = cond (eqb (r * r) N) 0 1
 
-sticky-le : (N r : ℕ) → sticky N r ≤ 1
-unfolding sticky
+pub sticky-le : (N r : ℕ) → sticky N r ≤ 1
 sticky-le N r = go (eqb (r * r) N)
   where
     go : (b : Bool) → cond b 0 1 ≤ 1
@@ -111,7 +100,6 @@ sticky-le N r = go (eqb (r * r) N)
     go false = omega arith
 
 sticky-none : (N r : ℕ) → sticky N r ≡ 0 → r * r ≡ N
-unfolding sticky
 sticky-none N r = go (eqb (r * r) N) refl
   where
     go : (b : Bool) → eqb (r * r) N ≡ b → _≡_ {A = ℕ} (cond b 0 1) 0 → r * r ≡ N
@@ -216,6 +204,9 @@ bound-ge x r P W L h k =
 half-le : (r P : ℕ) → r < P * 2 → (r + 1) / 2 ≤ P
 half-le r P h = omega arith
 
+half-ge : (r P : ℕ) → P + P ≤ r → P ≤ (r + 1) / 2
+half-ge r P h = omega arith
+
 module _ (f : Format) (m t a r q : ℕ) (root : RootOf (m * 2 ^ suc (prec f)) r q) (lo : hid f ≤ m) (hi : m < 2 ^ suc (prec f))
     (e : a * 2 ^ low f ≡ m * 2 ^ suc (prec f) * 2 ^ (2 * t)) (fine : prec f + t < low f + emax f) where
   n : ℕ
@@ -276,7 +267,7 @@ module _ (f : Format) (m t a r q : ℕ) (root : RootOf (m * 2 ^ suc (prec f)) r 
       closest-same (num * 2 ^ low f) (2 * 2 ^ low f * 2 ^ suc t) num (W * 4) (mul-pos (mul-pos (omega arith) (pow-pos (low f))) (pow-pos (suc t))) (mul-pos w (omega arith)) (shift-sum num (2 ^ low f) W (2 ^ suc t) (pow-suc 2 t))
       ∙ closest-is num (W * 4) ((r + 1) / 2) (b .1) (b .0)
 
-  gone : dropped f (num * 2 ^ low f) (2 * 2 ^ low f) ≡ suc t
+  gone : drop (prec f) (num * 2 ^ low f) (2 * 2 ^ low f) ≡ suc t
   unfolding num
   gone =
       let p = prec f in
@@ -291,22 +282,31 @@ module _ (f : Format) (m t a r q : ℕ) (root : RootOf (m * 2 ^ suc (prec f)) r 
       (subst (λ (z : ℕ). num * L < z * (2 * L)) (sym s) (bound-lt num r (2 ^ p) W L l (num-lt n N r R W w F G at) k))
       (inr (subst (λ (z : ℕ). z * (2 * L) ≤ num * L) (sym v) (bound-ge num r (2 ^ p) W L (num-ge n N r R W w F G at) root-ge)))
 
-  pub half-small : (r + 1) / 2 ≤ 2 ^ prec f
+  half-small : (r + 1) / 2 ≤ 2 ^ prec f
   half-small = half-le r (2 ^ prec f) (subst (λ (z : ℕ). suc r ≤ z) (pow-suc 2 (prec f)) root-lt)
 
-  inside : (r + 1) / 2 * 2 ^ suc t < 2 ^ (low f + suc (emax f))
+  half-full : hid f ≤ (r + 1) / 2
+  half-full = half-ge r (hid f) (le-trans (le-of-eq (sym (twice-hid f))) root-ge)
+
+  inside : (r + 1) / 2 * 2 ^ suc t < overflow f
   inside =
       let a : (r + 1) / 2 * 2 ^ suc t ≤ 2 ^ prec f * 2 ^ suc t = mul-le-mul-right (2 ^ suc t) half-small in
       let b : prec f + suc t < low f + suc (emax f) = omega arith in
       lt-of-le-of-lt (le-trans a (le-of-eq (sym (pow-add 2 (prec f) (suc t))))) (pow-lt b)
 
+  -- a root is finite
+  pub pattern-lt : suc t * hid f + (r + 1) / 2 < ones f * hid f
+  pattern-lt = below-infinite f ((r + 1) / 2) (suc t) half-small (inr half-full) inside
+
   pub root-pattern : ofBits f (suc t * hid f + (r + 1) / 2) ≡ rootUnits f a
-  unfolding num R N rootUnits sticky
-  root-pattern = rounds-to f num (2 * 2 ^ low f) ((r + 1) / 2) (suc t) gone kept inside
+  unfolding num R N rootUnits
+  root-pattern =
+      let own : 0 + min (suc t * hid f + (r + 1) / 2) (ones f * hid f) ≡ suc t * hid f + (r + 1) / 2 = zero-add _ ∙ min-eq-left (le-of-lt pattern-lt) in
+      ap (ofBits f) (sym own) ∙ round-pattern f false num (2 * 2 ^ low f) gone kept
 
   -- and its value in smallest values
   pub root-value : HasValue (rootUnits f a) false ((r + 1) / 2 * 2 ^ suc t) (2 ^ low f)
-  unfolding num R N rootUnits sticky
+  unfolding num R N rootUnits
   root-value =
       let x = num * 2 ^ low f in
       let d = 2 * 2 ^ low f in

@@ -3,6 +3,8 @@
 // x is m * 2^j of the smallest f64, 2^-1074. Leading zeros move m's leading digit to bit 52, for a subnormal x too, and one digit more makes the power of two that is
 // left even. The root then has 54 digits, one more than an f64 keeps: the upper 27, worked out one by one, are the root of m itself, and the lower 27 follow as one digit of base 2^27. A last digit of 1 is never a tie:
 // the number under the root is even, so an odd root is not the whole of it and the exact root lies above the half-way point.
+use crate::bits::LEADING64;
+use crate::bits::SIGN64;
 use crate::bits::power;
 ghost use mathlib.Core.Path.{_≡_};
 ghost use mathlib.Core.Logic.{_⊎_};
@@ -10,6 +12,13 @@ ghost use Prim.Native.Nat.{_+_, _-_, _*_, _/_, _%_, _<_, _≤_, _^_};
 ghost use lib.Ieee.{binary64};
 ghost use Rattle.arithmetic.specs.Root.{rootOf, hypotOf};
 ghost use Rattle.arithmetic.specs.RootSteps.{RootOf, RootsTo};
+
+// The base of the lower digits, 2^27; half of it, and twice it.
+const BASE: u64 = 0x800_0000;
+
+const HALF_BASE: u64 = BASE / 2;
+
+const TWICE_BASE: u64 = BASE * 2;
 
 // The digits of a root so far, and what is left of the number under it.
 struct Partial {
@@ -68,15 +77,15 @@ fn lower(s: Partial) -> Partial
     ensures { λ r. ⌜ RootOf ((s .root * s .root + s .rem) * 2 ^ 54) (r .root) (r .rem) ⌝ }
     ensures { λ r. ⌜ r .root ≤ 2 ^ 54 ⌝ }
 {
-    let half = s.rem * 0x400_0000;
+    let half = s.rem * HALF_BASE;
     let q = half / s.root;
     let left = half % s.root;
-    let d = next_digit(left * 0x1000_0000 + 1, q * q);
+    let d = next_digit(left * TWICE_BASE + 1, q * q);
     let low = q - d;
     let rest = left + s.root * d;
     Partial {
-        root: s.root * 0x800_0000 + low,
-        rem: rest * 0x1000_0000 - low * low,
+        root: s.root * BASE + low,
+        rem: rest * TWICE_BASE - low * low,
     }
 }
 
@@ -107,7 +116,7 @@ fn pattern(m: u64, j: u64) -> u64
     // 1020 is 1074 - 54: the places that the 54 digits under the root take
     let e = j + 1020 - z;
     let r = digits(m * power(z) * (1 + e % 2));
-    (e / 2 + 1) * 0x10_0000_0000_0000 + (r.root + 1) / 2
+    (e / 2 + 1) * LEADING64 + (r.root + 1) / 2
 }
 
 // The f64 nearest the exact root; NaN below 0 and of a NaN; a zero and the infinity are their own. 2 gives 0x3ff6a09e667f3bcd, 4 gives 2, -1 gives NaN.
@@ -124,15 +133,15 @@ pub fn root(x: f64) -> f64
         return x;
     }
     let bits = f64::to_bits(x);
-    let field = bits % 0x8000_0000_0000_0000 / 0x10_0000_0000_0000;
-    let frac = bits % 0x10_0000_0000_0000;
+    let field = bits % SIGN64 / LEADING64;
+    let frac = bits % LEADING64;
     if field == 2047 {
         return x;
     }
     if field == 0 {
         return f64::from_bits(pattern(frac, 0));
     }
-    f64::from_bits(pattern(frac + 0x10_0000_0000_0000, field - 1))
+    f64::from_bits(pattern(frac + LEADING64, field - 1))
 }
 
 // The root of a * a + b * b, each operation rounded: 3 and 4 give 5. Unlike the library's hypot the squares may overflow or vanish on the way.

@@ -19,13 +19,10 @@ use Rattle.float_laws.proofs.Value.{sign, mag, pl, mi, Real, mag-is, ma
 use Rattle.float_laws.proofs.Operation.{Is, add-Is, sub-Is, round-has}
 use Rattle.float_laws.proofs.Exact.{fixed}
 use Rattle.float_laws.proofs.Pattern.{bits-of, units-bits}
+pub use Rattle.float_laws.proofs.Pattern.{twice-hid}
 use Rattle.float_laws.proofs.Same.{own-value, same-value, sign-plus}
 
 -- ---- what holds of the two formats
-pub twice-hid : (f : Format) → 2 ^ prec f ≡ hid f + hid f
-twice-hid binary32 = refl
-twice-hid binary64 = refl
-
 room : (f : Format) → prec f < suc (emax f)
 room binary32 = omega arith
 room binary64 = omega arith
@@ -332,18 +329,21 @@ reach-minus f x z u h =
 unfoldable pub unit : ℕ
 unit = 2 ^ 1074
 
--- 1.5 * 2 ^ 52, by which the nearest whole number is found for |x| ≤ 2 ^ 50
+-- 1.5 * 2 ^ 52, by which the nearest whole number is found for |x| ≤ 2 ^ 50: as an f64, and as a number
 abbrev pub magic : Float
 magic = ofBits binary64 0x4338_0000_0000_0000
 
-pub magic-whole : Whole binary64 magic 6755399441055744 0
+abbrev pub magic-number : ℕ
+magic-number = 3 * 2 ^ 51
+
+pub magic-whole : Whole binary64 magic magic-number 0
 unfolding ofBits fits pl mi
 magic-whole = record { value = record { finite = tt; fits = tt }; plus = refl; minus = refl }
 
-pub magic-reach : (x : Float) → mag binary64 x ≤ 1125899906842624 * unit → Reach binary64 x 6755399441055744
+pub magic-reach : (x : Float) → mag binary64 x ≤ 2 ^ 50 * unit → Reach binary64 x magic-number
 unfolding unit
-magic-reach x h = reach-of binary64 x 6755399441055744 1125899906842624 h (lit≤ tt) (lit< tt)
+magic-reach x h = reach-of binary64 x magic-number (2 ^ 50) h (lit≤ tt) (lit< tt)
 
 -- (x + 1.5 * 2 ^ 52) - 1.5 * 2 ^ 52 is the whole number nearest to x
-pub nearest-magic : (x : Float) → Real binary64 x → mag binary64 x ≤ 1125899906842624 * unit → Nearest binary64 x magic 6755399441055744
-nearest-magic x r h = nearest-is binary64 x magic 6755399441055744 r magic-whole (magic-reach x h)
+pub nearest-magic : (x : Float) → Real binary64 x → mag binary64 x ≤ 2 ^ 50 * unit → Nearest binary64 x magic magic-number
+nearest-magic x r h = nearest-is binary64 x magic magic-number r magic-whole (magic-reach x h)

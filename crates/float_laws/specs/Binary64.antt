@@ -1,7 +1,7 @@
 -- Document 01, "Values": "Every operation is f64, rounded once". The four operations, and the constants that several definitions name, as a reader writes them.
 use Prim.Native.Nat.{ℕ}
 use mathlib.Core.Bool.{cond}
-use lib.Ieee.{Float, nan, binary64, ofBits, add, sub, mul, div, lt, neg}
+use lib.Ieee.{Float, binary64, ofBits, add, sub, mul, div, lt, neg}
 
 infixl 20 _⊕_
 infixl 20 _⊖_

@@ -12,8 +12,8 @@ use Rattle.float_laws.proofs.Value.{mag, pl, mi, Real, mag-is, mi-le, one-side,
 use Rattle.float_laws.proofs.Interval.{nil, nil-real, nil-pl, nil-mi, finite-between}
 use Rattle.float_laws.proofs.Size.{within-of-le}
 use Rattle.float_laws.proofs.Zero.{sub-zero}
-use Rattle.float_laws.proofs.Whole.{Whole, Nearest, nearest-is, reach-plus, reach-minus, nearest-magic, whole-bits, one-whole, steps-sub, twice-hid, magic, unit, one, is-zero, not-zero}
-use Rattle.trigonometry.specs.Floor.{floorOf, quarterOf}
+use Rattle.float_laws.proofs.Whole.{Whole, Nearest, nearest-is, reach-plus, reach-minus, nearest-magic, whole-bits, one-whole, steps-sub, twice-hid, magic, magic-number, unit, one, is-zero, not-zero}
+use Rattle.trigonometry.specs.Floor.{floorOf, belowReach, quarterOf}
 use Rattle.trigonometry.proofs.FloorLaws.{nearby, stepped, stays, falls, less-one, floor-by, floor-zero, floor-large, floor-other, quarter-whole}
 
 pub yes : {b : Bool} → b ≡ true → T b
@@ -117,43 +117,36 @@ unfolding ofBits fits pl mi
 prec-whole = record { value = record { finite = tt; fits = tt }; plus = refl; minus = refl }
 
 -- ---- `below`: |x| is at most 2 ^ 50
-abbrev limit : Float
-limit = ofBits binary64 0x4310_0000_0000_0000
-
-limit-real : Real binary64 limit
+reach-real : Real binary64 belowReach
 unfolding ofBits fits
-limit-real = record { finite = tt; fits = tt }
+reach-real = record { finite = tt; fits = tt }
 
-limit-pl : pl binary64 limit ≡ 1125899906842624 * unit
+reach-pl : pl binary64 belowReach ≡ 2 ^ 50 * unit
 unfolding ofBits pl unit
-limit-pl = refl
-
-limit-mi : mi binary64 limit ≡ 0
-unfolding ofBits mi
-limit-mi = refl
+reach-pl = refl
 
 -- the low bits of the sum are those of the whole number, since 2 ^ 52 and 1.5 * 2 ^ 52 are multiples of 4
-quarter-stays : (k : ℕ) → (1074 * 4503599627370496 + k) % 4 ≡ (k - 6755399441055744 + (4 - (6755399441055744 - k) % 4)) % 4
+quarter-stays : (k : ℕ) → (1074 * 2 ^ 52 + k) % 4 ≡ (k - magic-number + (4 - (magic-number - k) % 4)) % 4
 quarter-stays k = omega arith
 
-quarter-falls : (k : ℕ) → ((1074 * 4503599627370496 + k) % 4 + 3) % 4 ≡ (k - 6755399441055744 + 0 - (6755399441055744 - k + 1) + (4 - (6755399441055744 - k + 1 - (k - 6755399441055744 + 0)) % 4)) % 4
-quarter-falls k = go (leb k 6755399441055744) (leb→le k 6755399441055744) (nleb→lt k 6755399441055744)
+quarter-falls : (k : ℕ) → ((1074 * 2 ^ 52 + k) % 4 + 3) % 4 ≡ (k - magic-number + 0 - (magic-number - k + 1) + (4 - (magic-number - k + 1 - (k - magic-number + 0)) % 4)) % 4
+quarter-falls k = go (leb k magic-number) (leb→le k magic-number) (nleb→lt k magic-number)
   where
-    down : (k p q : ℕ) → p ≡ 0 → k + q ≡ 6755399441055744 → ((1074 * 4503599627370496 + k) % 4 + 3) % 4 ≡ (p + 0 - (q + 1) + (4 - (q + 1 - (p + 0)) % 4)) % 4
+    down : (k p q : ℕ) → p ≡ 0 → k + q ≡ magic-number → ((1074 * 2 ^ 52 + k) % 4 + 3) % 4 ≡ (p + 0 - (q + 1) + (4 - (q + 1 - (p + 0)) % 4)) % 4
     down k p q a b =
         let c : p + 0 - (q + 1) ≡ 0 = omega arith in
         let d : q + 1 - (p + 0) ≡ q + 1 = omega arith in
         rw (c, d) (omega arith)
 
-    up : (k p q : ℕ) → q ≡ 0 → k ≡ 6755399441055744 + p → 0 < p → ((1074 * 4503599627370496 + k) % 4 + 3) % 4 ≡ (p + 0 - (q + 1) + (4 - (q + 1 - (p + 0)) % 4)) % 4
+    up : (k p q : ℕ) → q ≡ 0 → k ≡ magic-number + p → 0 < p → ((1074 * 2 ^ 52 + k) % 4 + 3) % 4 ≡ (p + 0 - (q + 1) + (4 - (q + 1 - (p + 0)) % 4)) % 4
     up k p q a b h =
         let c : p + 0 - (q + 1) ≡ p - 1 = omega arith in
         let d : q + 1 - (p + 0) ≡ 0 = omega arith in
         rw (c, d) (omega arith)
 
-    go : (b : Bool) → (T b → k ≤ 6755399441055744) → (T (not b) → 6755399441055744 < k) → ((1074 * 4503599627370496 + k) % 4 + 3) % 4 ≡ (k - 6755399441055744 + 0 - (6755399441055744 - k + 1) + (4 - (6755399441055744 - k + 1 - (k - 6755399441055744 + 0)) % 4)) % 4
-    go true h l = let h' = h tt in down k (k - 6755399441055744) (6755399441055744 - k) (omega arith) (omega arith)
-    go false h l = let l' = l tt in up k (k - 6755399441055744) (6755399441055744 - k) (omega arith) (omega arith) (omega arith)
+    go : (b : Bool) → (T b → k ≤ magic-number) → (T (not b) → magic-number < k) → ((1074 * 2 ^ 52 + k) % 4 + 3) % 4 ≡ (k - magic-number + 0 - (magic-number - k + 1) + (4 - (magic-number - k + 1 - (k - magic-number + 0)) % 4)) % 4
+    go true h l = let h' = h tt in down k (k - magic-number) (magic-number - k) (omega arith) (omega arith)
+    go false h l = let l' = l tt in up k (k - magic-number) (magic-number - k) (omega arith) (omega arith) (omega arith)
 
 zero-whole : (f : Format) (x : Float) → Real f x → mag f x ≡ 0 → Whole f x 0 0
 zero-whole f x r z =
@@ -172,12 +165,12 @@ unit-is : unit ≡ 2 ^ low binary64
 unfolding unit
 unit-is = refl
 
-module _ (x : Float) (fit : T (fits binary64 x)) (a : T (le (neg limit) x)) (b : T (le x limit)) where
+module _ (x : Float) (fit : T (fits binary64 x)) (a : T (le (neg belowReach) x)) (b : T (le x belowReach)) where
   real : Real binary64 x
-  real = record { finite = finite-between (neg limit) x limit (neg-real binary64 limit limit-real .finite) (limit-real .finite) a b; fits = fit }
+  real = record { finite = finite-between (neg belowReach) x belowReach (neg-real binary64 belowReach reach-real .finite) (reach-real .finite) a b; fits = fit }
 
-  sum-is : Nearest binary64 x magic 6755399441055744
-  sum-is = nearest-magic x real (le-trans (within-of-le binary64 x limit real limit-real a b .le) (le-of-eq limit-pl))
+  sum-is : Nearest binary64 x magic magic-number
+  sum-is = nearest-magic x real (le-trans (within-of-le binary64 x belowReach real reach-real a b .le) (le-of-eq reach-pl))
 
   pub below-zero : eq x nil ≡ true → (x ≡ floorOf binary64 x) × (0 ≡ quarterOf (floorOf binary64 x))
   below-zero e =
@@ -191,8 +184,8 @@ module _ (x : Float) (fit : T (fits binary64 x)) (a : T (le (neg limit) x)) (b :
       let n = nearby binary64 x magic in
       let i = sum-is in
       let k = i .k in
-      let w = stays binary64 x magic 6755399441055744 real (not-zero binary64 x real (no e)) i (lit≤ tt) (no h) in
-      (w, ap (λ (b : ℕ). b % 4) (i .bits) ∙ quarter-stays k ∙ sym (quarter-whole binary64 n (k - 6755399441055744) (6755399441055744 - k) (i .is)) ∙ ap quarterOf w)
+      let w = stays binary64 x magic magic-number real (not-zero binary64 x real (no e)) i (lit≤ tt) (no h) in
+      (w, ap (λ (b : ℕ). b % 4) (i .bits) ∙ quarter-stays k ∙ sym (quarter-whole binary64 n (k - magic-number) (magic-number - k) (i .is)) ∙ ap quarterOf w)
 
   pub below-falls : eq x nil ≡ false → lt x (nearby binary64 x magic) ≡ true
       → (sub binary64 (nearby binary64 x magic) one ≡ floorOf binary64 x) × ((toBits binary64 (add binary64 x magic) % 4 + 3) % 4 ≡ quarterOf (floorOf binary64 x))
@@ -201,8 +194,8 @@ module _ (x : Float) (fit : T (fits binary64 x)) (a : T (le (neg limit) x)) (b :
       let i = sum-is in
       let k = i .k in
       let s = not-zero binary64 x real (no e) in
-      let w = falls binary64 x magic 6755399441055744 real s i (lit≤ tt) (yes h) in
-      (w, ap (λ (b : ℕ). (b % 4 + 3) % 4) (i .bits) ∙ quarter-falls k ∙ sym (quarter-whole binary64 n _ _ (less-one binary64 x magic 6755399441055744 real s i (lit≤ tt))) ∙ ap quarterOf w)
+      let w = falls binary64 x magic magic-number real s i (lit≤ tt) (yes h) in
+      (w, ap (λ (b : ℕ). (b % 4 + 3) % 4) (i .bits) ∙ quarter-falls k ∙ sym (quarter-whole binary64 n _ _ (less-one binary64 x magic magic-number real s i (lit≤ tt))) ∙ ap quarterOf w)
 
   -- ---- what is taken off, of n and of the sum, is 1 or 0
   abbrev over : Float
@@ -214,23 +207,23 @@ module _ (x : Float) (fit : T (fits binary64 x)) (a : T (le (neg limit) x)) (b :
       let i = sum-is in
       let k = i .k in
       let n = nearby binary64 x magic in
-      let m = le-trans (mi-le binary64 x) (le-trans (within-of-le binary64 x limit real limit-real a b .le) (le-of-eq (limit-pl ∙ ap (λ (u : ℕ). 1125899906842624 * u) unit-is))) in
+      let m = le-trans (mi-le binary64 x) (le-trans (within-of-le binary64 x belowReach real reach-real a b .le) (le-of-eq (reach-pl ∙ ap (λ (u : ℕ). 2 ^ 50 * u) unit-is))) in
       let l = reaches k (2 ^ low binary64) (pl binary64 n) (mi binary64 n) (pl binary64 x) (mi binary64 x) (i .is .plus) (i .is .minus) (lt→units binary64 x n real (i .is .value) (yes h)) m in
       let u = i .most in
       let s = steps-sub binary64 (low binary64) (add binary64 x magic) one k 0 1 0 (i .sum) (one-whole binary64) (le-refl (low binary64)) (omega arith) (omega arith) in
       (subst (λ (v : ℕ). Whole binary64 (sub binary64 (add binary64 x magic) one) (k - 1) v) (let z : 0 + 1 - (k + 0) ≡ 0 = omega arith in z) (subst (λ (v : ℕ). Whole binary64 (sub binary64 (add binary64 x magic) one) v (0 + 1 - (k + 0))) (let z : k + 0 - (0 + 1) ≡ k - 1 = omega arith in z) s), l)
     where
       -- n lies above x, which is not below -2 ^ 50
-      reaches : (k U pn mn px mx : ℕ) → pn ≡ (k - 6755399441055744) * U → mn ≡ (6755399441055744 - k) * U → px + mn < pn + mx → mx ≤ 1125899906842624 * U → 4503599627370496 ≤ k - 1
-      reaches k U pn mn px mx e g l m = go (leb 6755399441055744 k) (leb→le 6755399441055744 k) (nleb→lt 6755399441055744 k)
+      reaches : (k U pn mn px mx : ℕ) → pn ≡ (k - magic-number) * U → mn ≡ (magic-number - k) * U → px + mn < pn + mx → mx ≤ 2 ^ 50 * U → 2 ^ 52 ≤ k - 1
+      reaches k U pn mn px mx e g l m = go (leb magic-number k) (leb→le magic-number k) (nleb→lt magic-number k)
         where
-          go : (b : Bool) → (T b → 6755399441055744 ≤ k) → (T (not b) → k < 6755399441055744) → 4503599627370496 ≤ k - 1
+          go : (b : Bool) → (T b → magic-number ≤ k) → (T (not b) → k < magic-number) → 2 ^ 52 ≤ k - 1
           go true p q = let p' = p tt in omega arith
           go false p q =
               let q' = q tt in
-              let z : k - 6755399441055744 ≡ 0 = omega arith in
+              let z : k - magic-number ≡ 0 = omega arith in
               let none : pn ≡ 0 = e ∙ ap (λ (v : ℕ). v * U) z ∙ zero-mul U in
-              let d = lt-of-mul-lt-mul-right U (let o : (6755399441055744 - k) * U < 1125899906842624 * U = omega arith in o) in
+              let d = lt-of-mul-lt-mul-right U (let o : (magic-number - k) * U < 2 ^ 50 * U = omega arith in o) in
               omega arith
 
   pub less-no-nan : T (not (isNan (sub binary64 (add binary64 x magic) over)))
@@ -257,7 +250,7 @@ module _ (x : Float) (fit : T (fits binary64 x)) (a : T (le (neg limit) x)) (b :
           let k = sum-is .k in
           (s .0, ap (λ (b : ℕ). b % 4) (whole-bits binary64 (sub binary64 y one) (k - 1) (f .0) (f .1) (omega (arith, sum-is .most))) ∙ one-less k (f .1) ∙ ap (λ (b : ℕ). (b % 4 + 3) % 4) (sym (sum-is .bits)) ∙ s .1)
         where
-          one-less : (k : ℕ) → 4503599627370496 ≤ k - 1 → (1074 * 4503599627370496 + (k - 1)) % 4 ≡ ((1074 * 4503599627370496 + k) % 4 + 3) % 4
+          one-less : (k : ℕ) → 2 ^ 52 ≤ k - 1 → (1074 * 2 ^ 52 + (k - 1)) % 4 ≡ ((1074 * 2 ^ 52 + k) % 4 + 3) % 4
           one-less k h = omega arith
       go false h =
           let s = below-stays e h in

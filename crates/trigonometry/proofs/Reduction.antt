@@ -18,6 +18,7 @@ use Rattle.float_laws.proofs.Checker.{good, good-real}
 use Rattle.float_laws.proofs.Whole.{unit}
 use Rattle.float_laws.proofs.Error.{Near, add-near, sub-near, Scaled, mul-const}
 use Rattle.trigonometry.specs.Sine.{sineRange, inRange, I, P, Q, half, turn, turns, rest}
+use Rattle.trigonometry.specs.Floor.{belowReach}
 use Rattle.trigonometry.proofs.FloorLaws.{floor-below}
 
 -- ---- on ℕ. L stands for 1, and E for 2 ^ -36; x is xp - xm; I = 5734161139222659 / 2 ^ 53 and P = 1686629713 / 2 ^ 30
@@ -329,13 +330,10 @@ within-range h w = let g = le-of-within binary64 h sineRange w in is-true (le (n
     is-true false b s t = absurd s
 
 -- ---- t lies within 2 ^ 50, as the floor with its quarter asks
-abbrev pub wholes : Float
-wholes = ofBits binary64 0x4310_0000_0000_0000
-
-wholes-size : 76395 * unit ≤ pl binary64 wholes
+wholes-size : 76395 * unit ≤ pl binary64 belowReach
 unfolding ofBits pl unit
 wholes-size = lit≤ tt
 
-pub turn-whole : (h : Float) → Within binary64 h reach → T (le (neg wholes) (turn h)) × T (le (turn h) wholes)
+pub turn-whole : (h : Float) → Within binary64 h reach → T (le (neg belowReach) (turn h)) × T (le (turn h) belowReach)
 unfolding ofBits fits mi
-turn-whole h w = let t = t-limit h w in le-of-within binary64 (turn h) wholes (record { value = t .0; bound = real wholes tt; plus = refl; le = le-trans (t .1) wholes-size })
+turn-whole h w = let t = t-limit h w in le-of-within binary64 (turn h) belowReach (record { value = t .0; bound = real belowReach tt; plus = refl; le = le-trans (t .1) wholes-size })

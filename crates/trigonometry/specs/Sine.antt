@@ -4,40 +4,31 @@ use mathlib.Core.Bool.{Bool, cond, _&&_}
 use mathlib.Core.List.{List, [], _∷_}
 use lib.Dec.{leb, eqb}
 use lib.IntN.{pos, negsuc}
-use lib.Ieee.{Float, nan, binary64, ofBits, ofInt, neg, add, sub, mul, div, le}
+use lib.Ieee.{Float, nan, binary64, ofInt, neg, le}
+use Rattle.float_laws.specs.Binary64.{_⊕_, _⊖_, _⊗_, _⊘_, f64}
 use Rattle.trigonometry.specs.Floor.{floorOf, quarterOf}
-
-infixl 20 _⊕_
-infixl 20 _⊖_
-infixl 21 _⊗_
-abbrev _⊕_ : Float → Float → Float
-x ⊕ y = add binary64 x y
-
-abbrev _⊖_ : Float → Float → Float
-x ⊖ y = sub binary64 x y
-
-abbrev _⊗_ : Float → Float → Float
-x ⊗ y = mul binary64 x y
 
 -- "NaN beyond ±12,000"
 abbrev pub sineRange : Float
-sineRange = ofBits binary64 0x40c7_7000_0000_0000
+sineRange = f64 0x40c7_7000_0000_0000
 
 -- "I = 3fe45f306dc9c883", "P = 3ff921fb54400000, Q = 3dd0b4611a626331"
 abbrev pub I : Float
-I = ofBits binary64 0x3fe4_5f30_6dc9_c883
+I = f64 0x3fe4_5f30_6dc9_c883
 
 abbrev pub P : Float
-P = ofBits binary64 0x3ff9_21fb_5440_0000
+P = f64 0x3ff9_21fb_5440_0000
 
 abbrev pub Q : Float
-Q = ofBits binary64 0x3dd0_b461_1a62_6331
+Q = f64 0x3dd0_b461_1a62_6331
 
+-- 0.5
 abbrev pub half : Float
-half = ofBits binary64 0x3fe0_0000_0000_0000
+half = f64 0x3fe0_0000_0000_0000
 
+-- 1
 abbrev pub one : Float
-one = ofBits binary64 0x3ff0_0000_0000_0000
+one = f64 0x3ff0_0000_0000_0000
 
 -- h×I + 0.5, what the floor is taken of
 unfoldable pub turn : Float → Float
@@ -49,7 +40,7 @@ turns h = floorOf binary64 (turn h)
 
 -- "r = (h - n×P) - n×Q"
 unfoldable pub rest : Float → Float → Float
-rest h n = h ⊖ n ⊗ P ⊖ n ⊗ Q
+rest h n = (h ⊖ n ⊗ P) ⊖ n ⊗ Q
 
 unfoldable pub factorial : ℕ → ℕ
 factorial zero = 1
@@ -57,7 +48,7 @@ factorial (suc n) = suc n * factorial n
 
 -- "-1/15!..-1/3!", "1/16!..-1/2!", "signs alternating, each the rounded quotient": 1/n!, negative where n mod 4 is 2 or 3
 unfoldable pub quotient : ℕ → Float
-quotient n = div binary64 (ofInt binary64 (cond (leb 2 (n % 4)) (negsuc 0) (pos 1))) (ofInt binary64 (pos (factorial n)))
+quotient n = ofInt binary64 (cond (leb 2 (n % 4)) (negsuc 0) (pos 1)) ⊘ ofInt binary64 (pos (factorial n))
 
 -- "by Horner": the first coefficient, and those that follow it
 unfoldable pub horner : Float → Float → List Float → Float
@@ -103,4 +94,4 @@ cosineOf h =
 
 -- "tan: sin / cos"
 unfoldable pub tanOf : Float → Float
-tanOf h = div binary64 (sineOf h) (cosineOf h)
+tanOf h = sineOf h ⊘ cosineOf h

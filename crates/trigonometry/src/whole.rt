@@ -3,8 +3,18 @@ ghost use mathlib.Core.Path.{_≡_};
 ghost use mathlib.Core.Bool.{cond};
 ghost use Prim.Native.Nat.{_<_};
 ghost use lib.Dec.{T};
-ghost use lib.Ieee.{binary64, ofBits, neg, sub, le, lt};
-ghost use Rattle.trigonometry.specs.Floor.{floorOf, quarterOf};
+ghost use lib.Ieee.{binary64, neg, le, lt};
+ghost use Rattle.float_laws.specs.Binary64.{_⊖_, zero64};
+ghost use Rattle.trigonometry.specs.Floor.{floorOf, belowReach, quarterOf};
+ghost use Rattle.trigonometry.specs.Sine.{one};
+
+// 2^52: from here on every f64 is whole, and to twice that in steps of 1.
+const WHOLE: f64 = 4503599627370496.0;
+
+const TWICE_WHOLE: f64 = 9007199254740992.0;
+
+// Half-way between the two, for an x of either sign.
+const MIDDLE: f64 = 6755399441055744.0;
 
 // The greatest whole number that is at most some x, and that number mod 4.
 pub(crate) struct WholePart {
@@ -14,22 +24,22 @@ pub(crate) struct WholePart {
 
 // What is to be taken off n where it lies above x. A difference and no branch: for every second angle the machine would guess the branch wrong.
 fn excess(x: f64, n: f64) -> f64
-    ensures { λ r. ⌜ r ≡ cond (lt x n) (ofBits binary64 0x3ff0_0000_0000_0000) (ofBits binary64 0) ⌝ }
+    ensures { λ r. ⌜ r ≡ cond (lt x n) one zero64 ⌝ }
 {
     if x < n { 1.0 } else { 0.0 }
 }
 
 // For |x| up to 2^50; the low bits of the sum are the whole number's.
 pub(crate) fn below(x: f64) -> WholePart
-    requires { ⌜ T (le (neg (ofBits binary64 0x4310_0000_0000_0000)) x) × T (le x (ofBits binary64 0x4310_0000_0000_0000)) ⌝ }
+    requires { ⌜ T (le (neg belowReach) x) × T (le x belowReach) ⌝ }
     ensures { λ r. ⌜ (r .n ≡ floorOf binary64 x) × (r .quarter ≡ quarterOf (floorOf binary64 x)) ⌝ }
     ensures small { λ r. ⌜ r .quarter < 4 ⌝ }
 {
     if x == 0.0 {
         return WholePart { n: x, quarter: 0 };
     }
-    let y = x + 6755399441055744.0;
-    let n = y - 6755399441055744.0;
+    let y = x + MIDDLE;
+    let n = y - MIDDLE;
     let over = excess(x, n);
     WholePart {
         n: n - over,
@@ -39,7 +49,7 @@ pub(crate) fn below(x: f64) -> WholePart
 
 // n, or one less where n lies above x.
 fn stepped_down(x: f64, n: f64) -> f64
-    ensures { λ r. ⌜ r ≡ cond (lt x n) (sub binary64 n (ofBits binary64 0x3ff0_0000_0000_0000)) n ⌝ }
+    ensures { λ r. ⌜ r ≡ cond (lt x n) (n ⊖ one) n ⌝ }
 {
     if x < n {
         return n - 1.0;
@@ -55,13 +65,13 @@ pub fn floor(x: f64) -> f64
         return x;
     }
     if 0.0 < x {
-        if x < 4503599627370496.0 {
-            return stepped_down(x, (x + 4503599627370496.0) - 4503599627370496.0);
+        if x < WHOLE {
+            return stepped_down(x, (x + WHOLE) - WHOLE);
         }
         return x;
     }
-    if -4503599627370496.0 < x {
-        return stepped_down(x, (x + 9007199254740992.0) - 9007199254740992.0);
+    if -WHOLE < x {
+        return stepped_down(x, (x + TWICE_WHOLE) - TWICE_WHOLE);
     }
     x
 }

@@ -1,7 +1,5 @@
 -- Each way out is a law of NarrowCases, by the range that the exponent's field lies in.
 use Rattle.arithmetic.proofs.NarrowCases.{case-none, case-low, case-high, case-top}
-use lib.Arith.{lt-of-le-ne}
-use native.Mathlib.Nat.{le-of-suc-le-suc}
 use native.Mathlib.Omega.{arith}
 use borrow.Author.Needs.{needs}
 use Rattle.arithmetic.proofs.narrowing.magnitude.Statement.{statement}
