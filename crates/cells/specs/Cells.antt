@@ -6,7 +6,7 @@ use mathlib.Core.Bool.{cond}
 use mathlib.Core.List.{List}
 use lib.ListN.{getD}
 use lib.Dec.{leb, ltb, eqb}
-use Rattle.schema.specs.Schema.{countOf, placeOf}
+use Rattle.schema.specs.Schema.{anF64, aWhole, kindBy, countOf, placeOf}
 use Rattle.cells.specs.declared.names.Span.{Span}
 use Rattle.cells.specs.declared.values.Cell.{Cell}
 use Rattle.cells.specs.declared.values.Cell.the-variants.{Value, Broken}
@@ -43,12 +43,16 @@ decimalFrom (suc n) text at v =
 unfoldable pub naturalAt : List ℕ → ℕ → Span
 naturalAt text at = cond (eqb (byteAt text at) 48) (span 0 (at + 1)) (decimalFrom 4 text at 0)
 
--- A whole number n is kept as 10,000 + n, which is not negative. "`-` if negative": zero is not, so `-0` is broken, and so is `-` alone; no digit at all is.
+-- A whole number n is kept as wholeBias + n: of "up to 4 digits" the sum is never negative, and it keeps the numbers' order.
+abbrev pub wholeBias : ℕ
+wholeBias = 10000
+
+-- "`-` if negative": zero is not, so `-0` is broken, and so is `-` alone; no digit at all is.
 abbrev pub negative : Span → Cell
-negative n = cond (eqb (n .value) 0) Broken (Value (10000 - n .value) (n .next))
+negative n = cond (eqb (n .value) 0) Broken (Value (wholeBias - n .value) (n .next))
 
 abbrev pub positive : ℕ → Span → Cell
-positive at n = cond (eqb (n .next) at) Broken (Value (10000 + n .value) (n .next))
+positive at n = cond (eqb (n .next) at) Broken (Value (wholeBias + n .value) (n .next))
 
 -- "a whole number is decimal, up to 4 digits, no leading zeros, `-` if negative"
 unfoldable pub wholeAt : List ℕ → ℕ → Cell
@@ -70,6 +74,6 @@ listedBy list w = cond (ltb (placeOf list (w .value)) (countOf list)) (Value (pl
 unfoldable pub listedAt : List ℕ → ℕ → ℕ → Cell
 listedAt text at list = listedBy list (nameAt text at)
 
--- a cell by its column's kind: 0 an f64, 1 a whole number, else one of that list's words
+-- a cell by its column's kind: an f64, a whole number, else one of that list's words
 unfoldable pub cellAt : List ℕ → ℕ → ℕ → Cell
-cellAt text at kind = cond (eqb kind 0) (hexAt text at) (cond (eqb kind 1) (wholeAt text at) (listedAt text at kind))
+cellAt text at kind = cond (eqb kind (kindBy anF64)) (hexAt text at) (cond (eqb kind (kindBy aWhole)) (wholeAt text at) (listedAt text at kind))

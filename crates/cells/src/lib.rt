@@ -9,4 +9,5 @@ pub use bytes::of_bits;
 pub use names::Span;
 pub use names::name_at;
 pub use values::Cell;
+pub use values::WHOLE_BIAS;
 pub use values::cell_at;

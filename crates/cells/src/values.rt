@@ -6,11 +6,16 @@ use crate::names::name_at;
 use crate::sixteen::digits_at;
 use schema::count_of;
 use schema::place_of;
+use schema::tables::NUMBER;
+use schema::tables::WHOLE;
 ghost use mathlib.Core.Path.{_≡_};
 ghost use Prim.Native.Nat.{_<_};
 ghost use Rattle.cells.specs.Cells.{naturalAt, hexAt, wholeAt, listedAt, cellAt};
 
-// A cell as one number: an f64's bit pattern, a whole number and 10,000, or a word's place in its list.
+// A whole number n is kept as this and n. It has up to four digits, so that the sum is never negative and keeps the numbers' order.
+pub const WHOLE_BIAS: u64 = 10000;
+
+// A cell as one number: an f64's bit pattern, a whole number with its bias, or a word's place in its list.
 pub enum Cell {
     // the number, and the place after the cell
     Value(u64, usize),
@@ -70,7 +75,7 @@ fn hex_at(text: &[u8], at: usize) -> Cell
     Cell::Value(value, at + n)
 }
 
-// A whole number, 10,000 added.
+// A whole number, with its bias.
 fn whole_at(text: &[u8], at: usize) -> Cell
     ensures { λ r. ⌜ r ≡ wholeAt (now (text .entry)) at ⌝ }
 {
@@ -79,13 +84,13 @@ fn whole_at(text: &[u8], at: usize) -> Cell
         if n.value == 0 {
             return Cell::Broken;
         }
-        return Cell::Value(10000 - n.value, n.next);
+        return Cell::Value(WHOLE_BIAS - n.value, n.next);
     }
     let n = natural_at(text, at);
     if n.next == at {
         return Cell::Broken;
     }
-    Cell::Value(10000 + n.value, n.next)
+    Cell::Value(WHOLE_BIAS + n.value, n.next)
 }
 
 // A word of a list, as its place there.
@@ -105,10 +110,10 @@ fn listed_at(text: &[u8], at: usize, list: usize) -> Cell
 pub fn cell_at(text: &[u8], at: usize, kind: u8) -> Cell
     ensures { λ r. ⌜ r ≡ cellAt (now (text .entry)) at kind ⌝ }
 {
-    if kind == 0 {
+    if kind == NUMBER {
         return hex_at(text, at);
     }
-    if kind == 1 {
+    if kind == WHOLE {
         return whole_at(text, at);
     }
     listed_at(text, at, kind as usize)

@@ -4,10 +4,19 @@ use lent::part;
 use lent::word;
 use records::GeomRec;
 use records::GeomShape;
+use records::layout::GEOM_BASE;
+use records::layout::GEOM_COUNT_AT;
+use records::layout::GEOM_STRIDE;
+use records::layout::KIND_BASE;
 ghost use mathlib.Core.Path.{_≡_};
 ghost use mathlib.Core.Bool.{true, cond, _&&_};
 ghost use lib.Dec.{eqb};
 ghost use Rattle.records.specs.Roads.{roadOf, geomAt, shapeOf, geomFrom, unusedZero};
+
+// The columns k0 and k1, the sixth and the seventh of a geometry's numbers.
+const K0_BASE: usize = GEOM_BASE + 5;
+
+const K1_BASE: usize = GEOM_BASE + 6;
 
 fn shape_of(kind: usize, k0: f64, k1: f64) -> GeomShape
     ensures { λ r. ⌜ r ≡ shapeOf kind k0 k1 ⌝ }
@@ -38,8 +47,11 @@ fn geom_from(part: &[f64], kind: usize) -> GeomRec
 pub fn geom(words: &[u16], numbers: &[f64], i: usize) -> GeomRec
     ensures { λ r. ⌜ r ≡ geomAt (roadOf (now (words .entry)) (now (numbers .entry))) i ⌝ }
 {
-    if i < word(words, 0) {
-        geom_from(part(numbers, 1 + i * 7, 7), word(words, 7 + i))
+    if i < word(words, GEOM_COUNT_AT) {
+        geom_from(
+            part(numbers, GEOM_BASE + i * GEOM_STRIDE, GEOM_STRIDE),
+            word(words, KIND_BASE + i),
+        )
     } else {
         geom_from(part(numbers, 0, 0), 0)
     }
@@ -49,10 +61,10 @@ pub fn geom(words: &[u16], numbers: &[f64], i: usize) -> GeomRec
 pub fn unused_zero(words: &[u16], numbers: &[f64], i: usize) -> bool
     ensures { λ r. ⌜ r ≡ unusedZero (roadOf (now (words .entry)) (now (numbers .entry))) i ⌝ }
 {
-    if i < word(words, 0) {
-        let kind = word(words, 7 + i);
-        let k0 = number(numbers, 6 + i * 7) == 0.0;
-        let k1 = number(numbers, 7 + i * 7) == 0.0;
+    if i < word(words, GEOM_COUNT_AT) {
+        let kind = word(words, KIND_BASE + i);
+        let k0 = number(numbers, K0_BASE + i * GEOM_STRIDE) == 0.0;
+        let k1 = number(numbers, K1_BASE + i * GEOM_STRIDE) == 0.0;
         unused_of(kind, k0, k1)
     } else {
         true

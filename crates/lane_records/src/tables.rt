@@ -1,9 +1,20 @@
-// The lanes of a section in the lent words and numbers. Where each table stands is said in specs/Layout.antt of crate records, and in
+// The lanes of a section in the lent words and numbers. Where each table stands is said in layout.rt and specs/Layout.antt of crate records, and in
 // docs/MEMORY.md for whoever lends a road. Nothing here trusts the slices: what is not there is empty, NaN or 0.
 use lent::part;
 use lent::word;
 use records::Found;
 use records::HeightDef;
+use records::layout::CUBIC_STRIDE;
+use records::layout::EXTENT_BASE;
+use records::layout::HEIGHT_BASE;
+use records::layout::HEIGHT_STRIDE;
+use records::layout::LANE_STRIDE;
+use records::layout::LANE_WORDS;
+use records::layout::LEFT_WORDS;
+use records::layout::RIGHT_WORDS;
+use records::layout::SECTION_COUNT_AT;
+use records::layout::SECTION_STRIDE;
+use records::layout::SECTION_WORDS;
 ghost use mathlib.Core.Path.{_≡_};
 ghost use Prim.Native.Nat.{ℕ, _+_, _*_, _<_};
 ghost use mathlib.Core.Bool.{cond};
@@ -14,6 +25,11 @@ ghost use Rattle.records.specs.declared.points.Found.the-variants.{At};
 ghost use Rattle.lent.specs.Lists.{span};
 ghost use Rattle.cubics.specs.Cubics.{cubicsOf};
 ghost use Rattle.records.specs.Roads.{roadOf, sectionOf, laneIn, laneBy, heightDefAt, heightsOf, laneOf};
+
+// Where the extents stand, as a lane's own place is counted.
+const FIRST_EXTENT: u32 = EXTENT_BASE as u32;
+
+const EXTENT_STRIDE: u32 = CUBIC_STRIDE as u32;
 
 // Whether a lane has borders in place of widths, and where they stand in the numbers: the first place, and how many.
 pub struct LaneExtent {
@@ -27,13 +43,13 @@ fn lane_line(words: &[u16], section: usize, right: bool, k: usize) -> Found
     ensures { λ r. ⌜ ((numbers : List Float) → laneOf (roadOf (now (words .entry)) numbers) section right k ≡ laneBy (now (words .entry)) numbers r) ⌝ }
     ensures small { λ r. ⌜ ((j : ℕ) → r ≡ At j → j < 196608) ⌝ }
 {
-    if word(words, 5) <= section {
+    if word(words, SECTION_COUNT_AT) <= section {
         return Found::Nothing;
     }
-    let first = word(words, 71 + section * 3);
-    let left = word(words, 72 + section * 3);
+    let first = word(words, SECTION_WORDS + section * SECTION_STRIDE);
+    let left = word(words, LEFT_WORDS + section * SECTION_STRIDE);
     if right {
-        if k < word(words, 73 + section * 3) {
+        if k < word(words, RIGHT_WORDS + section * SECTION_STRIDE) {
             return Found::At(first + left + k);
         }
         return Found::Nothing;
@@ -49,12 +65,12 @@ pub fn side_line(words: &[u16], section: usize, right: bool) -> usize
     ensures { λ r. ⌜ ((numbers : List Float) (k : ℕ) → k < length (cond right (sectionOf (roadOf (now (words .entry)) numbers) section .right) (sectionOf (roadOf (now (words .entry)) numbers) section .left)) → laneOf (roadOf (now (words .entry)) numbers) section right k ≡ laneIn (now (words .entry)) numbers (r + k)) ⌝ }
     ensures small { λ r. ⌜ r < 131072 ⌝ }
 {
-    if word(words, 5) <= section {
+    if word(words, SECTION_COUNT_AT) <= section {
         return 0;
     }
-    let start = word(words, 71 + section * 3);
+    let start = word(words, SECTION_WORDS + section * SECTION_STRIDE);
     if right {
-        start + word(words, 72 + section * 3)
+        start + word(words, LEFT_WORDS + section * SECTION_STRIDE)
     } else {
         start
     }
@@ -65,11 +81,11 @@ pub fn line_extent(words: &[u16], line: u32) -> LaneExtent
     ensures { λ r. ⌜ ((numbers : List Float) → r .border ≡ laneIn (now (words .entry)) numbers line .border) ⌝ }
     ensures { λ r. ⌜ ((numbers : List Float) → cubicsOf (span numbers (r .start) (r .count * 5)) ≡ laneIn (now (words .entry)) numbers line .extents) ⌝ }
 {
-    let at = 119 + line as usize * 6;
+    let at = LANE_WORDS + line as usize * LANE_STRIDE;
     if at + 3 < words.len() {
         LaneExtent {
             border: words[at] == 1,
-            start: 1745 + words[at + 2] as u32 * 5,
+            start: FIRST_EXTENT + words[at + 2] as u32 * EXTENT_STRIDE,
             count: words[at + 3],
         }
     } else {
@@ -86,7 +102,7 @@ pub fn lane_is_border(words: &[u16], numbers: &[f64], section: usize, right: boo
     ensures { λ r. ⌜ r ≡ laneOf (roadOf (now (words .entry)) (now (numbers .entry))) section right k .border ⌝ }
 {
     match lane_line(words, section, right, k) {
-        Found::At(j) => word(words, 119 + j * 6) == 1,
+        Found::At(j) => word(words, LANE_WORDS + j * LANE_STRIDE) == 1,
         Found::Nothing => false,
     }
 }
@@ -95,7 +111,7 @@ pub fn lane_is_level(words: &[u16], numbers: &[f64], section: usize, right: bool
     ensures { λ r. ⌜ r ≡ laneOf (roadOf (now (words .entry)) (now (numbers .entry))) section right k .level ⌝ }
 {
     match lane_line(words, section, right, k) {
-        Found::At(j) => word(words, 119 + j * 6 + 1) == 1,
+        Found::At(j) => word(words, LANE_WORDS + j * LANE_STRIDE + 1) == 1,
         Found::Nothing => false,
     }
 }
@@ -112,11 +128,11 @@ pub fn extents<'a>(
 {
     match lane_line(words, section, right, k) {
         Found::At(j) => {
-            let at = 119 + j * 6;
+            let at = LANE_WORDS + j * LANE_STRIDE;
             part(
                 numbers,
-                1745 + word(words, at + 2) * 5,
-                word(words, at + 3) * 5,
+                EXTENT_BASE + word(words, at + 2) * CUBIC_STRIDE,
+                word(words, at + 3) * CUBIC_STRIDE,
             )
         }
         Found::Nothing => part(numbers, 0, 0),
@@ -135,11 +151,11 @@ pub fn heights<'a>(
 {
     match lane_line(words, section, right, k) {
         Found::At(j) => {
-            let at = 119 + j * 6;
+            let at = LANE_WORDS + j * LANE_STRIDE;
             part(
                 numbers,
-                4305 + word(words, at + 4) * 3,
-                word(words, at + 5) * 3,
+                HEIGHT_BASE + word(words, at + 4) * HEIGHT_STRIDE,
+                word(words, at + 5) * HEIGHT_STRIDE,
             )
         }
         Found::Nothing => part(numbers, 0, 0),
@@ -150,8 +166,8 @@ pub fn heights<'a>(
 pub fn height_def(part: &[f64], i: usize) -> HeightDef
     ensures { λ r. ⌜ r ≡ heightDefAt (heightsOf (now (part .entry))) i ⌝ }
 {
-    if i < part.len() / 3 {
-        let k = i * 3;
+    if i < part.len() / HEIGHT_STRIDE {
+        let k = i * HEIGHT_STRIDE;
         HeightDef {
             s_offset: part[k],
             inner: part[k + 1],

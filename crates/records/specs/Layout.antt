@@ -2,7 +2,10 @@
 -- A table has a first place, a stride (places a line) and a limit (lines). Limits are those of document 01, "The job text".
 use Prim.Native.Nat.{ℕ, _+_, _*_}
 
--- ---- numbers: the road's length at 0, then the tables
+-- ---- numbers: the road's length, then the tables
+
+abbrev pub lengthPlace : ℕ
+lengthPlace = 0
 
 abbrev pub geomBase : ℕ
 geomBase = 1
@@ -51,8 +54,30 @@ cubicStride = 5
 abbrev pub heightStride : ℕ
 heightStride = 3
 
--- ---- words: the counts of geom, elev, bank, offset, tshift, section and profile at 0 to 6, then the tables
+-- ---- words: how many lines seven of the tables have, then the tables
 
+abbrev pub geomCountAt : ℕ
+geomCountAt = 0
+
+abbrev pub elevCountAt : ℕ
+elevCountAt = 1
+
+abbrev pub bankCountAt : ℕ
+bankCountAt = 2
+
+abbrev pub offsetCountAt : ℕ
+offsetCountAt = 3
+
+abbrev pub tshiftCountAt : ℕ
+tshiftCountAt = 4
+
+abbrev pub sectionCountAt : ℕ
+sectionCountAt = 5
+
+abbrev pub profileCountAt : ℕ
+profileCountAt = 6
+
+-- the kind of each geometry
 abbrev pub kindBase : ℕ
 kindBase = 7
 
@@ -87,3 +112,11 @@ stripStride = 11
 -- likewise the words
 abbrev pub wordsNeeded : ℕ
 wordsNeeded = 1347
+
+-- ---- wants: s and t of each, as bit patterns; reading a text fills them beside the road
+
+abbrev pub wantStride : ℕ
+wantStride = 2
+
+abbrev pub wantsNeeded : ℕ
+wantsNeeded = 32

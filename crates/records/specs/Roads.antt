@@ -21,7 +21,7 @@ use Rattle.records.specs.declared.points.Found.the-variants.{At, Nothing
 use Rattle.lent.specs.Lists.{table, span}
 use Rattle.cubics.specs.Cubics.{cubicsOf}
 use Rattle.records.specs.Active.{lastStart, orFirst, reached}
-use Rattle.records.specs.Layout.{geomBase, geomStride, elevBase, bankBase, offsetBase, tshiftBase, sectionBase, extentBase, heightBase, profileBase, shapeBase, cubicBase, cubicStride, heightStride, kindBase, sectionWords, sectionStride, laneWords, laneStride, profileWords, profileStride, stripWords, stripStride}
+use Rattle.records.specs.Layout.{lengthPlace, geomBase, geomStride, elevBase, bankBase, offsetBase, tshiftBase, sectionBase, extentBase, heightBase, profileBase, shapeBase, cubicBase, cubicStride, heightStride, geomCountAt, elevCountAt, bankCountAt, offsetCountAt, tshiftCountAt, sectionCountAt, profileCountAt, kindBase, sectionWords, sectionStride, laneWords, laneStride, profileWords, profileStride, stripWords, stripStride}
 
 -- ---- the road
 
@@ -100,7 +100,7 @@ noHeight = record { «s_offset» = nan; inner = nan; outer = nan }
 
 unfoldable pub heightsOf : List Float → List HeightDef
 unfolding table
-heightsOf xs = table (λ i. heightFrom xs (i * 3)) (length xs / 3)
+heightsOf xs = table (λ i. heightFrom xs (i * heightStride)) (length xs / heightStride)
 
 -- the i-th height of a list, one of NaNs past its end
 abbrev pub heightDefAt : List HeightDef → ℕ → HeightDef
@@ -171,20 +171,20 @@ module _ (words : List ℕ) (numbers : List Float) where
       let k = wordAt (stripWords + i * stripStride) in
       cond (eqb k 0) absent (present (record { relative = eqb k 2; width = columnIn i 0; terms = table (λ j. columnIn i (j + 1)) 4 }))
 
-  -- the road of the two lent lists: words 0 to 6 are the counts, number 0 is the length
+  -- the road of the two lent lists: its length, and as many lines of each table as its count says
   unfoldable pub roadOf : Road
   unfolding table cubicsOf geomIn unusedIn sectionIn profileIn stripIn
   roadOf =
       record {
-        length = numberAt 0;
-        geoms = table geomIn (wordAt 0);
-        unused = table unusedIn (wordAt 0);
-        elevations = cubicsIn elevBase 0 (wordAt 1);
-        superelevations = cubicsIn bankBase 0 (wordAt 2);
-        offsets = cubicsIn offsetBase 0 (wordAt 3);
-        tshifts = cubicsIn tshiftBase 0 (wordAt 4);
-        sections = table sectionIn (wordAt 5);
-        profiles = table profileIn (wordAt 6);
+        length = numberAt lengthPlace;
+        geoms = table geomIn (wordAt geomCountAt);
+        unused = table unusedIn (wordAt geomCountAt);
+        elevations = cubicsIn elevBase 0 (wordAt elevCountAt);
+        superelevations = cubicsIn bankBase 0 (wordAt bankCountAt);
+        offsets = cubicsIn offsetBase 0 (wordAt offsetCountAt);
+        tshifts = cubicsIn tshiftBase 0 (wordAt tshiftCountAt);
+        sections = table sectionIn (wordAt sectionCountAt);
+        profiles = table profileIn (wordAt profileCountAt);
         strips = table stripIn 4;
       }
 

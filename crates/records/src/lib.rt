@@ -1,4 +1,5 @@
 // A road in two lent slices: its layout, the nested lists that it stands for, and its lists of cubics.
+pub mod layout;
 mod points;
 mod road;
 

@@ -1,5 +1,16 @@
-// A road in two lent slices: words has the counts, codes and ranges, numbers the f64 columns. Where each stands is said in
-// specs/Layout.antt for the proofs and in docs/MEMORY.md for whoever lends a road. Nothing here trusts the slices: what is not there is empty, NaN or 0.
+// A road in two lent slices: words has the counts, codes and ranges, numbers the f64 columns. Where each stands is said in layout.rt,
+// for the proofs in specs/Layout.antt, and in docs/MEMORY.md for whoever lends a road. Nothing here trusts the slices: what is not there is empty, NaN or 0.
+use crate::layout::BANK_BASE;
+use crate::layout::BANK_COUNT_AT;
+use crate::layout::CUBIC_STRIDE;
+use crate::layout::ELEV_BASE;
+use crate::layout::ELEV_COUNT_AT;
+use crate::layout::GEOM_COUNT_AT;
+use crate::layout::LENGTH_PLACE;
+use crate::layout::OFFSET_BASE;
+use crate::layout::OFFSET_COUNT_AT;
+use crate::layout::TSHIFT_BASE;
+use crate::layout::TSHIFT_COUNT_AT;
 use lent::number;
 use lent::part;
 use lent::word;
@@ -12,36 +23,52 @@ ghost use Rattle.records.specs.Roads.{roadOf};
 pub fn road_length(words: &[u16], numbers: &[f64]) -> f64
     ensures { λ r. ⌜ r ≡ roadOf (now (words .entry)) (now (numbers .entry)) .length ⌝ }
 {
-    number(numbers, 0)
+    number(numbers, LENGTH_PLACE)
 }
 
 pub fn elevations<'a>(words: &[u16], numbers: &'a [f64]) -> &'a [f64]
     ensures { λ r. ⌜ cubicsOf (now r) ≡ roadOf (now (words .entry)) (now (numbers .entry)) .elevations ⌝ }
 {
-    part(numbers, 449, word(words, 1) * 5)
+    part(
+        numbers,
+        ELEV_BASE,
+        word(words, ELEV_COUNT_AT) * CUBIC_STRIDE,
+    )
 }
 
 pub fn superelevations<'a>(words: &[u16], numbers: &'a [f64]) -> &'a [f64]
     ensures { λ r. ⌜ cubicsOf (now r) ≡ roadOf (now (words .entry)) (now (numbers .entry)) .superelevations ⌝ }
 {
-    part(numbers, 769, word(words, 2) * 5)
+    part(
+        numbers,
+        BANK_BASE,
+        word(words, BANK_COUNT_AT) * CUBIC_STRIDE,
+    )
 }
 
 pub fn offsets<'a>(words: &[u16], numbers: &'a [f64]) -> &'a [f64]
     ensures { λ r. ⌜ cubicsOf (now r) ≡ roadOf (now (words .entry)) (now (numbers .entry)) .offsets ⌝ }
 {
-    part(numbers, 1089, word(words, 3) * 5)
+    part(
+        numbers,
+        OFFSET_BASE,
+        word(words, OFFSET_COUNT_AT) * CUBIC_STRIDE,
+    )
 }
 
 pub fn tshifts<'a>(words: &[u16], numbers: &'a [f64]) -> &'a [f64]
     ensures { λ r. ⌜ cubicsOf (now r) ≡ roadOf (now (words .entry)) (now (numbers .entry)) .tshifts ⌝ }
 {
-    part(numbers, 1409, word(words, 4) * 5)
+    part(
+        numbers,
+        TSHIFT_BASE,
+        word(words, TSHIFT_COUNT_AT) * CUBIC_STRIDE,
+    )
 }
 
 // ---- geometries
 pub fn geom_count(words: &[u16], numbers: &[f64]) -> usize
     ensures { λ r. ⌜ r ≡ length (roadOf (now (words .entry)) (now (numbers .entry)) .geoms) ⌝ }
 {
-    word(words, 0)
+    word(words, GEOM_COUNT_AT)
 }

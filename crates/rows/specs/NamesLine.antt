@@ -17,13 +17,17 @@ use Rattle.rows.specs.declared.names_line.Head.{Head}
 abbrev pub noHead : Head
 noHead = record { good = false; next = 0; order = noOrder }
 
--- A space, then a name: its place among the table's columns, which is their count where it is none of them. Where no space stands, 255, which is no column.
+-- where no name stands: more than any table has columns
+abbrev pub noColumn : ℕ
+noColumn = 255
+
+-- A space, then a name: its place among the table's columns, which is their count where it is none of them. Where no space stands, no column.
 abbrev pub namedBy : ℕ → Span → Named
 namedBy table name = record { column = placeOf table (name .value); next = name .next }
 
 unfoldable pub columnAt : List ℕ → ℕ → ℕ → Named
 columnAt text at table =
-    cond (eqb (byteAt text at) 32) (namedBy table (nameAt text (at + 1))) (record { column = 255; next = at })
+    cond (eqb (byteAt text at) 32) (namedBy table (nameAt text (at + 1))) (record { column = noColumn; next = at })
 
 -- The names of n columns more, the i-th at hand: each is the name of a column that is still due. LF after the last.
 -- `order` has the column of each name so far. As many due names as there are columns leave none missing.

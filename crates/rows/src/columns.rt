@@ -1,21 +1,22 @@
 // A table's columns: which are still to be named, in which order the text has them, and a line's cells by column.
 // Eight places serve every table. Past the eighth a read gives the default, and a write changes nothing.
+use schema::tables::COLUMNS_MOST;
 ghost use mathlib.Core.Path.{_≡_};
 ghost use Rattle.rows.specs.Columns.{noOrder, noCells, allDue, isDue, metIn, columnOf, orderedBy, cellOf};
 
 // The column of each word of a line, in the text's order.
 pub struct Order {
-    pub of: [u8; 8],
+    pub of: [u8; COLUMNS_MOST],
 }
 
 // The cell of each column, in the schema's order, whatever the text's.
 pub struct Cells {
-    pub of: [u64; 8],
+    pub of: [u64; COLUMNS_MOST],
 }
 
 // The columns that are still to be named.
 pub struct Due {
-    pub of: [bool; 8],
+    pub of: [bool; COLUMNS_MOST],
 }
 
 pub(crate) fn no_order() -> Order
@@ -46,7 +47,11 @@ pub(crate) fn all_due(n: usize) -> Due
 pub(crate) fn is_due(due: Due, column: usize) -> bool
     ensures { λ r. ⌜ r ≡ isDue due column ⌝ }
 {
-    if column < 8 { due.of[column] } else { false }
+    if column < COLUMNS_MOST {
+        due.of[column]
+    } else {
+        false
+    }
 }
 
 // The same with a column named.
@@ -54,7 +59,7 @@ pub(crate) fn met(due: Due, column: usize) -> Due
     ensures { λ r. ⌜ r ≡ metIn due column ⌝ }
 {
     let mut r = due;
-    if column < 8 {
+    if column < COLUMNS_MOST {
         r.of[column] = false;
     }
     r
@@ -64,7 +69,7 @@ pub(crate) fn met(due: Due, column: usize) -> Due
 pub(crate) fn column_of(order: Order, i: usize) -> u8
     ensures { λ r. ⌜ r ≡ columnOf order i ⌝ }
 {
-    if i < 8 { order.of[i] } else { 0 }
+    if i < COLUMNS_MOST { order.of[i] } else { 0 }
 }
 
 // The same with word i at a column.
@@ -72,7 +77,7 @@ pub(crate) fn ordered(order: Order, i: usize, column: u8) -> Order
     ensures { λ r. ⌜ r ≡ orderedBy order i column ⌝ }
 {
     let mut r = order;
-    if i < 8 {
+    if i < COLUMNS_MOST {
         r.of[i] = column;
     }
     r
@@ -82,5 +87,9 @@ pub(crate) fn ordered(order: Order, i: usize, column: u8) -> Order
 pub fn cell_of(cells: Cells, column: usize) -> u64
     ensures { λ r. ⌜ r ≡ cellOf cells column ⌝ }
 {
-    if column < 8 { cells.of[column] } else { 0 }
+    if column < COLUMNS_MOST {
+        cells.of[column]
+    } else {
+        0
+    }
 }

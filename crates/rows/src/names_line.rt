@@ -9,6 +9,8 @@ use crate::columns::met;
 use crate::columns::no_order;
 use crate::columns::ordered;
 
+const NO_COLUMN: usize = 255;
+
 // A column that was named, and the place after its name.
 pub struct Named {
     pub column: usize,
@@ -33,13 +35,13 @@ fn no_head() -> Head
     }
 }
 
-// A space, then a name: the column of that name. A name that is no column's gives their count, and no space 255; neither is ever due.
+// A space, then a name: the column of that name. A name that is no column's gives their count, and no space no column; neither is ever due.
 fn column_at(text: &[u8], at: usize, table: usize) -> Named
     ensures { λ r. ⌜ (r ≡ columnAt (now (text .entry)) at table) × (r .column < 256) ⌝ }
 {
     if cells::byte_at(text, at) != 32 {
         return Named {
-            column: 255,
+            column: NO_COLUMN,
             next: at,
         };
     }

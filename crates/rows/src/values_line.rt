@@ -7,6 +7,7 @@ use crate::columns::Order;
 use crate::columns::column_of;
 use crate::columns::no_cells;
 use cells::Cell;
+use schema::tables::COLUMNS_MOST;
 
 // Whether a line of values is right, the place after it, and its cells by column.
 pub struct Row {
@@ -52,7 +53,7 @@ pub fn row_at(text: &[u8], at: usize, table: usize, order: Order) -> Row
             return no_row();
         }
         // in place: a function of all cells would copy them for each one
-        if column < 8 {
+        if column < COLUMNS_MOST {
             values.of[column] = v;
         }
         p = q + 1;

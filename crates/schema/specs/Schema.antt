@@ -8,10 +8,20 @@ use mathlib.Core.Bool.{cond}
 use mathlib.Core.List.{List, [], _∷_, _++_, map}
 use lib.ListN.{length, getD}
 use lib.Dec.{eqb, ltb}
+use Rattle.schema.specs.Tables.{tableCount, columnsMost}
 
--- what a column holds: 0 an f64, 1 a whole number, else the number of its list of words
+-- What a column holds: an f64, a whole number, or one of a list's words: a geometry's kind; an extent's; the words 0 and 1; a side; a term.
+pub data Holds : Type 0 where
+  anF64 : Holds
+  aWhole : Holds
+  aShapeKind : Holds
+  anExtentKind : Holds
+  aBit : Holds
+  aSide : Holds
+  aTerm : Holds
+
 pub record Column : Type 0 where
-  pub kind : ℕ
+  pub holds : Holds
   pub title : String
 
 -- a table: its name, its limit of lines, its columns
@@ -22,10 +32,10 @@ pub record Table : Type 0 where
 
 -- a column of f64, and one of whole numbers
 abbrev pub number : String → Column
-number s = record { kind = 0; title = s }
+number s = record { holds = anF64; title = s }
 
 abbrev pub whole : String → Column
-whole s = record { kind = 1; title = s }
+whole s = record { holds = aWhole; title = s }
 
 -- "A word outside a column's listed ones is 1": these are the listed ones. level, place and relative are the words 0 and 1, term is width or 0..3.
 abbrev pub keywords : List (List String)
@@ -39,19 +49,19 @@ keywords =
 
 -- a column of the words of each of these lists
 abbrev pub shapeKind : String → Column
-shapeKind s = record { kind = 15; title = s }
+shapeKind s = record { holds = aShapeKind; title = s }
 
 abbrev pub extentKind : String → Column
-extentKind s = record { kind = 16; title = s }
+extentKind s = record { holds = anExtentKind; title = s }
 
 abbrev pub bit : String → Column
-bit s = record { kind = 17; title = s }
+bit s = record { holds = aBit; title = s }
 
 abbrev pub side : String → Column
-side s = record { kind = 18; title = s }
+side s = record { holds = aSide; title = s }
 
 abbrev pub term : String → Column
-term s = record { kind = 19; title = s }
+term s = record { holds = aTerm; title = s }
 
 abbrev pub abcd : List Column
 abcd = number "a" ∷ number "b" ∷ number "c" ∷ number "d" ∷ []
@@ -102,7 +112,7 @@ limits = map (λ (t : Table). t .limit) tables
 unfoldable pub limitOf : ℕ → ℕ
 limitOf table = getD limits table 0
 
--- the lists of words by number: 0 to 14 the columns of that table, 15 to 19 the keywords
+-- the lists of words by number: first each table's columns, by the table's number, then the keywords
 abbrev pub lists : List (List String)
 lists = map (λ (t : Table). map (λ (c : Column). c .title) (t .columns)) tables ++ keywords
 
@@ -134,17 +144,27 @@ firstOf list = getD firsts list 0
 unfoldable pub countOf : ℕ → ℕ
 countOf list = getD counts list 0
 
+-- what a column holds, as one number: 0 an f64, 1 a whole number, else the number of its list of words, the keywords' lists being those after the tables'
+abbrev pub kindBy : Holds → ℕ
+kindBy anF64 = 0
+kindBy aWhole = 1
+kindBy aShapeKind = tableCount
+kindBy anExtentKind = tableCount + 1
+kindBy aBit = tableCount + 2
+kindBy aSide = tableCount + 3
+kindBy aTerm = tableCount + 4
+
 -- the kinds of each table's columns, eight places to a table
 abbrev pub eight : List ℕ → List ℕ
 eight xs =
     getD xs 0 0 ∷ getD xs 1 0 ∷ getD xs 2 0 ∷ getD xs 3 0 ∷ getD xs 4 0 ∷ getD xs 5 0 ∷ getD xs 6 0 ∷ getD xs 7 0 ∷ []
 
 unfoldable pub kinds : List (List ℕ)
-kinds = map (λ (t : Table). eight (map (λ (c : Column). c .kind) (t .columns))) tables
+kinds = map (λ (t : Table). eight (map (λ (c : Column). kindBy (c .holds)) (t .columns))) tables
 
 -- what a column of a table holds
 unfoldable pub kindOf : ℕ → ℕ → ℕ
-kindOf table column = cond (ltb column 8) (getD (getD kinds table []) column 0) 0
+kindOf table column = cond (ltb column columnsMost) (getD (getD kinds table []) column 0) 0
 
 -- the place of a word among n words from a place on, counted from i; n + i where it is not there
 unfoldable pub seek : ℕ → ℕ → ℕ → ℕ → ℕ

@@ -1,5 +1,6 @@
-// The tables of the job text as data: names, columns, kinds and limits.
+// The tables of the job text as data: names, columns, kinds and limits; the tables' numbers.
 mod schema;
+pub mod tables;
 
 pub use schema::count_of;
 pub use schema::kind_of;

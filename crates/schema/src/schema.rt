@@ -1,11 +1,26 @@
 // The schema of the job text, as data. A word of at most eight bytes is one number, its bytes base 256, so two words compare as numbers.
-// A list of words has a number: 0 to 14 the columns of that table, 15 to 19 the words of a keyword column.
+use crate::tables::BITS;
+use crate::tables::COLUMNS_MOST;
+use crate::tables::CUBIC_TABLE;
+use crate::tables::EXTENT_KINDS;
+use crate::tables::EXTENT_TABLE;
+use crate::tables::GEOM_TABLE;
+use crate::tables::HEIGHT_TABLE;
+use crate::tables::LANE_TABLE;
+use crate::tables::LIST_COUNT;
+use crate::tables::SHAPE_KINDS;
+use crate::tables::SHAPE_TABLE;
+use crate::tables::SIDES;
+use crate::tables::STRIP_TABLE;
+use crate::tables::TABLE_COUNT;
+use crate::tables::TERMS;
+use crate::tables::WHOLE;
 ghost use mathlib.Core.Path.{_≡_};
 ghost use Prim.Native.Nat.{_<_};
 ghost use Rattle.schema.specs.Schema.{firstOf, countOf, kindOf, wordOf, placeOf, nameOf, limitOf};
 
 // The tables' names, in their order.
-const NAMES: [u64; 15] = [
+const NAMES: [u64; TABLE_COUNT] = [
     0x726f6164, // road
     0x67656f6d, // geom
     0x656c6576, // elev
@@ -24,7 +39,7 @@ const NAMES: [u64; 15] = [
 ];
 
 // The most lines of each table.
-const LIMITS: [u16; 15] = [
+const LINES: [u16; TABLE_COUNT] = [
     1, // road
     64, // geom
     64, // elev
@@ -42,8 +57,15 @@ const LIMITS: [u16; 15] = [
     16, // want
 ];
 
+// How many words the tables' columns have, and the keyword columns.
+const COLUMN_WORDS: usize = 66;
+
+const KEYWORD_WORDS: usize = 14;
+
+const ALL_WORDS: usize = COLUMN_WORDS + KEYWORD_WORDS;
+
 // The words of all lists, one list after another: first each table's columns.
-const COLUMNS: [u64; 66] = [
+const COLUMNS: [u64; COLUMN_WORDS] = [
     // road
     0x6c656e677468, // length
     // geom
@@ -128,7 +150,7 @@ const COLUMNS: [u64; 66] = [
 ];
 
 // Then the words of each keyword column. They are sought cell by cell, and a constant is made anew where it is read, so the short one is kept apart.
-const KEYWORDS: [u64; 14] = [
+const KEYWORDS: [u64; KEYWORD_WORDS] = [
     // kind
     0x6c696e65, // line
     0x617263, // arc
@@ -151,7 +173,7 @@ const KEYWORDS: [u64; 14] = [
 ];
 
 // Where each list starts among the words, and how many words it has.
-const FIRSTS: [u8; 20] = [
+const FIRSTS: [u8; LIST_COUNT] = [
     0, // road
     1, // geom
     9, // elev
@@ -174,7 +196,7 @@ const FIRSTS: [u8; 20] = [
     75, // term
 ];
 
-const COUNTS: [u8; 20] = [
+const COUNTS: [u8; LIST_COUNT] = [
     1, // road
     8, // geom
     5, // elev
@@ -197,75 +219,79 @@ const COUNTS: [u8; 20] = [
     5, // term
 ];
 
-// What each column of a table holds: 0 an f64, 1 a whole number, else the list of its words. The other tables hold f64 alone.
+// What each column of a table holds: 0 an f64, else as tables.rt numbers it. The other tables hold f64 alone.
 // Each table has a constant of its own, again a short one.
-const GEOM: [u8; 8] = [0, 0, 0, 0, 0, 15, 0, 0];
+const GEOM: [u8; COLUMNS_MOST] = [0, 0, 0, 0, 0, SHAPE_KINDS, 0, 0];
 
-const LANE: [u8; 8] = [1, 1, 16, 17, 0, 0, 0, 0];
+const LANE: [u8; COLUMNS_MOST] = [WHOLE, WHOLE, EXTENT_KINDS, BITS, 0, 0, 0, 0];
 
-const EXTENT: [u8; 8] = [1, 1, 0, 0, 0, 0, 0, 0];
+const EXTENT: [u8; COLUMNS_MOST] = [WHOLE, WHOLE, 0, 0, 0, 0, 0, 0];
 
-const HEIGHT: [u8; 8] = [1, 1, 0, 0, 0, 0, 0, 0];
+const HEIGHT: [u8; COLUMNS_MOST] = [WHOLE, WHOLE, 0, 0, 0, 0, 0, 0];
 
-const SHAPE: [u8; 8] = [1, 0, 0, 0, 0, 0, 0, 0];
+const SHAPE: [u8; COLUMNS_MOST] = [WHOLE, 0, 0, 0, 0, 0, 0, 0];
 
-const STRIP: [u8; 8] = [18, 17, 17, 0, 0, 0, 0, 0];
+const STRIP: [u8; COLUMNS_MOST] = [SIDES, BITS, BITS, 0, 0, 0, 0, 0];
 
-const CUBIC: [u8; 8] = [18, 17, 19, 0, 0, 0, 0, 0];
+const CUBIC: [u8; COLUMNS_MOST] = [SIDES, BITS, TERMS, 0, 0, 0, 0, 0];
 
 // The name of a table as a number; 0, which no word is, past the last table.
 pub fn table_name(table: usize) -> u64
     ensures { λ r. ⌜ r ≡ nameOf table ⌝ }
 {
-    if table < 15 { NAMES[table] } else { 0 }
+    if table < TABLE_COUNT { NAMES[table] } else { 0 }
 }
 
 // The most lines of a table, 0 past the last table.
 pub fn limit_of(table: usize) -> u16
     ensures { λ r. ⌜ r ≡ limitOf table ⌝ }
 {
-    if table < 15 { LIMITS[table] } else { 0 }
+    if table < TABLE_COUNT { LINES[table] } else { 0 }
 }
 
 // Word i of all lists, 0 past the last.
 fn word_of(i: usize) -> u64
     ensures { λ r. ⌜ r ≡ wordOf i ⌝ }
 {
-    if i < 66 {
+    if i < COLUMN_WORDS {
         return COLUMNS[i];
     }
-    if i < 80 { KEYWORDS[i - 66] } else { 0 }
+    if i < ALL_WORDS {
+        KEYWORDS[i - COLUMN_WORDS]
+    } else {
+        0
+    }
 }
 
 // Where a list of words starts.
 fn first_of(list: usize) -> u8
     ensures { λ r. ⌜ r ≡ firstOf list ⌝ }
 {
-    if list < 20 { FIRSTS[list] } else { 0 }
+    if list < LIST_COUNT { FIRSTS[list] } else { 0 }
 }
 
 // How many words a list has: for a table's number, how many columns. 0 past the last list.
 pub fn count_of(list: usize) -> u8
     ensures { λ r. ⌜ r ≡ countOf list ⌝ }
 {
-    if list < 20 { COUNTS[list] } else { 0 }
+    if list < LIST_COUNT { COUNTS[list] } else { 0 }
 }
 
 // What a column of a table holds: 0 an f64, 1 a whole number, else the list of its words.
 pub fn kind_of(table: usize, column: usize) -> u8
     ensures { λ r. ⌜ r ≡ kindOf table column ⌝ }
 {
-    if 8 <= column {
+    if COLUMNS_MOST <= column {
         return 0;
     }
     match table {
-        1 => GEOM[column],
-        7 => LANE[column],
-        8 => EXTENT[column],
-        9 => HEIGHT[column],
-        11 => SHAPE[column],
-        12 => STRIP[column],
-        13 => CUBIC[column],
+        GEOM_TABLE => GEOM[column],
+        LANE_TABLE => LANE[column],
+        EXTENT_TABLE => EXTENT[column],
+        HEIGHT_TABLE => HEIGHT[column],
+        SHAPE_TABLE => SHAPE[column],
+        STRIP_TABLE => STRIP[column],
+        CUBIC_TABLE => CUBIC[column],
         _ => 0,
     }
 }

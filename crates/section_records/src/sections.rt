@@ -1,6 +1,11 @@
 // The sections of a road: starts, and lanes on either side.
 use lent::number;
 use lent::word;
+use records::layout::LEFT_WORDS;
+use records::layout::RIGHT_WORDS;
+use records::layout::SECTION_BASE;
+use records::layout::SECTION_COUNT_AT;
+use records::layout::SECTION_STRIDE;
 ghost use mathlib.Core.Path.{_≡_};
 ghost use lib.ListN.{length};
 ghost use Rattle.records.specs.Roads.{roadOf, sectionOf};
@@ -9,15 +14,15 @@ ghost use Rattle.records.specs.Roads.{roadOf, sectionOf};
 pub fn section_count(words: &[u16], numbers: &[f64]) -> usize
     ensures { λ r. ⌜ r ≡ length (roadOf (now (words .entry)) (now (numbers .entry)) .sections) ⌝ }
 {
-    word(words, 5)
+    word(words, SECTION_COUNT_AT)
 }
 
 // Where the i-th section starts, NaN where there is none.
 pub fn section_start(words: &[u16], numbers: &[f64], i: usize) -> f64
     ensures { λ r. ⌜ r ≡ sectionOf (roadOf (now (words .entry)) (now (numbers .entry))) i .start ⌝ }
 {
-    if i < word(words, 5) {
-        number(numbers, 1729 + i)
+    if i < word(words, SECTION_COUNT_AT) {
+        number(numbers, SECTION_BASE + i)
     } else {
         0.0 / 0.0
     }
@@ -26,8 +31,8 @@ pub fn section_start(words: &[u16], numbers: &[f64], i: usize) -> f64
 pub fn left_count(words: &[u16], numbers: &[f64], section: usize) -> usize
     ensures { λ r. ⌜ r ≡ length (sectionOf (roadOf (now (words .entry)) (now (numbers .entry))) section .left) ⌝ }
 {
-    if section < word(words, 5) {
-        word(words, 72 + section * 3)
+    if section < word(words, SECTION_COUNT_AT) {
+        word(words, LEFT_WORDS + section * SECTION_STRIDE)
     } else {
         0
     }
@@ -36,8 +41,8 @@ pub fn left_count(words: &[u16], numbers: &[f64], section: usize) -> usize
 pub fn right_count(words: &[u16], numbers: &[f64], section: usize) -> usize
     ensures { λ r. ⌜ r ≡ length (sectionOf (roadOf (now (words .entry)) (now (numbers .entry))) section .right) ⌝ }
 {
-    if section < word(words, 5) {
-        word(words, 73 + section * 3)
+    if section < word(words, SECTION_COUNT_AT) {
+        word(words, RIGHT_WORDS + section * SECTION_STRIDE)
     } else {
         0
     }

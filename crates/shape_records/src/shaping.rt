@@ -3,6 +3,15 @@ use lent::number;
 use lent::part;
 use lent::word;
 use records::StripKind;
+use records::layout::CUBIC_BASE;
+use records::layout::CUBIC_STRIDE;
+use records::layout::PROFILE_BASE;
+use records::layout::PROFILE_COUNT_AT;
+use records::layout::PROFILE_STRIDE;
+use records::layout::PROFILE_WORDS;
+use records::layout::SHAPE_BASE;
+use records::layout::STRIP_STRIDE;
+use records::layout::STRIP_WORDS;
 ghost use mathlib.Core.Path.{_≡_};
 ghost use mathlib.Core.Bool.{cond};
 ghost use lib.ListN.{length};
@@ -15,15 +24,15 @@ ghost use Rattle.records.specs.Roads.{roadOf, profileAt, stripAt, kindOf, colum
 pub fn profile_count(words: &[u16], numbers: &[f64]) -> usize
     ensures { λ r. ⌜ r ≡ length (roadOf (now (words .entry)) (now (numbers .entry)) .profiles) ⌝ }
 {
-    word(words, 6)
+    word(words, PROFILE_COUNT_AT)
 }
 
 // Where the i-th profile stands, NaN where there is none.
 pub fn profile_start(words: &[u16], numbers: &[f64], i: usize) -> f64
     ensures { λ r. ⌜ r ≡ profileAt (roadOf (now (words .entry)) (now (numbers .entry))) i .s ⌝ }
 {
-    if i < word(words, 6) {
-        number(numbers, 5841 + i)
+    if i < word(words, PROFILE_COUNT_AT) {
+        number(numbers, PROFILE_BASE + i)
     } else {
         0.0 / 0.0
     }
@@ -32,9 +41,13 @@ pub fn profile_start(words: &[u16], numbers: &[f64], i: usize) -> f64
 pub fn shapes<'a>(words: &[u16], numbers: &'a [f64], i: usize) -> &'a [f64]
     ensures { λ r. ⌜ cubicsOf (now r) ≡ profileAt (roadOf (now (words .entry)) (now (numbers .entry))) i .shapes ⌝ }
 {
-    if i < word(words, 6) {
-        let at = 1271 + i * 2;
-        part(numbers, 5857 + word(words, at) * 5, word(words, at + 1) * 5)
+    if i < word(words, PROFILE_COUNT_AT) {
+        let at = PROFILE_WORDS + i * PROFILE_STRIDE;
+        part(
+            numbers,
+            SHAPE_BASE + word(words, at) * CUBIC_STRIDE,
+            word(words, at + 1) * CUBIC_STRIDE,
+        )
     } else {
         part(numbers, 0, 0)
     }
@@ -55,7 +68,7 @@ pub fn strip(words: &[u16], numbers: &[f64], i: usize) -> StripKind
     ensures { λ r. ⌜ r ≡ kindOf (stripAt (roadOf (now (words .entry)) (now (numbers .entry))) i) ⌝ }
 {
     if i < 4 {
-        kind_of(word(words, 1303 + i * 11))
+        kind_of(word(words, STRIP_WORDS + i * STRIP_STRIDE))
     } else {
         StripKind::Absent
     }
@@ -71,10 +84,14 @@ pub fn strip_column<'a>(words: &[u16], numbers: &'a [f64], i: usize, column: usi
     if 5 <= column {
         return part(numbers, 0, 0);
     }
-    let at = 1303 + i * 11;
+    let at = STRIP_WORDS + i * STRIP_STRIDE;
     if word(words, at) == 0 {
         return part(numbers, 0, 0);
     }
     let k = at + 1 + column * 2;
-    part(numbers, 7137 + word(words, k) * 5, word(words, k + 1) * 5)
+    part(
+        numbers,
+        CUBIC_BASE + word(words, k) * CUBIC_STRIDE,
+        word(words, k + 1) * CUBIC_STRIDE,
+    )
 }

@@ -3,6 +3,13 @@ use crate::scan::found_of;
 use crate::scan::reach;
 use lent::word;
 use records::Found;
+use records::layout::GEOM_BASE;
+use records::layout::GEOM_COUNT_AT;
+use records::layout::GEOM_STRIDE;
+use records::layout::PROFILE_BASE;
+use records::layout::PROFILE_COUNT_AT;
+use records::layout::SECTION_BASE;
+use records::layout::SECTION_COUNT_AT;
 ghost use mathlib.Core.Path.{_≡_};
 ghost use Prim.Native.Nat.{ℕ, _+_, _-_, _*_, _<_, _≤_};
 ghost use lib.ListN.{getD, length};
@@ -14,7 +21,8 @@ ghost use Rattle.records.specs.Roads.{roadOf, profileAt, geomIndex, sectionInde
 pub fn geom_at(words: &[u16], numbers: &[f64], s: f64) -> usize
     ensures { λ r. ⌜ r ≡ geomIndex (roadOf (now (words .entry)) (now (numbers .entry))) s ⌝ }
 {
-    started(numbers, 1, 7, word(words, 0), s + 1e-9)
+    let n = word(words, GEOM_COUNT_AT);
+    started(numbers, GEOM_BASE, GEOM_STRIDE, n, s + 1e-9)
 }
 
 // How many of count places, stride apart from base on, lie below len: all, unless the slice ends before the table does.
@@ -69,12 +77,14 @@ fn started(numbers: &[f64], base: usize, stride: usize, count: usize, limit: f64
 pub fn section_at(words: &[u16], numbers: &[f64], s: f64) -> usize
     ensures { λ r. ⌜ r ≡ sectionIndex (roadOf (now (words .entry)) (now (numbers .entry))) s ⌝ }
 {
-    started(numbers, 1729, 1, word(words, 5), s + 1e-9)
+    let n = word(words, SECTION_COUNT_AT);
+    started(numbers, SECTION_BASE, 1, n, s + 1e-9)
 }
 
 // The last profile that stands at or before s + 1e-9.
 pub fn profile_at(words: &[u16], numbers: &[f64], s: f64) -> Found
     ensures { λ r. ⌜ r ≡ lastStart (λ (i : ℕ). profileAt (roadOf (now (words .entry)) (now (numbers .entry))) i .s) (reached s) (length (roadOf (now (words .entry)) (now (numbers .entry)) .profiles)) ⌝ }
 {
-    found_of(held_reach(numbers, 5841, 1, word(words, 6), s + 1e-9))
+    let n = word(words, PROFILE_COUNT_AT);
+    found_of(held_reach(numbers, PROFILE_BASE, 1, n, s + 1e-9))
 }

@@ -9,7 +9,7 @@ use lib.Dec.{leb, ltb, eqb}
 use lib.Ieee.{Float}
 use Rattle.lent.specs.Lists.{allBelow}
 use Rattle.records.specs.Roads.{wordAt}
-use Rattle.records.specs.Layout.{kindBase, sectionWords, sectionStride, laneWords, laneStride, profileWords, profileStride, stripWords, stripStride, wordsNeeded, numbersNeeded}
+use Rattle.records.specs.Layout.{geomCountAt, elevCountAt, bankCountAt, offsetCountAt, tshiftCountAt, sectionCountAt, profileCountAt, kindBase, sectionWords, sectionStride, laneWords, laneStride, profileWords, profileStride, stripWords, stripStride, wordsNeeded, numbersNeeded}
 
 -- "a range past its slice's end, is 3": least to most lines, inside a table of limit lines
 abbrev pub rangeOk : ℕ → ℕ → ℕ → ℕ → ℕ → Bool
@@ -26,12 +26,12 @@ module _ (words : List ℕ) (numbers : List Float) where
 
   -- "geom: .. (1..64)", "elev, bank, offset, tshift: .. (0..64 each)", "section: start (1..16)", "profile: s (0..16)"
   unfoldable pub countsOk : Bool
-  countsOk = leb 1 (w 0) && leb (w 0) 64 && leb (w 1) 64 && leb (w 2) 64 && leb (w 3) 64 && leb (w 4) 64 && leb 1 (w 5) && leb (w 5) 16 && leb (w 6) 16
+  countsOk = leb 1 (w geomCountAt) && leb (w geomCountAt) 64 && leb (w elevCountAt) 64 && leb (w bankCountAt) 64 && leb (w offsetCountAt) 64 && leb (w tshiftCountAt) 64 && leb 1 (w sectionCountAt) && leb (w sectionCountAt) 16 && leb (w profileCountAt) 16
 
   -- "kind line, arc or spiral"
   unfoldable pub kindsOk : Bool
   unfolding allBelow
-  kindsOk = allBelow (λ i. ltb (w (kindBase + i)) 3) (w 0)
+  kindsOk = allBelow (λ i. ltb (w (kindBase + i)) 3) (w geomCountAt)
 
   -- "extent width or border, level 0 or 1"; "extent: .. (0..16 a lane)", "height: .. (0..8 a lane)", 512 in all of each
   unfoldable pub laneOk : ℕ → Bool
@@ -62,4 +62,4 @@ module _ (words : List ℕ) (numbers : List Float) where
   -- "counts, references or order wrong", but for the order
   unfoldable pub structured : Bool
   unfolding allBelow countsOk kindsOk sectionOk profileOk stripOk
-  structured = slicesOk && countsOk && kindsOk && allBelow sectionOk (w 5) && allBelow profileOk (w 6) && allBelow stripOk 4
+  structured = slicesOk && countsOk && kindsOk && allBelow sectionOk (w sectionCountAt) && allBelow profileOk (w profileCountAt) && allBelow stripOk 4

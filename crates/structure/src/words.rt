@@ -1,9 +1,28 @@
 // Counts, codes and ranges of the lent words. Each count is tested before anything loops over it, so that a broken road is refused at once.
 use lent::word;
+use records::layout::BANK_COUNT_AT;
+use records::layout::ELEV_COUNT_AT;
+use records::layout::GEOM_COUNT_AT;
+use records::layout::KIND_BASE;
+use records::layout::LANE_STRIDE;
+use records::layout::LANE_WORDS;
+use records::layout::NUMBERS_NEEDED;
+use records::layout::OFFSET_COUNT_AT;
+use records::layout::PROFILE_COUNT_AT;
+use records::layout::PROFILE_STRIDE;
+use records::layout::PROFILE_WORDS;
+use records::layout::SECTION_COUNT_AT;
+use records::layout::SECTION_STRIDE;
+use records::layout::SECTION_WORDS;
+use records::layout::STRIP_STRIDE;
+use records::layout::STRIP_WORDS;
+use records::layout::TSHIFT_COUNT_AT;
+use records::layout::WORDS_NEEDED;
 ghost use mathlib.Core.Path.{_≡_};
 ghost use Prim.Native.Nat.{_+_, _<_};
 ghost use lib.ListN.{getD};
 ghost use Rattle.lent.specs.Lists.{allBelow};
+ghost use Rattle.records.specs.Layout.{sectionCountAt, profileCountAt};
 ghost use Rattle.structure.specs.Structure.{rangeOk, countsOk, kindsOk, laneOk, sectionOk, profileOk, columnOk, stripOk, structured};
 
 // A range of least to most lines inside a table of limit lines.
@@ -17,25 +36,25 @@ fn range_ok(least: usize, most: usize, limit: usize, first: usize, count: usize)
 fn counts_ok(words: &[u16], numbers: &[f64]) -> bool
     ensures { λ r. ⌜ r ≡ countsOk (now (words .entry)) (now (numbers .entry)) ⌝ }
 {
-    let geoms = word(words, 0);
-    let sections = word(words, 5);
+    let geoms = word(words, GEOM_COUNT_AT);
+    let sections = word(words, SECTION_COUNT_AT);
     let bounded = (1 <= geoms) & (geoms <= 64);
     let flat = bounded
-        & (word(words, 1) <= 64)
-        & (word(words, 2) <= 64)
-        & (word(words, 3) <= 64)
-        & (word(words, 4) <= 64);
-    flat & (1 <= sections) & (sections <= 16) & (word(words, 6) <= 16)
+        & (word(words, ELEV_COUNT_AT) <= 64)
+        & (word(words, BANK_COUNT_AT) <= 64)
+        & (word(words, OFFSET_COUNT_AT) <= 64)
+        & (word(words, TSHIFT_COUNT_AT) <= 64);
+    flat & (1 <= sections) & (sections <= 16) & (word(words, PROFILE_COUNT_AT) <= 16)
 }
 
 fn kinds_ok(words: &[u16], numbers: &[f64]) -> bool
     ensures { λ r. ⌜ r ≡ kindsOk (now (words .entry)) (now (numbers .entry)) ⌝ }
 {
-    let n = word(words, 0);
+    let n = word(words, GEOM_COUNT_AT);
     let mut ok = true;
     let mut i = 0;
     while i < n {
-        ok = ok & (word(words, 7 + i) < 3);
+        ok = ok & (word(words, KIND_BASE + i) < 3);
         i += 1;
     }
     ok
@@ -46,7 +65,7 @@ fn lane_ok(words: &[u16], numbers: &[f64], j: usize) -> bool
     requires { ⌜ j < 262144 ⌝ }
     ensures { λ r. ⌜ r ≡ laneOk (now (words .entry)) (now (numbers .entry)) j ⌝ }
 {
-    let k = 119 + j * 6;
+    let k = LANE_WORDS + j * LANE_STRIDE;
     let codes = (word(words, k) < 2) & (word(words, k + 1) < 2);
     let extents = range_ok(0, 16, 512, word(words, k + 2), word(words, k + 3));
     let heights = range_ok(0, 8, 512, word(words, k + 4), word(words, k + 5));
@@ -71,7 +90,7 @@ fn section_ok(words: &[u16], numbers: &[f64], i: usize) -> bool
     requires { ⌜ i < 65536 ⌝ }
     ensures { λ r. ⌜ r ≡ sectionOk (now (words .entry)) (now (numbers .entry)) i ⌝ }
 {
-    let k = 71 + i * 3;
+    let k = SECTION_WORDS + i * SECTION_STRIDE;
     let first = word(words, k);
     let left = word(words, k + 1);
     let right = word(words, k + 2);
@@ -83,9 +102,9 @@ fn section_ok(words: &[u16], numbers: &[f64], i: usize) -> bool
 }
 
 fn sections_ok(words: &[u16], numbers: &[f64]) -> bool
-    ensures { λ r. ⌜ r ≡ allBelow (sectionOk (now (words .entry)) (now (numbers .entry))) (getD (now (words .entry)) 5 0) ⌝ }
+    ensures { λ r. ⌜ r ≡ allBelow (sectionOk (now (words .entry)) (now (numbers .entry))) (getD (now (words .entry)) sectionCountAt 0) ⌝ }
 {
-    let n = word(words, 5);
+    let n = word(words, SECTION_COUNT_AT);
     let mut ok = true;
     let mut i = 0;
     while i < n {
@@ -99,14 +118,14 @@ fn profile_ok(words: &[u16], numbers: &[f64], i: usize) -> bool
     requires { ⌜ i < 65536 ⌝ }
     ensures { λ r. ⌜ r ≡ profileOk (now (words .entry)) (now (numbers .entry)) i ⌝ }
 {
-    let k = 1271 + i * 2;
+    let k = PROFILE_WORDS + i * PROFILE_STRIDE;
     range_ok(1, 16, 256, word(words, k), word(words, k + 1))
 }
 
 fn profiles_ok(words: &[u16], numbers: &[f64]) -> bool
-    ensures { λ r. ⌜ r ≡ allBelow (profileOk (now (words .entry)) (now (numbers .entry))) (getD (now (words .entry)) 6 0) ⌝ }
+    ensures { λ r. ⌜ r ≡ allBelow (profileOk (now (words .entry)) (now (numbers .entry))) (getD (now (words .entry)) profileCountAt 0) ⌝ }
 {
-    let n = word(words, 6);
+    let n = word(words, PROFILE_COUNT_AT);
     let mut ok = true;
     let mut i = 0;
     while i < n {
@@ -120,7 +139,7 @@ fn column_ok(words: &[u16], numbers: &[f64], i: usize, column: usize) -> bool
     requires { ⌜ (i < 4) × (column < 5) ⌝ }
     ensures { λ r. ⌜ r ≡ columnOk (now (words .entry)) (now (numbers .entry)) i column ⌝ }
 {
-    let k = 1303 + i * 11 + 1 + column * 2;
+    let k = STRIP_WORDS + i * STRIP_STRIDE + 1 + column * 2;
     range_ok(0, 8, 160, word(words, k), word(words, k + 1))
 }
 
@@ -128,7 +147,7 @@ fn strip_ok(words: &[u16], numbers: &[f64], i: usize) -> bool
     requires { ⌜ i < 4 ⌝ }
     ensures { λ r. ⌜ r ≡ stripOk (now (words .entry)) (now (numbers .entry)) i ⌝ }
 {
-    let code = word(words, 1303 + i * 11);
+    let code = word(words, STRIP_WORDS + i * STRIP_STRIDE);
     let mut ok = true;
     let mut column = 0;
     while column < 5 {
@@ -154,10 +173,10 @@ fn strips_ok(words: &[u16], numbers: &[f64]) -> bool
 pub fn structured(words: &[u16], numbers: &[f64]) -> bool
     ensures { λ r. ⌜ r ≡ structured (now (words .entry)) (now (numbers .entry)) ⌝ }
 {
-    if words.len() < 1347 {
+    if words.len() < WORDS_NEEDED {
         return false;
     }
-    if numbers.len() < 7937 {
+    if numbers.len() < NUMBERS_NEEDED {
         return false;
     }
     if !counts_ok(words, numbers) {
