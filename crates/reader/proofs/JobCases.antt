@@ -13,7 +13,8 @@ use Rattle.refusals.specs.declared.refusals.Refusal.{Refusal}
 use Rattle.admission.specs.Admission.{admissionOf}
 use Rattle.store.specs.Tracks.{startTrack}
 use Rattle.store.specs.declared.tracks.Track.{Track}
-use Rattle.reader.specs.Reading.{Outcome, done, stop, tablesFrom, Agrees, admittedAs, judge, judgedBy, Filled, readingBy, readingOf, zeros, zeroNumbers, answerOf, verdictOf, wordsHeld, numbersHeld, wantsHeld}
+use Rattle.reader.specs.Parts.{Agrees, judgedBy, Filled}
+use Rattle.reader.specs.Reading.{Outcome, done, stop, tablesFrom, admittedAs, judge, readingBy, readingOf, zeros, zeroNumbers, answerOf, verdictOf, wordsHeld, numbersHeld, wantsHeld}
 use Rattle.reader.specs.declared.taking.Taken.{Taken}
 use Rattle.reader.specs.declared.answers.Read.{Read}
 use Rattle.reader.specs.declared.answers.Read.the-variants.{Accepted, Refused}

@@ -20,7 +20,8 @@ use Rattle.store.specs.Layout.{numbersBelow, wantsKept, countKept}
 use Rattle.store.specs.Tracks.{startTrack, unsoundTrack, endedTrack}
 use Rattle.store.specs.Keep.{keptWords, keptTrack}
 use Rattle.store.specs.declared.tracks.Track.{Track}
-use Rattle.reader.specs.Reading.{Outcome, done, stop, linesFrom, tableAt, tablesFrom, countedTrack, Agrees}
+use Rattle.reader.specs.Reading.{Outcome, done, stop, linesFrom, tableAt, tablesFrom, countedTrack}
+use Rattle.reader.specs.Parts.{Agrees}
 use Rattle.reader.specs.declared.taking.Taken.{Taken}
 
 -- what a part took, or its refusal, agrees with an outcome

@@ -1,7 +1,6 @@
 -- Document 01, "What a call gives back" and "The job text": a whole text, read. "Reading checks 1 to 5"; "Row 2's slice and length tests precede all lines;
 -- then a line is tested for 1 before 2. A refused reading leaves zeros in all road slices, an accepted one zeros past the last line". Read `readingOf` first.
-use Prim.Native.Nat.{ℕ, zero, suc, _+_, _<_, _≤_}
-use mathlib.Core.Path.{_≡_}
+use Prim.Native.Nat.{ℕ, zero, suc, _+_}
 use mathlib.Core.Bool.{_&&_, cond}
 use mathlib.Core.List.{List}
 use lib.ListN.{length, replicate}
@@ -9,7 +8,9 @@ use lib.Dec.{eqb, ltb, leb}
 use lib.Ieee.{Float, binary64, ofBits}
 use Rattle.refusals.specs.Answer.{Answer, value, refused}
 use Rattle.refusals.specs.Refusal.{numberOf}
+use Rattle.records.specs.Layout.{wordsNeeded, numbersNeeded, wantsNeeded}
 use Rattle.admission.specs.Admission.{admissionOf}
+use Rattle.schema.specs.Tables.{roadTable, tableCount, columnsMost}
 use Rattle.schema.specs.Schema.{nameOf, limitOf}
 use Rattle.cells.specs.Cells.{byteAt, nameAt}
 use Rattle.rows.specs.NamesLine.{headAt}
@@ -22,15 +23,14 @@ use Rattle.store.specs.Layout.{numbersBelow, wantsKept, countKept}
 use Rattle.store.specs.Tracks.{startTrack, unsoundTrack, endedTrack}
 use Rattle.store.specs.Keep.{keptWords, keptTrack}
 use Rattle.store.specs.declared.tracks.Track.{Track}
-use Rattle.reader.specs.declared.taking.Taken.{Taken}
 use Rattle.reader.specs.declared.answers.Read.{Read}
 use Rattle.reader.specs.declared.answers.Read.the-variants.{Accepted, Refused}
 
 -- What reading comes to: the place after it, how many lines the last table had, what is remembered of references and order, and the words, numbers and
 -- wants then held; or the number of the refusal.
 pub data Outcome : Type 0 where
-  done : ℕ → ℕ → Track → List ℕ → List Float → List ℕ → Outcome
-  stop : ℕ → Outcome
+  done : (at lines : ℕ) (track : Track) (words : List ℕ) (numbers : List Float) (wants : List ℕ) → Outcome
+  stop : (number : ℕ) → Outcome
 
 -- by a line of values: what its cells and the place after it lead to, or a broken form
 abbrev pub byRow : Row → (Cells → ℕ → Outcome) → Outcome
@@ -45,7 +45,7 @@ linesFrom (suc fuel) table order text at k track ws ns vs =
     cond (eqb (byteAt text at) 10) (done (at + 1) k (endedTrack track) (countKept table k ws) ns vs)
     (byRow (rowAt text at table order)
     (λ cells next.
-    linesFrom fuel table order text next (k + 1) (keptTrack table k cells track ws) (keptWords table k cells track ws) (numbersBelow table k cells 8 ns) (wantsKept table k cells vs)))
+    linesFrom fuel table order text next (k + 1) (keptTrack table k cells track ws) (keptWords table k cells track ws) (numbersBelow table k cells columnsMost ns) (wantsKept table k cells vs)))
 
 -- by a line of names: what the order of its columns and the place after it lead to, or a broken form
 abbrev pub byHead : Head → (Order → ℕ → Outcome) → Outcome
@@ -60,7 +60,7 @@ tableAt table text at track ws ns vs =
 
 -- "road: length (1 line)"; "Too few .. is 3": a road without its line, its table missing or empty. The other tables' counts are tested by admission.
 unfoldable pub countedTrack : ℕ → ℕ → Track → Track
-countedTrack table lines track = cond (eqb table 0 && eqb lines 0) (unsoundTrack track) track
+countedTrack table lines track = cond (eqb table roadTable && eqb lines 0) (unsoundTrack track) track
 
 -- by an outcome: what the tables so far lead to, or the refusal
 abbrev pub byOutcome : Outcome → (ℕ → ℕ → Track → List ℕ → List Float → List ℕ → Outcome) → Outcome
@@ -84,11 +84,15 @@ abbrev pub judge : Outcome → Outcome
 judge (done at lines track ws ns vs) = cond (track .sound) (admittedAs (admissionOf ws ns) (done at lines track ws ns vs) stop) (stop 3)
 judge (stop m) = stop m
 
+-- the most bytes of a text
+abbrev pub textMost : ℕ
+textMost = 65536
+
 -- A reading into slices that hold zeros. "Row 2's slice and length tests precede all lines": "a lent road slice is shorter than the limits need, or the text is over 65,536 bytes".
 unfoldable pub readingBy : List ℕ → List ℕ → List Float → List ℕ → Outcome
 readingBy text ws ns vs =
-    cond ((leb 1347 (length ws) && leb 7937 (length ns)) && leb 32 (length vs))
-    (cond (ltb 65536 (length text)) (stop 2) (judge (tablesFrom 15 0 text 0 0 startTrack ws ns vs)))
+    cond ((leb wordsNeeded (length ws) && leb numbersNeeded (length ns)) && leb wantsNeeded (length vs))
+    (cond (ltb textMost (length text)) (stop 2) (judge (tablesFrom tableCount roadTable text 0 0 startTrack ws ns vs)))
     (stop 2)
 
 unfoldable pub zeros : ℕ → List ℕ
@@ -123,19 +127,3 @@ wantsHeld n (stop m) = zeros n
 abbrev pub answerOf : Read → Answer ℕ
 answerOf (Accepted n) = value n
 answerOf (Refused r) = refused (numberOf r)
-
--- What the parts of `read` promise each other. Taken tables agree with an outcome; after a refusal the slices may hold anything: `read` clears them.
-abbrev pub Agrees : Outcome → Taken → List ℕ → List Float → List ℕ → Type 0
-Agrees (done at lines track ws ns vs) r us xs ys = (r ≡ record { number = 0; next = at; lines = lines; track = track }) × (us ≡ ws) × (xs ≡ ns) × (ys ≡ vs)
-Agrees (stop m) r us xs ys = (r .number ≡ m) × (0 < m) × (m ≤ 2)
-
--- the answer after the last line, by its refusal, by references and order, or by admission
-unfoldable pub judgedBy : Taken → List ℕ → List Float → Answer ℕ
-judgedBy taken ws ns =
-    cond (eqb (taken .number) 1) (refused 1)
-    (cond (eqb (taken .number) 0) (cond (taken .track .sound) (admittedAs (admissionOf ws ns) (value (taken .lines)) refused) (refused 3)) (refused 2))
-
--- before the clearing: what was read where it is accepted
-abbrev pub Filled : Outcome → Read → List ℕ → List Float → List ℕ → Type 0
-Filled (done at lines track ws ns vs) r us xs ys = (answerOf r ≡ value lines) × (us ≡ ws) × (xs ≡ ns) × (ys ≡ vs)
-Filled (stop m) r us xs ys = answerOf r ≡ refused m

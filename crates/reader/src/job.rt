@@ -1,13 +1,20 @@
 // A whole job text: rows 1 to 5, in their order.
 ghost use mathlib.Core.Path.{_≡_};
 ghost use lib.ListN.{length};
-ghost use Rattle.reader.specs.Reading.{answerOf, judgedBy, Filled, readingBy, readingOf, verdictOf, wordsHeld, numbersHeld, wantsHeld};
+ghost use Rattle.reader.specs.Reading.{answerOf, readingBy, readingOf, verdictOf, wordsHeld, numbersHeld, wantsHeld};
+ghost use Rattle.reader.specs.Parts.{judgedBy, Filled};
 use crate::answers::Read;
 use crate::clearing::clear;
 use crate::taking::Taken;
 use crate::taking::tables;
 use admission::Verdict;
+use records::layout::NUMBERS_NEEDED;
+use records::layout::WANTS_NEEDED;
+use records::layout::WORDS_NEEDED;
 use refusals::Refusal;
+
+// The most bytes of a text.
+pub const TEXT_MOST: usize = 65536;
 
 // What a text that was taken leads to: its form, then references and order, then the road that was stored.
 fn judged(taken: Taken, words: &[u16], numbers: &[f64]) -> Read
@@ -34,11 +41,13 @@ fn judged(taken: Taken, words: &[u16], numbers: &[f64]) -> Read
 fn fill(text: &[u8], words: &mut [u16], numbers: &mut [f64], wants: &mut [u64]) -> Read
     ensures { λ r. ⌜ Filled (readingBy (now (text .entry)) (now (words .entry)) (now (numbers .entry)) (now (wants .entry))) r (now (words .exit)) (now (numbers .exit)) (now (wants .exit)) ⌝ }
 {
-    let room = (1347 <= words.len()) & (7937 <= numbers.len()) & (32 <= wants.len());
+    let room = (WORDS_NEEDED <= words.len())
+        & (NUMBERS_NEEDED <= numbers.len())
+        & (WANTS_NEEDED <= wants.len());
     if !room {
         return Read::Refused(Refusal::Capacity);
     }
-    if 65536 < text.len() {
+    if TEXT_MOST < text.len() {
         return Read::Refused(Refusal::Capacity);
     }
     let taken = tables(text, words, numbers, wants);

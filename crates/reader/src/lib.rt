@@ -5,4 +5,5 @@ mod job;
 mod taking;
 
 pub use answers::Read;
+pub use job::TEXT_MOST;
 pub use job::read;

@@ -1,9 +1,13 @@
 // The tables of a text, in their order, taken into zeroed slices. A reference or an order that is wrong is remembered and the form goes on.
 ghost use mathlib.Core.Path.{_≡_};
 ghost use Rattle.schema.specs.Schema.{limitOf};
+ghost use Rattle.schema.specs.Tables.{roadTable, tableCount};
 ghost use Rattle.store.specs.Tracks.{startTrack};
-ghost use Rattle.reader.specs.Reading.{Agrees, linesFrom, tableAt, tablesFrom, countedTrack};
+ghost use Rattle.reader.specs.Reading.{linesFrom, tableAt, tablesFrom, countedTrack};
+ghost use Rattle.reader.specs.Parts.{Agrees};
 use rows::Order;
+use schema::tables::ROAD_TABLE;
+use schema::tables::TABLE_COUNT;
 use store::Track;
 
 pub struct Taken {
@@ -101,7 +105,7 @@ fn table_at(
 fn counted(table: usize, lines: u16, track: Track) -> Track
     ensures { λ r. ⌜ r ≡ countedTrack table lines track ⌝ }
 {
-    let few = (table == 0) & (lines == 0);
+    let few = (table == ROAD_TABLE) & (lines == 0);
     let mut r = track;
     if few {
         r.sound = false;
@@ -116,13 +120,13 @@ pub(crate) fn tables(
     numbers: &mut [f64],
     wants: &mut [u64],
 ) -> Taken
-    ensures { λ r. ⌜ Agrees (tablesFrom 15 0 (now (text .entry)) 0 0 startTrack (now (words .entry)) (now (numbers .entry)) (now (wants .entry))) r (now (words .exit)) (now (numbers .exit)) (now (wants .exit)) ⌝ }
+    ensures { λ r. ⌜ Agrees (tablesFrom tableCount roadTable (now (text .entry)) 0 0 startTrack (now (words .entry)) (now (numbers .entry)) (now (wants .entry))) r (now (words .exit)) (now (numbers .exit)) (now (wants .exit)) ⌝ }
 {
     let mut track = store::start_track();
     let mut at = 0;
     let mut count: u16 = 0;
-    let mut table = 0;
-    while table < 15 {
+    let mut table = ROAD_TABLE;
+    while table < TABLE_COUNT {
         let taken = table_at(text, at, table, words, numbers, wants, track);
         if taken.number != 0 {
             return taken;

@@ -5,10 +5,12 @@ use mathlib.Core.List.{List}
 use lib.ListN.{length}
 use lib.Ieee.{Float}
 use Rattle.refusals.specs.Answer.{value, checked}
+use Rattle.records.specs.Layout.{numbersNeeded, wordsNeeded, wantsNeeded}
 use Rattle.records.specs.Roads.{roadOf}
+use Rattle.schema.specs.Tables.{roadTable, wantTable, tableCount}
 use Rattle.store.specs.declared.tracks.Track.{Track}
 use Rattle.store.specs.Tracks.{startTrack}
-use Rattle.reader.specs.Reading.{done, stop, admittedAs, tablesFrom, zeros, zeroNumbers, readingOf}
+use Rattle.reader.specs.Reading.{done, stop, admittedAs, tablesFrom, textMost, zeros, zeroNumbers, readingOf}
 use Rattle.reading_laws.specs.Rows.{rowsOf}
 use Rattle.text_laws.specs.Said.{roadSaid, wantsSaid}
 use Rattle.text_laws.specs.Family.{Family}
@@ -17,17 +19,17 @@ use Rattle.text_laws.specs.Counts.{saidRows}
 module _ (text : List ℕ) (l m n at count : ℕ) (track : Track) (ws : List ℕ) (ns : List Float) (vs : List ℕ) where
   -- rows 1 and 2 are passed: the text and the slices of l words, m numbers and n wants have their lengths, every line its form, every table its limit. What is held then is ws, ns and vs
   pub record Formed : Type 0 where
-    pub text-short : length text ≤ 65536
-    pub words-long : 1347 ≤ l
-    pub numbers-long : 7937 ≤ m
-    pub wants-long : 32 ≤ n
-    pub tables : tablesFrom 15 0 text 0 0 startTrack (zeros l) (zeroNumbers m) (zeros n) ≡ done at count track ws ns vs
+    pub text-short : length text ≤ textMost
+    pub words-long : wordsNeeded ≤ l
+    pub numbers-long : numbersNeeded ≤ m
+    pub wants-long : wantsNeeded ≤ n
+    pub tables : tablesFrom tableCount roadTable text 0 0 startTrack (zeros l) (zeroNumbers m) (zeros n) ≡ done at count track ws ns vs
 
   -- the words and numbers stand for the road that the text's lines say, the count is that of its wants, and their slice holds their patterns, then zeros
   pub record AsSaid : Type 0 where
     pub road : roadOf ws ns ≡ roadSaid (rowsOf text)
-    pub wants : count ≡ length (rowsOf text 14)
-    pub wants-held : vs ≡ wantsSaid (rowsOf text 14) n
+    pub wants : count ≡ length (rowsOf text wantTable)
+    pub wants-held : vs ≡ wantsSaid (rowsOf text wantTable) n
 
 -- where references and order are right, what is held is what the text says, and rows 3, 4 and 5 of the road that its lines say decide; where they are not, reading answers 3
 abbrev pub TextSays : Type 0
