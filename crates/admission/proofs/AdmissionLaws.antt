@@ -13,9 +13,9 @@ use Rattle.refusals.specs.Refusal.{numberOf}
 use Rattle.refusals.specs.declared.refusals.Refusal.{Refusal}
 use Rattle.records.specs.Roads.{roadOf}
 use Rattle.structure.specs.Structure.{structured}
-use Rattle.structure.specs.Order.{ordered}
+use Rattle.ordering.specs.Order.{ordered}
 use Rattle.bounds.specs.Limits.{limited}
-use Rattle.spirals.specs.Spiral.{samplesNeeded}
+use Rattle.spirals.specs.Spiral.{samplesNeeded, mostSamples}
 use Rattle.admission.specs.declared.verdicts.Verdict.{Verdict}
 use Rattle.admission.specs.declared.verdicts.Verdict.the-variants.{Admitted, Refused}
 use Rattle.admission.specs.Admission.{roadRows, admissionOf, admitted, answerOf}
@@ -41,12 +41,12 @@ module _ (words : List ℕ) (numbers : List Float) where
   not-limited {a} {b} {c} e h f k g l = rw (sym e ∙ not-false a h, sym f ∙ not-false b k, sym g ∙ not-true c l)
 
   pub not-fitting : {a b c d : Bool} → a ≡ structured words numbers → not a ≡ false → b ≡ ordered (roadOf words numbers) → not b ≡ false
-      → c ≡ limited (roadOf words numbers) → not c ≡ false → d ≡ leb (samplesNeeded (roadOf words numbers)) 2000 → not d ≡ true → refused 5 ≡ admissionOf words numbers
+      → c ≡ limited (roadOf words numbers) → not c ≡ false → d ≡ leb (samplesNeeded (roadOf words numbers)) mostSamples → not d ≡ true → refused 5 ≡ admissionOf words numbers
   unfolding admissionOf
   not-fitting {a} {b} {c} {d} e h f k g l i m = rw (sym e ∙ not-false a h, sym f ∙ not-false b k, sym g ∙ not-false c l, sym i ∙ not-true d m)
 
   pub all-pass : {a b c d : Bool} → a ≡ structured words numbers → not a ≡ false → b ≡ ordered (roadOf words numbers) → not b ≡ false
-      → c ≡ limited (roadOf words numbers) → not c ≡ false → d ≡ leb (samplesNeeded (roadOf words numbers)) 2000 → not d ≡ false → value tt ≡ admissionOf words numbers
+      → c ≡ limited (roadOf words numbers) → not c ≡ false → d ≡ leb (samplesNeeded (roadOf words numbers)) mostSamples → not d ≡ false → value tt ≡ admissionOf words numbers
   unfolding admissionOf
   all-pass {a} {b} {c} {d} e h f k g l i m = rw (sym e ∙ not-false a h, sym f ∙ not-false b k, sym g ∙ not-false c l, sym i ∙ not-false d m)
 
@@ -82,12 +82,12 @@ module _ (words : List ℕ) (numbers : List Float) where
   -- what an admitted road is
   module _ (h : admitted words numbers ≡ true) where
     rows-hold : (structured words numbers && ordered (roadOf words numbers) ≡ true)
-        × (limited (roadOf words numbers) && (leb (samplesNeeded (roadOf words numbers)) 2000 && true) ≡ true)
+        × (limited (roadOf words numbers) && (leb (samplesNeeded (roadOf words numbers)) mostSamples && true) ≡ true)
     unfolding admitted
-    rows-hold = both (structured words numbers && ordered (roadOf words numbers)) (limited (roadOf words numbers) && (leb (samplesNeeded (roadOf words numbers)) 2000 && true)) h
+    rows-hold = both (structured words numbers && ordered (roadOf words numbers)) (limited (roadOf words numbers) && (leb (samplesNeeded (roadOf words numbers)) mostSamples && true)) h
 
-    numbers-hold : (limited (roadOf words numbers) ≡ true) × (leb (samplesNeeded (roadOf words numbers)) 2000 && true ≡ true)
-    numbers-hold = both (limited (roadOf words numbers)) (leb (samplesNeeded (roadOf words numbers)) 2000 && true) (rows-hold .1)
+    numbers-hold : (limited (roadOf words numbers) ≡ true) × (leb (samplesNeeded (roadOf words numbers)) mostSamples && true ≡ true)
+    numbers-hold = both (limited (roadOf words numbers)) (leb (samplesNeeded (roadOf words numbers)) mostSamples && true) (rows-hold .1)
 
     pub admitted-structured : structured words numbers ≡ true
     admitted-structured = both (structured words numbers) (ordered (roadOf words numbers)) (rows-hold .0) .0
@@ -98,6 +98,6 @@ module _ (words : List ℕ) (numbers : List Float) where
     pub admitted-limited : limited (roadOf words numbers) ≡ true
     admitted-limited = numbers-hold .0
 
-    pub admitted-samples : samplesNeeded (roadOf words numbers) ≤ 2000
+    pub admitted-samples : samplesNeeded (roadOf words numbers) ≤ mostSamples
     admitted-samples =
-        leb-true (samplesNeeded (roadOf words numbers)) 2000 (both (leb (samplesNeeded (roadOf words numbers)) 2000) true (numbers-hold .1) .0)
+        leb-true (samplesNeeded (roadOf words numbers)) mostSamples (both (leb (samplesNeeded (roadOf words numbers)) mostSamples) true (numbers-hold .1) .0)

@@ -9,9 +9,9 @@ use Rattle.refusals.specs.Refusal.{numberOf}
 use Rattle.refusals.specs.declared.refusals.Refusal.the-variants.{Structure, Range, SampleBudget}
 use Rattle.records.specs.Roads.{roadOf}
 use Rattle.structure.specs.Structure.{structured}
-use Rattle.structure.specs.Order.{ordered}
+use Rattle.ordering.specs.Order.{ordered}
 use Rattle.bounds.specs.Limits.{limited}
-use Rattle.spirals.specs.Spiral.{samplesNeeded}
+use Rattle.spirals.specs.Spiral.{samplesNeeded, mostSamples}
 use Rattle.admission.specs.declared.verdicts.Verdict.{Verdict}
 use Rattle.admission.specs.declared.verdicts.Verdict.the-variants.{Admitted, Refused}
 
@@ -20,7 +20,7 @@ abbrev pub roadRows : List ℕ → List Float → List Row
 roadRows words numbers =
     row Structure (structured words numbers && ordered (roadOf words numbers))
     ∷ row Range (limited (roadOf words numbers))
-    ∷ row SampleBudget (leb (samplesNeeded (roadOf words numbers)) 2000)
+    ∷ row SampleBudget (leb (samplesNeeded (roadOf words numbers)) mostSamples)
     ∷ []
 
 -- every row passes

@@ -7,21 +7,21 @@ use mathlib.Core.List.{List}
 use lib.ListN.{length}
 use lib.Dec.{T}
 use lib.Ieee.{Float, binary64, ofBits, fits, le, lt, eq, neg, sub}
-use Rattle.float_laws.specs.Binary64.{_⊖_, f64, zero64}
+use Rattle.float_laws.specs.Binary64.{_⊖_, zero64}
 use Rattle.float_laws.proofs.Value.{Real, le-trans', neg-real}
 use Rattle.float_laws.proofs.Interval.{In, sub-in, in-of-le}
 use Rattle.float_laws.proofs.Size.{Within, within-of-le, le-of-within, within-mono, within-const}
-use Rattle.records.specs.Active.{reached}
+use Rattle.records.specs.Active.{activeUpTo}
 use Rattle.records.specs.Roads.{Road, roadOf, absent, sectionOf, sectionIndex, profileAt, stripAt}
 use Rattle.records.proofs.RoadLaws.{strip-past}
 use Rattle.ordering.proofs.OrderLaws.{Ordered, ordered-is}
 use Rattle.structure.proofs.StructureLaws.{structured-is}
-use Rattle.ranges.specs.Bounds.{inRange}
-use Rattle.bounds.specs.Limits.{onRoad, limited}
+use Rattle.ranges.specs.Ranges.{inRange}
+use Rattle.bounds.specs.Limits.{greatestLength, onRoad, limited}
 use Rattle.limit_laws.proofs.Fitting.{Fits64, Fitting, RoadFits, road-fits}
 use Rattle.limit_laws.proofs.ActiveRecord.{Active, index-active}
 use Rattle.limit_laws.proofs.LimitParts.{and-fst, and-snd, true-T}
-use Rattle.limit_laws.proofs.CubicBounds.{far, reached-real, reached-grows}
+use Rattle.limit_laws.proofs.CubicBounds.{far, up-to-real, up-to-grows}
 use Rattle.limit_laws.proofs.RoadBounds.{OnRoad, InSection, Across, station-within, section-start-in, section-start-within, extent-within, into-section}
 use Rattle.admission.specs.Admission.{admitted}
 use Rattle.admission.proofs.AdmissionLaws.{admitted-structured, admitted-ordered, admitted-limited}
@@ -86,20 +86,17 @@ within-across t a =
     let v = in-of-le binary64 (neg eighty) eighty t (neg-real binary64 eighty (eighty-own .bound)) (eighty-own .bound) (a .fits) (a .above) (a .below) in
     within-of-le binary64 t eighty (v .value) (eighty-own .bound) (a .above) (a .below)
 
-abbrev ten-thousand : Float
-ten-thousand = f64 0x40c3_8800_0000_0000
-
-ten-thousand-own : Within binary64 ten-thousand ten-thousand
+length-own : Within binary64 greatestLength greatestLength
 unfolding ofBits fits le neg
-ten-thousand-own = within-const binary64 ten-thousand ten-thousand tt
+length-own = within-const binary64 greatestLength greatestLength tt
 
 far-own : Within binary64 station-far station-far
 unfolding ofBits fits le neg
 far-own = within-const binary64 station-far station-far tt
 
-ten-thousand-far : T (le ten-thousand far) × T (le ten-thousand station-far)
+length-far : T (le greatestLength far) × T (le greatestLength station-far)
 unfolding ofBits le
-ten-thousand-far = (tt, tt)
+length-far = (tt, tt)
 
 or-r : (a b : Bool) → T b → T (a || b)
 or-r true b t = tt
@@ -110,12 +107,12 @@ unfolding le
 same-le x y e = or-r (lt x y) (eq x y) e
 
 -- x and y in 0..10,000: x - y is at most 10,000 in size
-difference-within : (x y : Float) → In binary64 zero64 ten-thousand x → In binary64 zero64 ten-thousand y → Within binary64 (x ⊖ y) station-far
+difference-within : (x y : Float) → In binary64 zero64 greatestLength x → In binary64 zero64 greatestLength y → Within binary64 (x ⊖ y) station-far
 unfolding ofBits sub le neg
 difference-within x y i j =
-    let d = sub-in binary64 zero64 ten-thousand zero64 ten-thousand x y i j tt tt in
-    let w = within-of-le binary64 (x ⊖ y) ten-thousand (d .value) (ten-thousand-own .bound) (d .above) (d .below) in
-    within-mono binary64 (x ⊖ y) ten-thousand station-far w (far-own .bound) (ten-thousand-far .1)
+    let d = sub-in binary64 zero64 greatestLength zero64 greatestLength x y i j tt tt in
+    let w = within-of-le binary64 (x ⊖ y) greatestLength (d .value) (length-own .bound) (d .above) (d .below) in
+    within-mono binary64 (x ⊖ y) greatestLength station-far w (far-own .bound) (length-far .1)
 
 -- how far s lies into the section at s
 abbrev pub into : Road → Float → Float
@@ -123,25 +120,25 @@ into road s = s ⊖ sectionOf road (sectionIndex road s) .start
 
 module _ (road : Road) (a : Admits road) (s : Float) (o : OnRoad road s) where
   -- s is at most 10,000
-  pub s-within : Within binary64 s ten-thousand
+  pub s-within : Within binary64 s greatestLength
   s-within = station-within road (a .fit) (a .limits) s o
 
   pub s-near : Within binary64 s station-far
-  s-near = within-mono binary64 s ten-thousand station-far s-within (far-own .bound) (ten-thousand-far .1)
+  s-near = within-mono binary64 s greatestLength station-far s-within (far-own .bound) (length-far .1)
 
-  first-reached : T (le (sectionOf road 0 .start) (reached s))
+  first-reached : T (le (sectionOf road 0 .start) (activeUpTo s))
   first-reached =
       let z = section-start-in road (a .fit) (a .limits) 0 (a .sections) in
       let e = extent-within road (a .fit) (a .limits) 0 (a .sections) in
-      let w = within-mono binary64 s ten-thousand far s-within (e .bound) (ten-thousand-far .0) in
-      let r = reached-real s w in
-      le-trans' binary64 (sectionOf road 0 .start) zero64 (reached s) (z .value) (z .low) r (same-le (sectionOf road 0 .start) zero64 (a .order .section-zero))
-      (le-trans' binary64 zero64 s (reached s) (z .low) (w .value) r (o .above) (reached-grows s w))
+      let w = within-mono binary64 s greatestLength far s-within (e .bound) (length-far .0) in
+      let r = up-to-real s w in
+      le-trans' binary64 (sectionOf road 0 .start) zero64 (activeUpTo s) (z .value) (z .low) r (same-le (sectionOf road 0 .start) zero64 (a .order .section-zero))
+      (le-trans' binary64 zero64 s (activeUpTo s) (z .low) (w .value) r (o .above) (up-to-grows s w))
 
   -- the section at s is there, and s lies in it
-  pub section-active : Active (λ k. sectionOf road k .start) (reached s) (length (road .sections)) (sectionIndex road s)
+  pub section-active : Active (λ k. sectionOf road k .start) (activeUpTo s) (length (road .sections)) (sectionIndex road s)
   unfolding sectionIndex
-  section-active = index-active (λ k. sectionOf road k .start) (reached s) (length (road .sections)) (a .sections) first-reached
+  section-active = index-active (λ k. sectionOf road k .start) (activeUpTo s) (length (road .sections)) (a .sections) first-reached
 
   pub section-there : sectionIndex road s < length (road .sections)
   section-there = section-active .below
@@ -155,5 +152,5 @@ module _ (road : Road) (a : Admits road) (s : Float) (o : OnRoad road s) where
       let w = section-start-within road (a .fit) (a .limits) (sectionIndex road s) section-there in
       difference-within s (sectionOf road (sectionIndex road s) .start) (from-zero s s-within (o .above) (z .low)) (from-zero (sectionOf road (sectionIndex road s) .start) w (z .above) (z .low))
     where
-      from-zero : (x : Float) → Within binary64 x ten-thousand → T (le zero64 x) → Real binary64 zero64 → In binary64 zero64 ten-thousand x
-      from-zero x w h z = record { low = z; high = w .bound; value = w .value; above = h; below = le-of-within binary64 x ten-thousand w .1 }
+      from-zero : (x : Float) → Within binary64 x greatestLength → T (le zero64 x) → Real binary64 zero64 → In binary64 zero64 greatestLength x
+      from-zero x w h z = record { low = z; high = w .bound; value = w .value; above = h; below = le-of-within binary64 x greatestLength w .1 }

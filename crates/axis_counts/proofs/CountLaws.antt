@@ -20,7 +20,7 @@ use Rattle.float_laws.proofs.Value.{mag, pl, mi, Real, mag-is, units-of, le→u
 use Rattle.float_laws.proofs.Interval.{nil, nil-real, nil-pl, nil-mi, finite-between, from-zero}
 use Rattle.float_laws.proofs.Size.{Within, within-of-le, le-of-within, mul-within}
 use Rattle.float_laws.proofs.Whole.{Steps, Whole, Nearest, nearest-is, reach-plus, twice-hid, steps-add}
-use Rattle.axis_counts.specs.Count.{nearestAway, nearestWhole, countOf}
+use Rattle.axis_counts.specs.Count.{nearestAway, nearestWhole, greatestCounted, countsPerMetre, countOf}
 use Rattle.refusals.specs.Answer.{value, refused}
 use Rattle.trigonometry.proofs.FloorLaws.{cut-plus, nearby}
 use Rattle.trigonometry.proofs.FloorCases.{yes, no, hid-whole, real-no-nan}
@@ -316,56 +316,50 @@ module _ (p : Float) (fit : T (fits binary64 p)) (lo : T (le (neg limit) p)) (hi
   whole-plus e = nearest-plus binary64 p whole-real (from-zero binary64 p whole-real (kept e))
 
 -- ---- `counts`
-abbrev eighty : Float
-eighty = ofBits binary64 0x4054_0000_0000_0000
-
-abbrev tenThousand : Float
-tenThousand = ofBits binary64 0x40c3_8800_0000_0000
-
-pub count-in : (v : Float) → le (neg eighty) v ≡ true → le v eighty ≡ true → countOf v ≡ value (nearestWhole (mul binary64 v tenThousand))
+pub count-in : (v : Float) → le (neg greatestCounted) v ≡ true → le v greatestCounted ≡ true → countOf v ≡ value (nearestWhole (mul binary64 v countsPerMetre))
 unfolding countOf
 count-in v a b = rw (a, b)
 
-pub count-low : (v : Float) → le (neg eighty) v ≡ false → countOf v ≡ refused 12
+pub count-low : (v : Float) → le (neg greatestCounted) v ≡ false → countOf v ≡ refused 12
 unfolding countOf
 count-low v a = rw a
 
-pub count-high : (v : Float) → le (neg eighty) v ≡ true → le v eighty ≡ false → countOf v ≡ refused 12
+pub count-high : (v : Float) → le (neg greatestCounted) v ≡ true → le v greatestCounted ≡ false → countOf v ≡ refused 12
 unfolding countOf
 count-high v a b = rw (a, b)
 
-eighty-real : Real binary64 eighty
+counted-real : Real binary64 greatestCounted
 unfolding ofBits fits
-eighty-real = record { finite = tt; fits = tt }
+counted-real = record { finite = tt; fits = tt }
 
-ten-within : Within binary64 tenThousand tenThousand
+ten-within : Within binary64 countsPerMetre countsPerMetre
 unfolding ofBits fits pl mi mag
 ten-within = record { value = record { finite = tt; fits = tt }; bound = record { finite = tt; fits = tt }; plus = refl; le = lit≤ tt }
 
-product-limit : mul binary64 eighty tenThousand ≡ limit
+product-limit : mul binary64 greatestCounted countsPerMetre ≡ limit
 unfolding mul ofBits
 product-limit = refl
 
-product-finite : T (finite (mul binary64 eighty tenThousand))
+product-finite : T (finite (mul binary64 greatestCounted countsPerMetre))
 unfolding mul ofBits
 product-finite = tt
 
-module _ (v : Float) (fit : T (fits binary64 v)) (lo : le (neg eighty) v ≡ true) (hi : le v eighty ≡ true) where
+module _ (v : Float) (fit : T (fits binary64 v)) (lo : le (neg greatestCounted) v ≡ true) (hi : le v greatestCounted ≡ true) where
   -- |v × 10,000| is at most 800,000, rounded too
-  product-within : Within binary64 (mul binary64 v tenThousand) limit
+  product-within : Within binary64 (mul binary64 v countsPerMetre) limit
   product-within =
-      let r : Real binary64 v = record { finite = finite-between (neg eighty) v eighty (neg-real binary64 eighty eighty-real .finite) (eighty-real .finite) (yes lo) (yes hi); fits = fit } in
-      subst (λ (b : Float). Within binary64 (mul binary64 v tenThousand) b) product-limit (mul-within binary64 v tenThousand eighty tenThousand (within-of-le binary64 v eighty r eighty-real (yes lo) (yes hi)) ten-within product-finite)
+      let r : Real binary64 v = record { finite = finite-between (neg greatestCounted) v greatestCounted (neg-real binary64 greatestCounted counted-real .finite) (counted-real .finite) (yes lo) (yes hi); fits = fit } in
+      subst (λ (b : Float). Within binary64 (mul binary64 v countsPerMetre) b) product-limit (mul-within binary64 v countsPerMetre greatestCounted countsPerMetre (within-of-le binary64 v greatestCounted r counted-real (yes lo) (yes hi)) ten-within product-finite)
 
-  pub product-in : T (le (neg limit) (mul binary64 v tenThousand)) × T (le (mul binary64 v tenThousand) limit)
-  product-in = le-of-within binary64 (mul binary64 v tenThousand) limit product-within
+  pub product-in : T (le (neg limit) (mul binary64 v countsPerMetre)) × T (le (mul binary64 v countsPerMetre) limit)
+  product-in = le-of-within binary64 (mul binary64 v countsPerMetre) limit product-within
 
-  product-bound : natAbs (nearestWhole (mul binary64 v tenThousand)) ≤ 800000
-  product-bound = nearest-bound binary64 (mul binary64 v tenThousand) 800000 (product-within .value) (le-trans (product-within .le) (le-of-eq (limit-whole .plus)))
+  product-bound : natAbs (nearestWhole (mul binary64 v countsPerMetre)) ≤ 800000
+  product-bound = nearest-bound binary64 (mul binary64 v countsPerMetre) 800000 (product-within .value) (le-trans (product-within .le) (le-of-eq (limit-whole .plus)))
 
 -- a count is at most 800,000 either way
 pub count-bounded : (v : Float) (z : ℤ) → T (fits binary64 v) → countOf v ≡ value z → natAbs z ≤ 800000
-count-bounded v z fit e = go (le (neg eighty) v) refl (le v eighty) refl
+count-bounded v z fit e = go (le (neg greatestCounted) v) refl (le v greatestCounted) refl
   where
     apart : (n : ℕ) → refused n ≡ value z → ⊥
     apart n h = let o : _≡_ {A = ℕ} 0 1 = cc in omega arith
@@ -373,7 +367,7 @@ count-bounded v z fit e = go (le (neg eighty) v) refl (le v eighty) refl
     same : (y : ℤ) → countOf v ≡ value y → z ≡ y
     same y h = cc
 
-    go : (a : Bool) → le (neg eighty) v ≡ a → (b : Bool) → le v eighty ≡ b → natAbs z ≤ 800000
-    go true a true b = le-trans (le-of-eq (ap natAbs (same (nearestWhole (mul binary64 v tenThousand)) (count-in v a b)))) (product-bound v fit a b)
+    go : (a : Bool) → le (neg greatestCounted) v ≡ a → (b : Bool) → le v greatestCounted ≡ b → natAbs z ≤ 800000
+    go true a true b = le-trans (le-of-eq (ap natAbs (same (nearestWhole (mul binary64 v countsPerMetre)) (count-in v a b)))) (product-bound v fit a b)
     go true a false b = absurd (apart 12 (sym (count-high v a b) ∙ e))
     go false a b h = absurd (apart 12 (sym (count-low v a) ∙ e))

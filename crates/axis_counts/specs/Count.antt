@@ -20,16 +20,18 @@ nearestWhole nan = pos 0
 nearestWhole (inf s) = pos 0
 nearestWhole (fin s m e) = cond s (negℤ (pos (nearestAway (m * up e) (down e)))) (pos (nearestAway (m * up e) (down e)))
 
-abbrev eighty : Float
-eighty = ofBits binary64 0x4054_0000_0000_0000
+-- row 12: "value outside -80..80"
+abbrev pub greatestCounted : Float
+greatestCounted = ofBits binary64 0x4054_0000_0000_0000
 
-abbrev tenThousand : Float
-tenThousand = ofBits binary64 0x40c3_8800_0000_0000
+-- "v × 10,000"
+abbrev pub countsPerMetre : Float
+countsPerMetre = ofBits binary64 0x40c3_8800_0000_0000
 
 -- the count of v, or row 12
 unfoldable pub countOf : Float → Answer ℤ
 unfolding nearestWhole le neg mul ofBits
-countOf v = cond (le (neg eighty) v && le v eighty) (value (nearestWhole (mul binary64 v tenThousand))) (refused (numberOf CountRange))
+countOf v = cond (le (neg greatestCounted) v && le v greatestCounted) (value (nearestWhole (mul binary64 v countsPerMetre))) (refused (numberOf CountRange))
 
 -- the value of a `Count`, and the number of a refusal
 abbrev pub answerOf : Counted → Answer ℤ

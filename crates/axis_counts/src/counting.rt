@@ -6,6 +6,11 @@ ghost use lib.Ieee.{binary64, ofBits, neg, le};
 ghost use lib.Ieee.Positive.{num, den};
 ghost use Rattle.axis_counts.specs.Count.{nearestAway, nearestWhole, countOf, answerOf};
 
+// The greatest size that is counted, in metres, and the counts of a metre.
+const GREATEST_COUNTED: f64 = 80.0;
+
+const COUNTS_PER_METRE: f64 = 10000.0;
+
 pub enum Counted {
     Count(i64),
     Refused(Refusal),
@@ -41,9 +46,9 @@ fn nearest_whole(p: f64) -> i64
 pub fn counts(v: f64) -> Counted
     ensures { λ r. ⌜ answerOf r ≡ countOf v ⌝ }
 {
-    if -80.0 <= v {
-        if v <= 80.0 {
-            return Counted::Count(nearest_whole(v * 10000.0));
+    if -GREATEST_COUNTED <= v {
+        if v <= GREATEST_COUNTED {
+            return Counted::Count(nearest_whole(v * COUNTS_PER_METRE));
         }
     }
     Counted::Refused(Refusal::CountRange)

@@ -6,7 +6,7 @@ use mathlib.Core.Path.{_≡_, refl}
 use mathlib.Core.Bool.{cond}
 use lib.Ieee.{Float, lt}
 use Rattle.float_laws.specs.Binary64.{zero64}
-use Rattle.ranges.specs.Bounds.{greatest}
+use Rattle.bounds.specs.Bounds.{greatest}
 
 module _ (f : ℕ → Float) where
   pub greatest-none : greatest f 0 ≡ zero64

@@ -6,14 +6,15 @@ use mathlib.Core.List.{List}
 use lib.ListN.{length}
 use lib.Ieee.{Float, le, lt, neg}
 use borrow.Author.Tests.{lt-ltb, le-ltb}
-use Rattle.float_laws.specs.Binary64.{_⊖_, f64, zero64}
+use Rattle.float_laws.specs.Binary64.{_⊖_, zero64}
 use Rattle.lent.specs.Lists.{allBelow}
 use Rattle.cubics.specs.declared.cubics.Cubic.{Cubic}
 use Rattle.records.specs.declared.points.GeomRec.{GeomRec}
 use Rattle.records.specs.declared.points.HeightDef.{HeightDef}
 use Rattle.records.specs.Roads.{Road, Lane, Strip, columnOf, geomAt, unusedZero, sectionOf, laneOf, profileAt, stripAt}
-use Rattle.ranges.specs.Bounds.{inRange, sized, largest, cubicsWithin, slopesWithin}
-use Rattle.bounds.specs.Limits.{lengthOk, roadCubicsWithin, shapeLimited, geomLimited, heightsLimited, sectionExtent, laneLimited, sectionLimited, profileLimited, termsBound, stripLimited, limited}
+use Rattle.bounds.specs.Limits.{lengthOk, roadCubicsWithin, shapeLimited, geomLimited, heightsLimited, sectionExtent, laneLimited, sectionLimited, profileLimited, termsBound, stripLimited, limited, greatestShapeStart, greatestPlace, greatestHeading, shapesEnd, greatestElevation, greatestBank, greatestOffset, greatestShift, greatestWidth, greatestBorder, greatestShape, greatestStripWidth, greatestGrade, greatestStripHeight, geomLengthOk}
+use Rattle.ranges.specs.Ranges.{inRange, sized, largest}
+use Rattle.bounds.specs.Bounds.{cubicsWithin, slopesWithin}
 
 -- ---- a section by the values that a function has read
 
@@ -42,30 +43,30 @@ module _ (road : Road) (i : ℕ) where
 
 pub geom-by :
     (road : Road) (i : ℕ) {g : GeomRec} {len : Float} {start x y h l shape unused : Bool} → g ≡ geomAt road i → len ≡ road .length → start ≡ inRange zero64 len (g .s)
-    → x ≡ sized (f64 0x412e_8480_0000_0000) (g .x) → y ≡ sized (f64 0x412e_8480_0000_0000) (g .y) → h ≡ sized (f64 0x408f_4000_0000_0000) (g .hdg)
-    → l ≡ lengthOk (g .length) → shape ≡ shapeLimited (g .shape) → unused ≡ unusedZero road i
+    → x ≡ sized greatestPlace (g .x) → y ≡ sized greatestPlace (g .y) → h ≡ sized greatestHeading (g .hdg)
+    → l ≡ geomLengthOk (g .length) → shape ≡ shapeLimited (g .shape) → unused ≡ unusedZero road i
     → start && x && y && h && l && shape && unused ≡ geomLimited road i
 unfolding geomLimited
 geom-by road i e f a b c d g h k = rw (a, b, c, d, g, h, k, e, f)
 
 pub lane-by :
     (extent : Float) (lane : Lane) {border within heights : Bool} {limit : Float} {cs : List Cubic} {hs : List HeightDef} → border ≡ lane .border
-    → limit ≡ cond border (f64 0x4042_0000_0000_0000) (f64 0x4020_0000_0000_0000) → cs ≡ lane .extents → within ≡ cubicsWithin cs (neg largest) largest extent limit
+    → limit ≡ cond border greatestBorder greatestWidth → cs ≡ lane .extents → within ≡ cubicsWithin cs (neg largest) largest extent limit
     → hs ≡ lane .heights → heights ≡ heightsLimited hs → within && heights ≡ laneLimited extent lane
 unfolding laneLimited
 lane-by extent lane b l c w h k = rw (w, k, l, b, c, h)
 
 pub profile-by :
     (road : Road) (i : ℕ) {len s : Float} {start within : Bool} {cs : List Cubic} → len ≡ road .length → s ≡ profileAt road i .s → start ≡ inRange zero64 len s
-    → cs ≡ profileAt road i .shapes → within ≡ cubicsWithin cs (neg (f64 0x4054_0000_0000_0000)) (f64 0x4054_0000_0000_0000) (f64 0x4054_0000_0000_0000) (f64 0x4044_0000_0000_0000)
+    → cs ≡ profileAt road i .shapes → within ≡ cubicsWithin cs (neg greatestShapeStart) greatestShapeStart shapesEnd greatestShape
     → start && within ≡ profileLimited road i
 unfolding profileLimited
 profile-by road i e f a c b = rw (a, b, e, f, c)
 
 pub strip-by :
-    (road : Road) (strip : Strip) {width terms : Bool} {b : Float} → width ≡ roadCubicsWithin road (columnOf strip 0) (f64 0x4059_0000_0000_0000)
+    (road : Road) (strip : Strip) {width terms : Bool} {b : Float} → width ≡ roadCubicsWithin road (columnOf strip 0) greatestStripWidth
     → terms ≡ allBelow (λ term. roadCubicsWithin road (columnOf strip (term + 1)) largest) 4 → b ≡ termsBound road strip
-    → width && terms && le b (f64 0x4044_0000_0000_0000) ≡ stripLimited road strip
+    → width && terms && le b greatestStripHeight ≡ stripLimited road strip
 unfolding stripLimited
 strip-by road strip w a b = rw (w, a, b)
 
@@ -80,14 +81,14 @@ regroup true true true true b o t x p y = refl
 
 pub limited-by :
     (road : Road) {len : Float} {l g e t s p x : Bool} → len ≡ road .length → l ≡ lengthOk len → g ≡ allBelow (geomLimited road) (length (road .geoms))
-    → e ≡ roadCubicsWithin road (road .elevations) (f64 0x40c3_8800_0000_0000) && slopesWithin (road .elevations) (road .length) (f64 0x3ff0_0000_0000_0000)
-    → t ≡ roadCubicsWithin road (road .superelevations) (f64 0x3fe8_0000_0000_0000) && roadCubicsWithin road (road .offsets) (f64 0x4020_0000_0000_0000) && roadCubicsWithin road (road .tshifts) (f64 0x4020_0000_0000_0000)
+    → e ≡ roadCubicsWithin road (road .elevations) greatestElevation && slopesWithin (road .elevations) (road .length) greatestGrade
+    → t ≡ roadCubicsWithin road (road .superelevations) greatestBank && roadCubicsWithin road (road .offsets) greatestOffset && roadCubicsWithin road (road .tshifts) greatestShift
     → s ≡ allBelow (sectionLimited road) (length (road .sections)) → p ≡ allBelow (profileLimited road) (length (road .profiles))
     → x ≡ allBelow (λ i. stripLimited road (stripAt road i)) 4 → l && g && e && t && s && p && x ≡ limited road
 unfolding limited
 limited-by road k a b c d e f g =
     rw (a, b, c, d, e, f, g, k)
     (regroup (lengthOk (road .length)) (allBelow (geomLimited road) (length (road .geoms)))
-    (roadCubicsWithin road (road .elevations) (f64 0x40c3_8800_0000_0000)) (slopesWithin (road .elevations) (road .length) (f64 0x3ff0_0000_0000_0000))
-    (roadCubicsWithin road (road .superelevations) (f64 0x3fe8_0000_0000_0000)) (roadCubicsWithin road (road .offsets) (f64 0x4020_0000_0000_0000)) (roadCubicsWithin road (road .tshifts) (f64 0x4020_0000_0000_0000))
+    (roadCubicsWithin road (road .elevations) greatestElevation) (slopesWithin (road .elevations) (road .length) greatestGrade)
+    (roadCubicsWithin road (road .superelevations) greatestBank) (roadCubicsWithin road (road .offsets) greatestOffset) (roadCubicsWithin road (road .tshifts) greatestShift)
     (allBelow (sectionLimited road) (length (road .sections))) (allBelow (profileLimited road) (length (road .profiles))) (allBelow (λ i. stripLimited road (stripAt road i)) 4))

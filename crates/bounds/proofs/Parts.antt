@@ -7,7 +7,8 @@ use lib.Ieee.{Float, le}
 use Rattle.float_laws.specs.Binary64.{_⊕_, _⊖_, _⊗_, f64, absOf}
 use Rattle.cubics.specs.declared.cubics.Cubic.{Cubic}
 use Rattle.cubics.specs.Cubics.{cubicAt}
-use Rattle.ranges.specs.Bounds.{inRange, atLeastZero, endAt, reachAt, boundOf, boundAt, slopeBoundOf, cubicWithin}
+use Rattle.ranges.specs.Ranges.{inRange, atLeastZero}
+use Rattle.bounds.specs.Bounds.{endAt, reachMargin, reachAt, boundOf, boundAt, slopeBoundOf, cubicWithin}
 
 module _ (k : Cubic) (D : Float) {b c d : Float} where
   pub bound-by : {a : Float} → a ≡ absOf (k .a) → b ≡ absOf (k .b) → c ≡ absOf (k .c) → d ≡ absOf (k .d) → ((a ⊕ b ⊗ D) ⊕ c ⊗ D ⊗ D) ⊕ d ⊗ D ⊗ D ⊗ D ≡ boundOf k D
@@ -19,7 +20,7 @@ module _ (k : Cubic) (D : Float) {b c d : Float} where
   slope-bound-by f g h = rw (f, g, h)
 
 module _ (cs : List Cubic) (end : Float) (i : ℕ) {k : Cubic} (at : k ≡ cubicAt cs i) where
-  pub reach-by : {e x : Float} → e ≡ endAt cs end i → x ≡ atLeastZero (e ⊖ k .start) → x ⊕ f64 0x3f50_624d_d2f1_a9fc ≡ reachAt cs end i
+  pub reach-by : {e x : Float} → e ≡ endAt cs end i → x ≡ atLeastZero (e ⊖ k .start) → x ⊕ reachMargin ≡ reachAt cs end i
   unfolding reachAt
   reach-by f g = rw (g, f, at)
 

@@ -9,7 +9,10 @@ ghost use Prim.Native.Nat.{_<_};
 ghost use lib.ListN.{length};
 ghost use lib.Ieee.{le, lt};
 ghost use Rattle.cubics.specs.Cubics.{cubicsOf, cubicAt};
-ghost use Rattle.ranges.specs.Bounds.{endAt, reachAt, boundOf, boundAt, slopeBoundOf, cubicWithin, cubicsWithin, slopesWithin, greatestBound};
+ghost use Rattle.bounds.specs.Bounds.{endAt, reachAt, boundOf, boundAt, slopeBoundOf, cubicWithin, cubicsWithin, slopesWithin, greatestBound};
+
+// What a reach has more than the way to the next start.
+const REACH_MARGIN: f64 = 0.001;
 
 // Where the i-th cubic ends: at the next start, the last at the list's end.
 fn end_at(part: &[f64], end: f64, i: usize) -> f64
@@ -30,7 +33,7 @@ fn reach(part: &[f64], end: f64, i: usize) -> f64
     ensures { λ r. ⌜ r ≡ reachAt (cubicsOf (now (part .entry))) end i ⌝ }
 {
     let c = cubics::cubic_at(part, i);
-    at_least_zero(end_at(part, end, i) - c.start) + 0.001
+    at_least_zero(end_at(part, end, i) - c.start) + REACH_MARGIN
 }
 
 // The bound B of a cubic over a reach d.

@@ -1,6 +1,7 @@
 // The active record of a lent slice of cubics, by the same rule as in a part of the lent numbers.
 use cubics::Cubic;
 use records::Found;
+use stations::ACTIVE_MARGIN;
 use stations::found_of;
 ghost use mathlib.Core.Path.{_≡_};
 ghost use Prim.Native.Nat.{ℕ};
@@ -9,7 +10,7 @@ ghost use Rattle.cubics.specs.Cubics.{cubicAt};
 ghost use Rattle.records.specs.Active.{lastStart, foundOf, activeIn};
 
 // The same scan over a lent slice of cubics.
-fn reach_in(records: &[Cubic], limit: f64) -> usize
+fn last_started_in(records: &[Cubic], limit: f64) -> usize
     ensures { λ r. ⌜ foundOf r ≡ lastStart (λ (i : ℕ). cubicAt (now (records .entry)) i .start) limit (length (now (records .entry))) ⌝ }
 {
     let mut i = records.len();
@@ -28,5 +29,5 @@ fn reach_in(records: &[Cubic], limit: f64) -> usize
 pub fn active_in(records: &[Cubic], s: f64) -> Found
     ensures { λ r. ⌜ r ≡ activeIn (now (records .entry)) s ⌝ }
 {
-    found_of(reach_in(records, s + 1e-9))
+    found_of(last_started_in(records, s + ACTIVE_MARGIN))
 }

@@ -14,8 +14,8 @@ use Rattle.lent.specs.Lists.{table, allBelow}
 use Rattle.records.specs.Roads.{roadOf, heightsOf}
 use Rattle.spirals.specs.Spiral.{goesOn, stepsFrom, spiralSteps, sampleCount, samplesBefore, samplesNeeded}
 use Rattle.structure.specs.Structure.{structured}
-use Rattle.structure.specs.Order.{neverFall, riseStrictly, apart, cubicsInOrder, laneInOrder, sectionInOrder, profilesInOrder, stripInOrder, ordered}
-use Rattle.ranges.specs.Bounds.{reachAt, boundOf, slopeBoundOf, cubicWithin, cubicsWithin, slopesWithin, greatest, greatestBound}
+use Rattle.ordering.specs.Order.{neverFall, riseStrictly, apart, cubicsInOrder, laneInOrder, sectionInOrder, profilesInOrder, stripInOrder, ordered}
+use Rattle.bounds.specs.Bounds.{reachAt, boundOf, slopeBoundOf, cubicWithin, cubicsWithin, slopesWithin, greatest, greatestBound}
 use Rattle.bounds.specs.Limits.{shapeLimited, geomLimited, sectionExtent, heightLimited, heightsLimited, laneLimited, sectionLimited, profileLimited, stripLimited, limited}
 use Rattle.admission.specs.Admission.{admitted}
 use Rattle.admission.specs.Samples.{sampledList}

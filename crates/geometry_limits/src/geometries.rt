@@ -5,23 +5,42 @@ use ranges::abs;
 use ranges::in_range;
 use ranges::sized;
 use records::GeomShape;
+use records::STRAIGHT_CURVATURE;
 ghost use mathlib.Core.Path.{_≡_};
 ghost use mathlib.Core.Bool.{_&&_};
 ghost use lib.ListN.{length};
-ghost use Rattle.float_laws.specs.Binary64.{f64};
 ghost use Rattle.lent.specs.Lists.{allBelow};
 ghost use Rattle.records.specs.Roads.{roadOf};
-ghost use Rattle.ranges.specs.Bounds.{slopesWithin};
-ghost use Rattle.bounds.specs.Limits.{roadCubicsWithin, shapeLimited, geomLimited};
+ghost use Rattle.bounds.specs.Bounds.{slopesWithin};
+ghost use Rattle.bounds.specs.Limits.{greatestElevation, greatestGrade, roadCubicsWithin, shapeLimited, geomLimited};
 
 // ---- geometries
+const GREATEST_PLACE: f64 = 1000000.0;
+
+const GREATEST_HEADING: f64 = 1000.0;
+
+const LEAST_GEOM_LENGTH: f64 = 0.01;
+
+const GREATEST_GEOM_LENGTH: f64 = 10000.0;
+
+const LEAST_ARC_CURVATURE: f64 = 0.00001;
+
+const GREATEST_ARC_CURVATURE: f64 = 1.0;
+
+const GREATEST_SPIRAL_CURVATURE: f64 = 1.0;
+
 fn shape_limited(shape: GeomShape) -> bool
     ensures { λ r. ⌜ r ≡ shapeLimited shape ⌝ }
 {
     match shape {
         GeomShape::Line => true,
-        GeomShape::Arc(k) => sized(1e-9, k) | in_range(0.00001, 1.0, abs(k)),
-        GeomShape::Spiral(a, b) => sized(1.0, a) & sized(1.0, b),
+        GeomShape::Arc(k) => {
+            sized(STRAIGHT_CURVATURE, k)
+                | in_range(LEAST_ARC_CURVATURE, GREATEST_ARC_CURVATURE, abs(k))
+        }
+        GeomShape::Spiral(a, b) => {
+            sized(GREATEST_SPIRAL_CURVATURE, a) & sized(GREATEST_SPIRAL_CURVATURE, b)
+        }
     }
 }
 
@@ -30,10 +49,13 @@ fn geom_limited(words: &[u16], numbers: &[f64], i: usize) -> bool
 {
     let g = geometry::geom(words, numbers, i);
     let start = in_range(0.0, records::road_length(words, numbers), g.s);
-    let place = start & sized(1000000.0, g.x) & sized(1000000.0, g.y) & sized(1000.0, g.hdg);
+    let place = start
+        & sized(GREATEST_PLACE, g.x)
+        & sized(GREATEST_PLACE, g.y)
+        & sized(GREATEST_HEADING, g.hdg);
     let shape = g.shape;
     place
-        & in_range(0.01, 10000.0, g.length)
+        & in_range(LEAST_GEOM_LENGTH, GREATEST_GEOM_LENGTH, g.length)
         & shape_limited(shape)
         & geometry::unused_zero(words, numbers, i)
 }
@@ -52,10 +74,15 @@ pub fn geoms_limited(words: &[u16], numbers: &[f64]) -> bool
 }
 
 // ---- the road
+const GREATEST_ELEVATION: f64 = 10000.0;
+
+const GREATEST_GRADE: f64 = 1.0;
+
 pub fn elevations_limited(words: &[u16], numbers: &[f64]) -> bool
-    ensures { λ r. ⌜ r ≡ (roadCubicsWithin (roadOf (now (words .entry)) (now (numbers .entry))) (roadOf (now (words .entry)) (now (numbers .entry)) .elevations) (f64 0x40c3_8800_0000_0000) && slopesWithin (roadOf (now (words .entry)) (now (numbers .entry)) .elevations) (roadOf (now (words .entry)) (now (numbers .entry)) .length) (f64 0x3ff0_0000_0000_0000)) ⌝ }
+    ensures { λ r. ⌜ r ≡ (roadCubicsWithin (roadOf (now (words .entry)) (now (numbers .entry))) (roadOf (now (words .entry)) (now (numbers .entry)) .elevations) greatestElevation && slopesWithin (roadOf (now (words .entry)) (now (numbers .entry)) .elevations) (roadOf (now (words .entry)) (now (numbers .entry)) .length) greatestGrade) ⌝ }
 {
     let length = records::road_length(words, numbers);
     let elevations = records::elevations(words, numbers);
-    cubics_within(elevations, 0.0, length, length, 10000.0) & slopes_within(elevations, length, 1.0)
+    cubics_within(elevations, 0.0, length, length, GREATEST_ELEVATION)
+        & slopes_within(elevations, length, GREATEST_GRADE)
 }

@@ -14,7 +14,7 @@ use Rattle.trigonometry.proofs.SineKernel.{point-75, point-76}
 use Rattle.sine_laws.proofs.SineLaws.{tan-within}
 use Rattle.records.specs.Active.{valueIn}
 use Rattle.records.specs.Roads.{Road, roadOf, noLane, sectionOf, sectionIndex}
-use Rattle.ranges.specs.Bounds.{inRange}
+use Rattle.ranges.specs.Ranges.{inRange}
 use Rattle.bounds.specs.Limits.{onRoad}
 use Rattle.limit_laws.proofs.Fitting.{Fits64, Fitting}
 use Rattle.limit_laws.proofs.RoadBounds.{OnRoad, superelevation-within}

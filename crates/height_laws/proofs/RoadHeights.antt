@@ -9,19 +9,20 @@ use lib.ListN.{length}
 use lib.Dec.{T, ltb, ltb→lt, nltb→le}
 use lib.Ieee.{Float, binary64, ofBits, fits, le, neg, add}
 use lib.Ieee.Scale.{finite}
-use Rattle.float_laws.specs.Binary64.{_⊕_, _⊖_, _⊗_, f64, zero64}
+use Rattle.float_laws.specs.Binary64.{_⊕_, _⊖_, _⊗_, zero64}
 use Rattle.float_laws.proofs.Size.{Within, within-mono, within-const}
 use Rattle.records.specs.declared.points.HeightDef.{HeightDef}
 use Rattle.records.specs.Active.{valueIn}
 use Rattle.records.specs.Roads.{Road, Strip, StripDef, absent, present, columnOf, laneOf, profileAt, stripAt, heightDefAt, sectionIndex}
 use Rattle.records.proofs.CubicLaws.{value-at}
-use Rattle.bounds.specs.Limits.{sectionExtent}
+use Rattle.ranges.specs.Ranges.{largest}
+use Rattle.bounds.specs.Limits.{greatestLength, greatestShape, farthestAcross, greatestStripHeight, sectionExtent}
 use Rattle.limit_laws.proofs.LimitParts.{limited-parts, laneCount, lane-parts, height-parts}
 use Rattle.limit_laws.proofs.RoadBounds.{OnRoad, Across, sized-within, station-within, tshift-within, profile-start-in, shape-within, shape-constant-within, strip-height-within, height-inner-within, height-outer-within}
 use Rattle.lateral.specs.Lateral.{stripHeight, shapeOf, crossHeight, heightToward, heightOf}
-use Rattle.lateral_laws.proofs.StationBounds.{far, largest}
+use Rattle.lateral_laws.proofs.StationBounds.{far}
 use Rattle.lateral_laws.proofs.StripBounds.{StripWithin, cross-within}
-use Rattle.lateral_laws.proofs.LateralBounds.{two-wide, wider-two, height-within, ProfilesAt, profile-within, forty, forty-wide, wider-forty, shape-within as profiles-within, shift-within, height-most, toward-most}
+use Rattle.lateral_laws.proofs.LateralBounds.{two-wide, wider-two, height-within, ProfilesAt, profile-within, forty-wide, wider-forty, shape-within as profiles-within, shift-within, height-most, toward-most}
 use Rattle.lanes.proofs.BorderLaws.{eighty}
 use Rattle.admission_laws.proofs.AdmittedRoad.{Admits, within-across, s-near, section-there, into, into-near}
 
@@ -35,17 +36,17 @@ largest-own : Within binary64 largest largest
 unfolding ofBits fits le neg
 largest-own = within-const binary64 largest largest tt
 
-forty-own : Within binary64 forty forty
+strip-own : Within binary64 greatestStripHeight greatestStripHeight
 unfolding ofBits fits le neg
-forty-own = within-const binary64 forty forty tt
+strip-own = within-const binary64 greatestStripHeight greatestStripHeight tt
 
-ten-thousand-far : T (le (f64 0x40c3_8800_0000_0000) far)
+length-far : T (le greatestLength far)
 unfolding ofBits le
-ten-thousand-far = tt
+length-far = tt
 
-forty-twice : T (finite (forty ⊕ forty)) × (forty ⊕ forty ≡ eighty)
+strips-twice : T (finite (greatestStripHeight ⊕ greatestStripHeight)) × (greatestStripHeight ⊕ greatestStripHeight ≡ eighty)
 unfolding ofBits add
-forty-twice = (tt, refl)
+strips-twice = (tt, refl)
 
 no-strip : (strip : Strip) (d : StripDef) → strip ≡ absent → strip ≡ present d → ⊥
 no-strip strip d e f = let z : _≡_ {A = ℕ} 0 1 = cc in omega arith
@@ -53,37 +54,37 @@ no-strip strip d e f = let z : _≡_ {A = ℕ} 0 1 = cc in omega arith
 module _ (road : Road) (a : Admits road) (s : Float) (o : OnRoad road s) where
   -- ---- at t
   module _ (t : Float) (c : Across t) where
-    profiles : ProfilesAt road t forty
+    profiles : ProfilesAt road t greatestShape
     profiles =
         record {
           starts = λ i l.
               let z = profile-start-in road (a .fit) (a .limits) i l in
               let w = station-within road (a .fit) (a .limits) (profileAt road i .s) (record { fits = z .value .fits; above = z .above; below = z .below }) in
-              within-mono binary64 (profileAt road i .s) (f64 0x40c3_8800_0000_0000) far w (far-own .bound) ten-thousand-far;
+              within-mono binary64 (profileAt road i .s) greatestLength far w (far-own .bound) length-far;
           values = λ i l.
-              profile-within road i t forty
-              (λ k e. subst (λ (v : Float). Within binary64 v forty) (value-at (profileAt road i .shapes) t k e) (shape-within road (a .fit) (a .limits) i l t c))
+              profile-within road i t greatestShape
+              (λ k e. subst (λ (v : Float). Within binary64 v greatestShape) (value-at (profileAt road i .shapes) t k e) (shape-within road (a .fit) (a .limits) i l t c))
               (λ e. shape-constant-within road (a .fit) (a .limits) i l t c 0 (a .shapes i l));
           apart = a .order .profiles;
         }
 
-    shifted : Within binary64 (t ⊖ valueIn (road .tshifts) s) (f64 0x4056_0000_0000_0000)
+    shifted : Within binary64 (t ⊖ valueIn (road .tshifts) s) farthestAcross
     shifted = shift-within t (valueIn (road .tshifts) s) (within-across t c) (tshift-within road (a .fit) (a .limits) s o)
 
   -- a strip's height, as far out as 88
-  strip-there : (i : ℕ) → i < 4 → (d : StripDef) → stripAt road i ≡ present d → StripWithin s (f64 0x4056_0000_0000_0000) forty d
+  strip-there : (i : ℕ) → i < 4 → (d : StripDef) → stripAt road i ≡ present d → StripWithin s farthestAcross greatestStripHeight d
   unfolding stripHeight
   strip-there i l d e dt w =
       subst
       (λ (x : Strip).
       Within binary64
-      ((((zero64 ⊗ dt ⊕ valueIn (columnOf x 4) s) ⊗ dt ⊕ valueIn (columnOf x 3) s) ⊗ dt ⊕ valueIn (columnOf x 2) s) ⊗ dt ⊕ valueIn (columnOf x 1) s) forty)
+      ((((zero64 ⊗ dt ⊕ valueIn (columnOf x 4) s) ⊗ dt ⊕ valueIn (columnOf x 3) s) ⊗ dt ⊕ valueIn (columnOf x 2) s) ⊗ dt ⊕ valueIn (columnOf x 1) s) greatestStripHeight)
       e (strip-height-within road (a .fit) (a .limits) i l s o dt w)
 
-  strips : (i : ℕ) (d : StripDef) → stripAt road i ≡ present d → StripWithin s (f64 0x4056_0000_0000_0000) forty d
+  strips : (i : ℕ) (d : StripDef) → stripAt road i ≡ present d → StripWithin s farthestAcross greatestStripHeight d
   strips i d e = go (ltb i 4) (ltb→lt i 4) (nltb→le i 4)
     where
-      go : (b : Bool) → (T b → i < 4) → (T (not b) → 4 ≤ i) → StripWithin s (f64 0x4056_0000_0000_0000) forty d
+      go : (b : Bool) → (T b → i < 4) → (T (not b) → 4 ≤ i) → StripWithin s farthestAcross greatestStripHeight d
       go true h k = strip-there i (h tt) d e
       go false h k = absurd (no-strip (stripAt road i) d (a .strips i (k tt)) e)
 
@@ -95,8 +96,8 @@ module _ (road : Road) (a : Admits road) (s : Float) (o : OnRoad road s) where
     -- 80
     pub cross-kept : (toward : Float) → Within binary64 (crossHeight road s t toward) eighty
     cross-kept toward =
-        subst (λ (x : Float). Within binary64 (crossHeight road s t toward) x) (forty-twice .1)
-        (cross-within road s t toward (f64 0x4056_0000_0000_0000) forty (shifted t c) (forty-own .bound) (forty-own .plus) (forty-twice .0) strips)
+        subst (λ (x : Float). Within binary64 (crossHeight road s t toward) x) (strips-twice .1)
+        (cross-within road s t toward farthestAcross greatestStripHeight (shifted t c) (strip-own .bound) (strip-own .plus) (strips-twice .0) strips)
 
     -- 120.001
     pub toward-kept : (toward : Float) → Within binary64 (heightToward road s t toward) height-most

@@ -7,11 +7,11 @@ use lib.Dec.{leb}
 use lib.Ieee.{Float, neg}
 use lib.ListN.{length}
 use borrow.Author.Tests.{not-true, not-false}
-use Rattle.float_laws.specs.Binary64.{f64}
 use Rattle.refusals.specs.Answer.{Answer, value, refused, checked}
 use Rattle.records.specs.Roads.{Road, roadOf}
-use Rattle.ranges.specs.Bounds.{inRange}
+use Rattle.ranges.specs.Ranges.{inRange}
 use Rattle.bounds.specs.Limits.{onRoad}
+use Rattle.places.specs.Places.{halfWidth}
 use Rattle.admission.specs.Admission.{admissionOf}
 use Rattle.admission.proofs.AdmissionLaws.{road-refused, road-admitted, value-admitted}
 use Rattle.lanes.specs.Borders.{lanesOf}
@@ -73,7 +73,7 @@ module _ (words : List ℕ) (numbers : List Float) where
     pub name-off : not a ≡ true → refused 7 ≡ checked (nameRows words numbers s t) (value (nameAt words numbers s t))
     name-off h = rw (sym e ∙ not-true a h)
 
-    module _ (h : not a ≡ false) {b : Bool} (f : b ≡ inRange (neg (f64 0x4054_0000_0000_0000)) (f64 0x4054_0000_0000_0000) t) where
+    module _ (h : not a ≡ false) {b : Bool} (f : b ≡ inRange (neg halfWidth) halfWidth t) where
       pub name-beyond : not b ≡ true → refused 8 ≡ checked (nameRows words numbers s t) (value (nameAt words numbers s t))
       name-beyond k = rw (sym e ∙ not-false a h, sym f ∙ not-true b k)
 

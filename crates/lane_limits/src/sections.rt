@@ -1,5 +1,6 @@
 // Row 4 of sections and lanes.
 use bounds::cubics_within;
+use ranges::LARGEST;
 use ranges::in_range;
 use ranges::sized;
 use records::HeightDef;
@@ -7,10 +8,15 @@ ghost use mathlib.Core.Path.{_≡_};
 ghost use mathlib.Core.Bool.{cond};
 ghost use Prim.Native.Nat.{ℕ, _<_};
 ghost use lib.ListN.{length};
-ghost use Rattle.float_laws.specs.Binary64.{f64};
 ghost use Rattle.lent.specs.Lists.{allBelow};
 ghost use Rattle.records.specs.Roads.{roadOf, laneOf, heightsOf};
-ghost use Rattle.bounds.specs.Limits.{sectionExtent, heightLimited, heightsLimited, laneLimited, sectionLimited};
+ghost use Rattle.bounds.specs.Limits.{greatestWidth, greatestBorder, sectionExtent, heightLimited, heightsLimited, laneLimited, sectionLimited};
+
+const GREATEST_LANE_HEIGHT: f64 = 2.0;
+
+const GREATEST_WIDTH: f64 = 8.0;
+
+const GREATEST_BORDER: f64 = 36.0;
 
 // ---- sections and their lanes
 // How far a section reaches: to the next one's start, the last to the road's end.
@@ -30,7 +36,9 @@ fn section_extent(words: &[u16], numbers: &[f64], i: usize) -> f64
 fn height_limited(h: HeightDef) -> bool
     ensures { λ r. ⌜ r ≡ heightLimited h ⌝ }
 {
-    sized(1.7976931348623157e308, h.s_offset) & sized(2.0, h.inner) & sized(2.0, h.outer)
+    sized(LARGEST, h.s_offset)
+        & sized(GREATEST_LANE_HEIGHT, h.inner)
+        & sized(GREATEST_LANE_HEIGHT, h.outer)
 }
 
 fn heights_limited(part: &[f64]) -> bool
@@ -48,9 +56,13 @@ fn heights_limited(part: &[f64]) -> bool
 
 // A border is measured from the center, a width from the lane before.
 fn lane_limit(border: bool) -> f64
-    ensures { λ r. ⌜ r ≡ cond border (f64 0x4042_0000_0000_0000) (f64 0x4020_0000_0000_0000) ⌝ }
+    ensures { λ r. ⌜ r ≡ cond border greatestBorder greatestWidth ⌝ }
 {
-    if border { 36.0 } else { 8.0 }
+    if border {
+        GREATEST_BORDER
+    } else {
+        GREATEST_WIDTH
+    }
 }
 
 fn lane_limited(
@@ -65,13 +77,7 @@ fn lane_limited(
 {
     let limit = lane_limit(lane_records::lane_is_border(words, numbers, section, right, k));
     let extents = lane_records::extents(words, numbers, section, right, k);
-    let within = cubics_within(
-        extents,
-        -1.7976931348623157e308,
-        1.7976931348623157e308,
-        extent,
-        limit,
-    );
+    let within = cubics_within(extents, -LARGEST, LARGEST, extent, limit);
     within & heights_limited(lane_records::heights(words, numbers, section, right, k))
 }
 

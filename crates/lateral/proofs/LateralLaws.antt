@@ -15,7 +15,7 @@ use Rattle.records.specs.declared.points.StripKind.the-variants.{Absent, Absolu
 use Rattle.records.specs.declared.points.Found.{Found}
 use Rattle.records.specs.declared.points.Found.the-variants.{At, Nothing}
 use Rattle.cubics.specs.Cubics.{cubicsOf, cubicAt, evalAt}
-use Rattle.records.specs.Active.{activeIn, valueIn, lastStart, reached}
+use Rattle.records.specs.Active.{activeIn, valueIn, lastStart, activeUpTo}
 use Rattle.records.specs.Roads.{Road, Strip, StripDef, absent, present, profileAt, stripAt, heightsOf, heightDefAt, kindOf, columnOf}
 use Rattle.records.proofs.ScanLaws.{lastStart-below}
 use Rattle.cubics.proofs.CubicTables.{cubic-count}
@@ -27,7 +27,7 @@ use Rattle.lateral.specs.Lateral.{shapeBy, profileHeight, shapeBetween, 
 
 -- the last height at or before s + 1e-9
 abbrev pub heightPlace : List HeightDef → Float → Found
-heightPlace hs s = lastStart (λ (i : ℕ). heightDefAt hs i .«s_offset») (reached s) (length hs)
+heightPlace hs s = lastStart (λ (i : ℕ). heightDefAt hs i .«s_offset») (activeUpTo s) (length hs)
 
 module _ (hs : List HeightDef) (s : Float) where
   pub height-next : (i : ℕ) → heightPlace hs s ≡ At i → i + 1 < length hs → heightOf hs s ≡ heightBetween (heightDefAt hs i) (heightDefAt hs (i + 1)) s
@@ -55,7 +55,7 @@ module _ (xs : List Float) (s : Float) {r : Found} (place : r ≡ heightPlace (h
   pub height-below : (i : ℕ) → r ≡ At i → i < length xs / 3
   height-below i e =
       let n = height-count xs in
-      let h = lastStart-below (λ (k : ℕ). heightDefAt (heightsOf xs) k .«s_offset») (reached s) (length (heightsOf xs)) i (sym place ∙ e) in
+      let h = lastStart-below (λ (k : ℕ). heightDefAt (heightsOf xs) k .«s_offset») (activeUpTo s) (length (heightsOf xs)) i (sym place ∙ e) in
       omega arith
 
   pub height-by-next :
@@ -76,11 +76,11 @@ module _ (xs : List Float) (s : Float) {r : Found} (place : r ≡ heightPlace (h
 
 -- the last profile at or before s + 1e-9
 abbrev pub profilePlace : Road → Float → Found
-profilePlace road s = lastStart (λ (i : ℕ). profileAt road i .s) (reached s) (length (road .profiles))
+profilePlace road s = lastStart (λ (i : ℕ). profileAt road i .s) (activeUpTo s) (length (road .profiles))
 
 module _ (road : Road) (s t : Float) (n : ℕ) (count : n ≡ length (road .profiles)) {r : Found} (place : r ≡ profilePlace road s) where
   pub profile-below : (i : ℕ) → r ≡ At i → i < n
-  profile-below i e = rw count (lastStart-below (λ (k : ℕ). profileAt road k .s) (reached s) (length (road .profiles)) i (sym place ∙ e))
+  profile-below i e = rw count (lastStart-below (λ (k : ℕ). profileAt road k .s) (activeUpTo s) (length (road .profiles)) i (sym place ∙ e))
 
   pub shape-next : (i : ℕ) → r ≡ At i → i + 1 < n → shapeBetween road i s t ≡ shapeOf road s t
   unfolding shapeOf

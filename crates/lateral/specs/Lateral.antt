@@ -11,7 +11,7 @@ use Rattle.records.specs.declared.points.HeightDef.{HeightDef}
 use Rattle.records.specs.declared.points.Found.{Found}
 use Rattle.records.specs.declared.points.Found.the-variants.{At, Nothing}
 use Rattle.cubics.specs.Cubics.{cubicAt, evalAt}
-use Rattle.records.specs.Active.{activeIn, valueIn, lastStart, reached}
+use Rattle.records.specs.Active.{activeIn, valueIn, lastStart, activeUpTo}
 use Rattle.records.specs.Roads.{Road, Profile, Lane, Strip, StripDef, absent, present, profileAt, stripAt, heightDefAt, columnBy}
 use Rattle.lateral.specs.declared.pairs.Pair.{Pair}
 
@@ -44,7 +44,7 @@ shapeFrom road s t Nothing = cond (eqb (length (road .profiles)) 0) zero64 (prof
 -- `shape_at`
 unfoldable pub shapeOf : Road → Float → Float → Float
 unfolding lastStart shapeBetween profileHeight
-shapeOf road s t = shapeFrom road s t (lastStart (λ i. profileAt road i .s) (reached s) (length (road .profiles)))
+shapeOf road s t = shapeFrom road s t (lastStart (λ i. profileAt road i .s) (activeUpTo s) (length (road .profiles)))
 
 -- ---- `height_at`: a lane's heights, s metres into its section, by the same rule
 
@@ -67,7 +67,7 @@ heightFrom hs s Nothing = cond (eqb (length hs) 0) noHeights (heightHeld (height
 
 unfoldable pub heightOf : List HeightDef → Float → Pair
 unfolding lastStart
-heightOf hs s = heightFrom hs s (lastStart (λ i. heightDefAt hs i .«s_offset») (reached s) (length hs))
+heightOf hs s = heightFrom hs s (lastStart (λ i. heightDefAt hs i .«s_offset») (activeUpTo s) (length hs))
 
 -- ---- the cross section
 
@@ -104,8 +104,11 @@ bySide absent outer s t sign = zero64
 bySide (present inner) outer s t sign = byWidth inner outer s t sign (activeIn (inner .width) s)
 
 -- "at |t - offset| < 1e-9 the side is that of `toward` (left if positive)"
+abbrev pub ridgeMargin : Float
+ridgeMargin = f64 0x3e11_2e0b_e826_d695
+
 abbrev pub isLeft : Float → Float → Bool
-isLeft t toward = cond (lt (absOf t) (f64 0x3e11_2e0b_e826_d695)) (lt zero64 toward) (lt zero64 t)
+isLeft t toward = cond (lt (absOf t) ridgeMargin) (lt zero64 toward) (lt zero64 t)
 
 -- the strips of the side: left inner and outer, or right inner and outer
 abbrev pub crossBy : Road → Float → Float → Bool → Float

@@ -16,11 +16,14 @@ use Rattle.records.specs.declared.points.HeightDef.{HeightDef}
 use Rattle.records.specs.declared.points.Found.{Found}
 use Rattle.records.specs.declared.points.Found.the-variants.{At, Nothing}
 use Rattle.cubics.specs.Cubics.{cubicAt, evalAt}
-use Rattle.records.specs.Active.{activeIn, valueIn, lastStart, reached}
+use Rattle.records.specs.Active.{activeIn, valueIn, lastStart, activeUpTo}
 use Rattle.records.specs.Roads.{Road, StripDef, present, profileAt, stripAt, heightDefAt}
 use Rattle.lateral.specs.declared.pairs.Pair.{Pair}
+use Rattle.ranges.specs.Ranges.{largest}
+use Rattle.bounds.specs.Limits.{greatestLaneHeight, greatestShift, greatestShape, farthestAcross, greatestStripHeight}
+use Rattle.places.specs.Places.{halfWidth}
 use Rattle.lateral.specs.Lateral.{blend, shapeBy, profileHeight, shapeBetween, shapeFrom, shapeOf, heightBetween, heightHeld, noHeights, heightFrom, heightOf, crossHeight, heightToward}
-use Rattle.lateral_laws.proofs.StationBounds.{Stations, Wider, starts-far, starts-any, far, largest, between, along, along-within}
+use Rattle.lateral_laws.proofs.StationBounds.{Stations, Wider, starts-far, starts-any, far, between, along, along-within}
 use Rattle.lateral_laws.proofs.StripBounds.{StripWithin, cross-within}
 
 -- ---- a lane's heights
@@ -54,7 +57,7 @@ module _ (hs : List HeightDef) (s : Float) (border : HeightDef → Float) (part 
   border-within : {A B : Float} {j : ℕ} → Wider A B j → HeightsAt hs border A → Within binary64 s far → Within binary64 (part (heightOf hs s)) B
   unfolding heightOf
   border-within {A} {B} {j} w k ws =
-      subst (λ (x : Float). Within binary64 x B) (border-along (lastStart (λ (i : ℕ). heightDefAt hs i .«s_offset») (reached s) (length hs)))
+      subst (λ (x : Float). Within binary64 x B) (border-along (lastStart (λ (i : ℕ). heightDefAt hs i .«s_offset») (activeUpTo s) (length hs)))
       (along-within (λ (i : ℕ). heightDefAt hs i .«s_offset») (λ (i : ℕ). border (heightDefAt hs i)) (length hs) s largest A B j starts-any w k ws)
 
 -- heights within A, and B a little larger, s metres into the section
@@ -65,14 +68,11 @@ height-within hs s w ki ko ws = (
   border-within hs s outerOf (λ (p : Pair). p .outer) (λ h. refl) (λ a b. refl) refl w ko ws,
 )
 
--- 2.0, the limit of a lane's heights, and 2.00001
-abbrev pub two : Float
-two = f64 0x4000_0000_0000_0000
-
+-- a lane's heights are limited to 2; 2.00001
 abbrev pub two-wide : Float
 two-wide = f64 0x4000_0005_3e2d_6239
 
-pub wider-two : Wider two two-wide 1075
+pub wider-two : Wider greatestLaneHeight two-wide 1075
 unfolding ofBits fits mi pl div
 wider-two = record { size = lit≤ tt; exponent = lit< tt; real = good-real binary64 two-wide tt; plus = refl; room = lit≤ tt }
 
@@ -103,26 +103,23 @@ shape-along road s t Nothing = refl
 pub shape-within : (road : Road) (s t : Float) {A B : Float} {j : ℕ} → Wider A B j → ProfilesAt road t A → Within binary64 s far → Within binary64 (shapeOf road s t) B
 unfolding shapeOf
 shape-within road s t {A} {B} {j} w k ws =
-    subst (λ (x : Float). Within binary64 x B) (shape-along road s t (lastStart (λ (i : ℕ). profileAt road i .s) (reached s) (length (road .profiles))))
+    subst (λ (x : Float). Within binary64 x B) (shape-along road s t (lastStart (λ (i : ℕ). profileAt road i .s) (activeUpTo s) (length (road .profiles))))
     (along-within (λ (i : ℕ). profileAt road i .s) (λ (i : ℕ). profileHeight road i t) (length (road .profiles)) s far A B j starts-far w k ws)
 
--- 40.0, the limit of a shape, and 40.001
-abbrev pub forty : Float
-forty = f64 0x4044_0000_0000_0000
-
+-- a shape is limited to 40; 40.001
 abbrev pub forty-wide : Float
 forty-wide = f64 0x4044_0020_c49b_a5e3
 
-pub wider-forty : Wider forty forty-wide 1080
+pub wider-forty : Wider greatestShape forty-wide 1080
 unfolding ofBits fits mi pl div
 wider-forty = record { size = lit≤ tt; exponent = lit< tt; real = good-real binary64 forty-wide tt; plus = refl; room = lit≤ tt }
 
 -- ---- the cross section and the whole
 
 -- t within 80 and a shift within 8: within 88 of the ridge
-pub shift-within : (t v : Float) → Within binary64 t (f64 0x4054_0000_0000_0000) → Within binary64 v (f64 0x4020_0000_0000_0000) → Within binary64 (t ⊖ v) (f64 0x4056_0000_0000_0000)
+pub shift-within : (t v : Float) → Within binary64 t halfWidth → Within binary64 v greatestShift → Within binary64 (t ⊖ v) farthestAcross
 unfolding ofBits add
-shift-within t v w u = sub-within binary64 t v (f64 0x4054_0000_0000_0000) (f64 0x4020_0000_0000_0000) w u tt
+shift-within t v w u = sub-within binary64 t v halfWidth greatestShift w u tt
 
 -- profiles and cross section together
 pub toward-within :
@@ -136,8 +133,8 @@ height-most = f64 0x405e_0010_624d_d2f2
 
 -- profiles within 40 at t, strips within 40 as far out as 88, and t within 88 of the ridge: the height is within 120.001
 pub toward-most :
-    (road : Road) (s t toward : Float) → ProfilesAt road t forty → Within binary64 s far → Within binary64 (t ⊖ valueIn (road .tshifts) s) (f64 0x4056_0000_0000_0000)
-    → ((i : ℕ) (d : StripDef) → stripAt road i ≡ present d → StripWithin s (f64 0x4056_0000_0000_0000) forty d) → Within binary64 (heightToward road s t toward) height-most
+    (road : Road) (s t toward : Float) → ProfilesAt road t greatestShape → Within binary64 s far → Within binary64 (t ⊖ valueIn (road .tshifts) s) farthestAcross
+    → ((i : ℕ) (d : StripDef) → stripAt road i ≡ present d → StripWithin s farthestAcross greatestStripHeight d) → Within binary64 (heightToward road s t toward) height-most
 unfolding ofBits add fits mi
 toward-most road s t toward k ws wt h =
-    toward-within road s t toward forty-wide (forty ⊕ forty) (shape-within road s t wider-forty k ws) (cross-within road s t toward (f64 0x4056_0000_0000_0000) forty wt (good-real binary64 forty tt) refl tt h) tt
+    toward-within road s t toward forty-wide (greatestStripHeight ⊕ greatestStripHeight) (shape-within road s t wider-forty k ws) (cross-within road s t toward farthestAcross greatestStripHeight wt (good-real binary64 greatestStripHeight tt) refl tt h) tt

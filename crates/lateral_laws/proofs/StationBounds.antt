@@ -17,43 +17,35 @@ use Rattle.float_laws.proofs.Checker.{good-real}
 use Rattle.float_laws.proofs.Interpolate.{interpolate-within-outside}
 use Rattle.records.specs.declared.points.Found.{Found}
 use Rattle.records.specs.declared.points.Found.the-variants.{At, Nothing}
-use Rattle.records.specs.Active.{lastStart, reached}
+use Rattle.records.specs.Active.{activeMargin, lastStart, activeUpTo}
 use Rattle.records.proofs.ScanLaws.{lastStart-below, lastStart-reached, lastStart-after}
+use Rattle.ordering.specs.Order.{leastGap}
+use Rattle.ranges.specs.Ranges.{largest}
 use Rattle.lateral.specs.Lateral.{blend}
 use Rattle.lateral_laws.proofs.Fractions.{Fraction, Margin, fraction}
 
--- ---- the constants: 1e-9 before a station it counts, 0.001 is the least gap, 1.1e-9 has room for a rounding, stations are at most 16,384 from 0
-abbrev pub step : Float
-step = f64 0x3e11_2e0b_e826_d695
-
-abbrev pub gap : Float
-gap = f64 0x3f50_624d_d2f1_a9fc
-
+-- ---- the constants: 1e-9 before a station it counts (`activeMargin`), 1.1e-9 has room for a rounding, stations are at most 16,384 from 0
 abbrev slack : Float
 slack = f64 0x3e12_e5d9_e5c4_5270
 
 abbrev pub far : Float
 far = f64 0x40d0_0000_0000_0000
 
--- the largest f64
-abbrev pub largest : Float
-largest = f64 0x7fef_ffff_ffff_ffff
-
 -- how far below 0 a fraction may lie, in units
 abbrev pub short : ℕ
-short = pl binary64 (slack ⊘ gap)
+short = pl binary64 (slack ⊘ leastGap)
 
 -- starts as large as R may be: `far` for profiles, any number for a lane's heights
 abbrev pub Starts : Float → Type 0
-Starts R = Margin binary64 far R step gap slack 1089
+Starts R = Margin binary64 far R activeMargin leastGap slack 1089
 
 margin-of : (R : Float) → T (finite (add binary64 far R)) → Starts R
 unfolding ofBits fits mi pl div
 margin-of R t =
     record {
-      e-real = good-real binary64 step tt;
+      e-real = good-real binary64 activeMargin tt;
       e-plus = refl;
-      c-real = good-real binary64 gap tt;
+      c-real = good-real binary64 leastGap tt;
       c-plus = refl;
       c-above = lit< tt;
       w-real = good-real binary64 slack tt;
@@ -114,7 +106,7 @@ module _ (start value : ℕ → Float) (n : ℕ) (s : Float) where
 pub record Stations (start value : ℕ → Float) (n : ℕ) (R A : Float) : Type 0 where
   pub starts : (i : ℕ) → i < n → Within binary64 (start i) R
   pub values : (i : ℕ) → i < n → Within binary64 (value i) A
-  pub apart : (i : ℕ) → i + 1 < n → T (le gap (start (i + 1) ⊖ start i))
+  pub apart : (i : ℕ) → i + 1 < n → T (le leastGap (start (i + 1) ⊖ start i))
 
 t-of : {b : Bool} → b ≡ true → T b
 t-of e = subst T (sym e) tt
@@ -123,19 +115,19 @@ t-not : {b : Bool} → b ≡ false → T (not b)
 t-not e = subst (λ (b : Bool). T (not b)) (sym e) tt
 
 module _ (start value : ℕ → Float) (n : ℕ) (s R A B : Float) (j : ℕ) (m : Starts R) (w : Wider A B j) (k : Stations start value n R A) (ws : Within binary64 s far) where
-  between-within : (i : ℕ) → lastStart start (reached s) n ≡ At i → i + 1 < n → Within binary64 (between start value n s i) B
+  between-within : (i : ℕ) → lastStart start (activeUpTo s) n ≡ At i → i + 1 < n → Within binary64 (between start value n s i) B
   between-within i e h =
       let l : i < n = omega arith in
       let o : i < i + 1 = omega arith in
-      let q = fraction binary64 (start i) (start (i + 1)) s step gap slack far R 1089 m ws (k .starts i l) (k .starts (i + 1) h .value) (t-of (lastStart-reached start (reached s) n i e)) (t-not (lastStart-after start (reached s) n i (i + 1) e o h)) (k .apart i h) in
+      let q = fraction binary64 (start i) (start (i + 1)) s activeMargin leastGap slack far R 1089 m ws (k .starts i l) (k .starts (i + 1) h .value) (t-of (lastStart-reached start (activeUpTo s) n i e)) (t-not (lastStart-after start (activeUpTo s) n i (i + 1) e o h)) (k .apart i h) in
       blend-within (value i) (value (i + 1)) ((s ⊖ start i) ⊘ (start (i + 1) ⊖ start i)) w (k .values i l) (k .values (i + 1) h) q
 
-  at-within : (i : ℕ) → lastStart start (reached s) n ≡ At i → Within binary64 (along start value n s (At i)) B
+  at-within : (i : ℕ) → lastStart start (activeUpTo s) n ≡ At i → Within binary64 (along start value n s (At i)) B
   at-within i e = go (ltb (i + 1) n) (ltb-true (i + 1) n)
     where
       go : (b : Bool) → (b ≡ true → i + 1 < n) → Within binary64 (cond b (between start value n s i) (value i)) B
       go true h = between-within i e (h refl)
-      go false h = widened (value i) w (k .values i (lastStart-below start (reached s) n i e))
+      go false h = widened (value i) w (k .values i (lastStart-below start (activeUpTo s) n i e))
 
   none-within : Within binary64 (along start value n s Nothing) B
   none-within = go (eqb n 0) (eqb-false n 0)
@@ -148,9 +140,9 @@ module _ (start value : ℕ → Float) (n : ℕ) (s R A B : Float) (j : ℕ) (m 
       go true h = zero-within B (w .real) (w .plus)
       go false h = widened (value 0) w (k .values 0 (some n (h refl)))
 
-  pub along-within : Within binary64 (along start value n s (lastStart start (reached s) n)) B
-  along-within = go (lastStart start (reached s) n) refl
+  pub along-within : Within binary64 (along start value n s (lastStart start (activeUpTo s) n)) B
+  along-within = go (lastStart start (activeUpTo s) n) refl
     where
-      go : (f : Found) → lastStart start (reached s) n ≡ f → Within binary64 (along start value n s f) B
+      go : (f : Found) → lastStart start (activeUpTo s) n ≡ f → Within binary64 (along start value n s f) B
       go (At i) e = at-within i e
       go Nothing e = none-within

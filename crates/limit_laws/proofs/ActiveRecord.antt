@@ -13,7 +13,7 @@ use Rattle.cubics.specs.declared.cubics.Cubic.{Cubic}
 use Rattle.records.specs.declared.points.Found.{Found}
 use Rattle.records.specs.declared.points.Found.the-variants.{At, Nothing}
 use Rattle.cubics.specs.Cubics.{cubicAt}
-use Rattle.records.specs.Active.{pickFound, lastStart, activeIn, orFirst, reached}
+use Rattle.records.specs.Active.{pickFound, lastStart, activeIn, orFirst, activeUpTo}
 
 never : _≡_ {A = ℕ} 0 1 → ⊥
 never z = absurd (omega arith)
@@ -74,6 +74,6 @@ module _ (start : ℕ → Float) (limit : Float) where
       go (At i) e = found-at start limit n i e
       go Nothing e = absurd (both (le (start 0) limit) l (none-reached n e 0 h))
 
-pub active-at : (cs : List Cubic) (s : Float) (i : ℕ) → activeIn cs s ≡ At i → Active (λ k. cubicAt cs k .start) (reached s) (length cs) i
+pub active-at : (cs : List Cubic) (s : Float) (i : ℕ) → activeIn cs s ≡ At i → Active (λ k. cubicAt cs k .start) (activeUpTo s) (length cs) i
 unfolding activeIn
-active-at cs s i e = found-at (λ k. cubicAt cs k .start) (reached s) (length cs) i e
+active-at cs s i e = found-at (λ k. cubicAt cs k .start) (activeUpTo s) (length cs) i e

@@ -26,23 +26,18 @@ use Rattle.cubics.specs.declared.cubics.Cubic.{Cubic}
 use Rattle.records.specs.declared.points.Found.{Found}
 use Rattle.records.specs.declared.points.Found.the-variants.{At, Nothing}
 use Rattle.cubics.specs.Cubics.{cubicAt, evalBy, slopeBy}
-use Rattle.records.specs.Active.{activeIn, valueIn, slopeIn, reached}
+use Rattle.records.specs.Active.{activeMargin, activeIn, valueIn, slopeIn, activeUpTo}
 use Rattle.records.proofs.CubicLaws.{value-at, value-none, slope-at, slope-none}
-use Rattle.ranges.specs.Bounds.{atLeastZero, endAt, reachAt, boundOf, boundAt, slopeBoundOf, cubicWithin, cubicsWithin, slopesWithin}
+use Rattle.ranges.specs.Ranges.{atLeastZero}
+use Rattle.bounds.specs.Bounds.{endAt, reachMargin, reachAt, boundOf, boundAt, slopeBoundOf, cubicWithin, cubicsWithin, slopesWithin}
 use Rattle.limit_laws.proofs.Fitting.{Fits64, CubicFits, CubicsFit}
 use Rattle.limit_laws.proofs.ActiveRecord.{Active, active-at}
 use Rattle.limit_laws.proofs.LimitParts.{all-at, and-fst, and-snd, true-T}
 
--- ---- the constants: 20,000, 1e-9 and 0.001
+-- ---- the constants: 20,000, and the margins of the active record and of D, 1e-9 and 0.001
 
 abbrev pub far : Float
 far = f64 0x40d3_8800_0000_0000
-
-abbrev nano : Float
-nano = f64 0x3e11_2e0b_e826_d695
-
-abbrev milli : Float
-milli = f64 0x3f50_624d_d2f1_a9fc
 
 -- the error of a sum below 2^15 in size, and 2^15, in units: shut, so that `omega` meets no long number
 unfoldable slack : ℕ
@@ -55,11 +50,11 @@ far-is : pl binary64 far ≡ 20000 * unit
 unfolding ofBits pl unit
 far-is = refl
 
-nano-is : (pl binary64 nano ≤ unit) × (mi binary64 nano ≡ 0)
+nano-is : (pl binary64 activeMargin ≤ unit) × (mi binary64 activeMargin ≡ 0)
 unfolding ofBits pl mi unit
 nano-is = (lit≤ tt, refl)
 
-milli-is : pl binary64 nano * 2 + slack ≤ pl binary64 milli * 2
+milli-is : pl binary64 activeMargin * 2 + slack ≤ pl binary64 reachMargin * 2
 unfolding ofBits pl slack
 milli-is = lit≤ tt
 
@@ -67,39 +62,39 @@ room-is : 20001 * unit < room
 unfolding room unit
 room-is = lit< tt
 
-nano-own : Within binary64 nano nano
+nano-own : Within binary64 activeMargin activeMargin
 unfolding ofBits fits le neg
-nano-own = within-const binary64 nano nano tt
+nano-own = within-const binary64 activeMargin activeMargin tt
 
-milli-own : Within binary64 milli milli
+milli-own : Within binary64 reachMargin reachMargin
 unfolding ofBits fits le neg
-milli-own = within-const binary64 milli milli tt
+milli-own = within-const binary64 reachMargin reachMargin tt
 
-reached-finite : T (finite (far ⊕ nano))
+up-to-finite : T (finite (far ⊕ activeMargin))
 unfolding ofBits add
-reached-finite = tt
+up-to-finite = tt
 
 -- ---- s + 1e-9 is at least s, and less than s + 0.001
 
 module _ (s : Float) (w : Within binary64 s far) where
-  pub reached-real : Real binary64 (reached s)
-  reached-real = add-within binary64 s nano far nano w nano-own reached-finite .value
+  pub up-to-real : Real binary64 (activeUpTo s)
+  up-to-real = add-within binary64 s activeMargin far activeMargin w nano-own up-to-finite .value
 
-  pub reached-grows : T (le s (reached s))
-  reached-grows = add-grow-l binary64 s nano (w .value) (nano-own .value) (nano-own .plus) (reached-real .finite)
+  pub up-to-grows : T (le s (activeUpTo s))
+  up-to-grows = add-grow-l binary64 s activeMargin (w .value) (nano-own .value) (nano-own .plus) (up-to-real .finite)
 
-  near : Near binary64 (reached s) (pl binary64 s + pl binary64 nano) (mi binary64 s + mi binary64 nano) 1 slack
+  near : Near binary64 (activeUpTo s) (pl binary64 s + pl binary64 activeMargin) (mi binary64 s + mi binary64 activeMargin) 1 slack
   unfolding slack room
   near =
-      add-near binary64 s nano 1089 (w .value) (nano-own .value) (reached-real .finite) (near-room (mag binary64 s) (mag binary64 nano) (pl binary64 far) (pl binary64 nano) unit (2 ^ 1089) (w .le) far-is (nano-own .le) (nano-is .0) room-is)
+      add-near binary64 s activeMargin 1089 (w .value) (nano-own .value) (up-to-real .finite) (near-room (mag binary64 s) (mag binary64 activeMargin) (pl binary64 far) (pl binary64 activeMargin) unit (2 ^ 1089) (w .le) far-is (nano-own .le) (nano-is .0) room-is)
     where
       near-room : (m n f p u r : ℕ) → m ≤ f → f ≡ 20000 * u → n ≤ p → p ≤ u → 20001 * u < r → m + n < r
       near-room m n f p u r a b c d e = omega arith
 
-  before : (x : Float) → Real binary64 x → T (le x (reached s)) → pl binary64 x + mi binary64 s ≤ mi binary64 x + pl binary64 s + pl binary64 milli
+  before : (x : Float) → Real binary64 x → T (le x (activeUpTo s)) → pl binary64 x + mi binary64 s ≤ mi binary64 x + pl binary64 s + pl binary64 reachMargin
   before x r h =
-      close (pl binary64 x) (mi binary64 x) (pl binary64 s) (mi binary64 s) (pl binary64 (reached s)) (mi binary64 (reached s)) (pl binary64 nano) (mi binary64 nano) (pl binary64 milli) slack
-      (le→units binary64 x (reached s) r reached-real h) (near .above) (nano-is .1) milli-is
+      close (pl binary64 x) (mi binary64 x) (pl binary64 s) (mi binary64 s) (pl binary64 (activeUpTo s)) (mi binary64 (activeUpTo s)) (pl binary64 activeMargin) (mi binary64 activeMargin) (pl binary64 reachMargin) slack
+      (le→units binary64 x (activeUpTo s) r up-to-real h) (near .above) (nano-is .1) milli-is
     where
       close : (xp xm sp sm rp rm np nm k e : ℕ) → xp + rm ≤ rp + xm → (rp * 1 + (sm + nm)) * 2 ≤ (rm * 1 + (sp + np)) * 2 + e * 1 → nm ≡ 0 → np * 2 + e ≤ k * 2 → xp + sm ≤ xm + sp + k
       close xp xm sp sm rp rm np nm k e a b c d = omega arith
@@ -163,16 +158,16 @@ raised-fin (inf false) n t = t
 raised-fin (fin s m e) n t = tt
 
 -- a difference that is hardly below zero is finite where it is so once raised
-module _ (e st : Float) (re : Real binary64 e) (rs : Real binary64 st) (h : mi binary64 e + pl binary64 st ≤ pl binary64 e + mi binary64 st + pl binary64 milli) where
+module _ (e st : Float) (re : Real binary64 e) (rs : Real binary64 st) (h : mi binary64 e + pl binary64 st ≤ pl binary64 e + mi binary64 st + pl binary64 reachMargin) where
   small-fin : (x : Float) → Real binary64 x → pl binary64 e + mi binary64 st - (mi binary64 e + pl binary64 st) ≤ mag binary64 x → T (finite (e ⊖ st))
   small-fin x r k =
       sub-Is binary64 e st re rs .small (own x r (pl binary64 e + mi binary64 st - (mi binary64 e + pl binary64 st)) k)
-      (own milli (milli-own .value) (mi binary64 e + pl binary64 st - (pl binary64 e + mi binary64 st)) (rest (mag-is binary64 milli)))
+      (own reachMargin (milli-own .value) (mi binary64 e + pl binary64 st - (pl binary64 e + mi binary64 st)) (rest (mag-is binary64 reachMargin)))
     where
       own : (x : Float) → Real binary64 x → (n : ℕ) → n ≤ mag binary64 x → rnd binary64 n 1 < overflow binary64
       own x r n k = lt-of-le-of-lt (rnd-le binary64 n (mag binary64 x) 1 (pow-pos 0) k) (lt-of-le-of-lt (le-of-eq (fixed binary64 x r)) (under binary64 x r))
 
-      rest : mag binary64 milli ≡ pl binary64 milli + mi binary64 milli → mi binary64 e + pl binary64 st - (pl binary64 e + mi binary64 st) ≤ mag binary64 milli
+      rest : mag binary64 reachMargin ≡ pl binary64 reachMargin + mi binary64 reachMargin → mi binary64 e + pl binary64 st - (pl binary64 e + mi binary64 st) ≤ mag binary64 reachMargin
       rest g = omega arith
 
   both-nn : mi binary64 e ≡ 0 → pl binary64 st ≡ 0 → T (nn (e ⊖ st))
@@ -208,22 +203,22 @@ pub record Covers (ds D : Float) : Type 0 where
   pub high : T (le ds D)
 
 -- e is where a record ends and st where it starts, as computed numbers
-module _ (s st e : Float) (w : Within binary64 s far) (rs : Real binary64 st) (re : Real binary64 e) (after : T (le s e)) (hit : T (le st (reached s))) where
+module _ (s st e : Float) (w : Within binary64 s far) (rs : Real binary64 st) (re : Real binary64 e) (after : T (le s e)) (hit : T (le st (activeUpTo s))) where
   order : pl binary64 s + mi binary64 e ≤ pl binary64 e + mi binary64 s
   order = le→units binary64 s e (w .value) re after
 
-  start : pl binary64 st + mi binary64 s ≤ mi binary64 st + pl binary64 s + pl binary64 milli
+  start : pl binary64 st + mi binary64 s ≤ mi binary64 st + pl binary64 s + pl binary64 reachMargin
   start = before s w st rs hit
 
-  negative : Real binary64 (neg milli)
-  negative = neg-real binary64 milli (milli-own .value)
+  negative : Real binary64 (neg reachMargin)
+  negative = neg-real binary64 reachMargin (milli-own .value)
 
   -- s less the start lies in -0.001 .. e less the start
-  pub gap-covers : T (finite (e ⊖ st)) → In binary64 (neg milli) (e ⊖ st) (s ⊖ st)
+  pub gap-covers : T (finite (e ⊖ st)) → In binary64 (neg reachMargin) (e ⊖ st) (s ⊖ st)
   gap-covers t =
-      enclose binary64 (s ⊖ st) (neg milli) (e ⊖ st) (pl binary64 s + mi binary64 st) (mi binary64 s + pl binary64 st) 1 (sub-Is binary64 s st (w .value) rs) negative (record { finite = t; fits = sub-fits binary64 e st })
-      (under-of binary64 (pl binary64 s + mi binary64 st) (mi binary64 s + pl binary64 st) 1 (pl binary64 (neg milli)) (mi binary64 (neg milli)) 1 (neg milli) (pow-pos 0) (pow-pos 0) (self-Is binary64 (neg milli) negative) (negative .finite)
-      (down (pl binary64 s) (mi binary64 s) (pl binary64 st) (mi binary64 st) (pl binary64 milli) (pl binary64 (neg milli)) (mi binary64 (neg milli)) start (neg-pl binary64 milli (milli-own .value) ∙ milli-own .plus) (neg-mi binary64 milli (milli-own .value))))
+      enclose binary64 (s ⊖ st) (neg reachMargin) (e ⊖ st) (pl binary64 s + mi binary64 st) (mi binary64 s + pl binary64 st) 1 (sub-Is binary64 s st (w .value) rs) negative (record { finite = t; fits = sub-fits binary64 e st })
+      (under-of binary64 (pl binary64 s + mi binary64 st) (mi binary64 s + pl binary64 st) 1 (pl binary64 (neg reachMargin)) (mi binary64 (neg reachMargin)) 1 (neg reachMargin) (pow-pos 0) (pow-pos 0) (self-Is binary64 (neg reachMargin) negative) (negative .finite)
+      (down (pl binary64 s) (mi binary64 s) (pl binary64 st) (mi binary64 st) (pl binary64 reachMargin) (pl binary64 (neg reachMargin)) (mi binary64 (neg reachMargin)) start (neg-pl binary64 reachMargin (milli-own .value) ∙ milli-own .plus) (neg-mi binary64 reachMargin (milli-own .value))))
       (over-of binary64 (pl binary64 s + mi binary64 st) (mi binary64 s + pl binary64 st) 1 (pl binary64 e + mi binary64 st) (mi binary64 e + pl binary64 st) 1 (e ⊖ st) (pow-pos 0) (pow-pos 0) (sub-Is binary64 e st re rs) t
       (up (pl binary64 s) (mi binary64 s) (pl binary64 e) (mi binary64 e) (pl binary64 st) (mi binary64 st) order))
     where
@@ -234,26 +229,26 @@ module _ (s st e : Float) (w : Within binary64 s far) (rs : Real binary64 st) (r
       down sp sm tp tm k q r a b c = omega arith
 
   gap-real : T (finite (atLeastZero (e ⊖ st))) → Real binary64 (e ⊖ st)
-  gap-real t = record { finite = gap-fin e st re rs (joined (pl binary64 s) (mi binary64 s) (pl binary64 e) (mi binary64 e) (pl binary64 st) (mi binary64 st) (pl binary64 milli) order start) t; fits = sub-fits binary64 e st }
+  gap-real t = record { finite = gap-fin e st re rs (joined (pl binary64 s) (mi binary64 s) (pl binary64 e) (mi binary64 e) (pl binary64 st) (mi binary64 st) (pl binary64 reachMargin) order start) t; fits = sub-fits binary64 e st }
     where
       joined : (sp sm ep em tp tm k : ℕ) → sp + em ≤ ep + sm → tp + sm ≤ tm + sp + k → em + tp ≤ ep + tm + k
       joined sp sm ep em tp tm k a b = omega arith
 
   -- so within D, wherever D is finite
-  covers : T (finite (atLeastZero (e ⊖ st) ⊕ milli)) → Covers (s ⊖ st) (atLeastZero (e ⊖ st) ⊕ milli)
+  covers : T (finite (atLeastZero (e ⊖ st) ⊕ reachMargin)) → Covers (s ⊖ st) (atLeastZero (e ⊖ st) ⊕ reachMargin)
   covers t =
-      let D = atLeastZero (e ⊖ st) ⊕ milli in
-      let rX = gap-real (add-fin binary64 (atLeastZero (e ⊖ st)) milli t .0) in
+      let D = atLeastZero (e ⊖ st) ⊕ reachMargin in
+      let rX = gap-real (add-fin binary64 (atLeastZero (e ⊖ st)) reachMargin t .0) in
       let raised = raised-real (e ⊖ st) rX in
-      let rD : Real binary64 D = record { finite = t; fits = add-fits binary64 (atLeastZero (e ⊖ st)) milli } in
-      let over = add-grow-r binary64 (atLeastZero (e ⊖ st)) milli (raised .0) (milli-own .value) (raised .1) t in
-      let grown = add-grow-l binary64 (atLeastZero (e ⊖ st)) milli (raised .0) (milli-own .value) (milli-own .plus) t in
+      let rD : Real binary64 D = record { finite = t; fits = add-fits binary64 (atLeastZero (e ⊖ st)) reachMargin } in
+      let over = add-grow-r binary64 (atLeastZero (e ⊖ st)) reachMargin (raised .0) (milli-own .value) (raised .1) t in
+      let grown = add-grow-l binary64 (atLeastZero (e ⊖ st)) reachMargin (raised .0) (milli-own .value) (milli-own .plus) t in
       let i = gap-covers (rX .finite) in
       record {
         value = i .value;
         reach = rD;
-        plus = within-mono binary64 milli milli D milli-own rD over .plus;
-        low = le-trans' binary64 (neg D) (neg milli) (s ⊖ st) (neg-real binary64 D rD) negative (i .value) (neg-le milli D (milli-own .value) rD over) (i .above);
+        plus = within-mono binary64 reachMargin reachMargin D milli-own rD over .plus;
+        low = le-trans' binary64 (neg D) (neg reachMargin) (s ⊖ st) (neg-real binary64 D rD) negative (i .value) (neg-le reachMargin D (milli-own .value) rD over) (i .above);
         high = le-trans' binary64 (s ⊖ st) (e ⊖ st) D (i .value) rX rD (i .below) (le-trans' binary64 (e ⊖ st) (atLeastZero (e ⊖ st)) D rX (raised .0) rD (raised .2) grown);
       }
 
@@ -358,11 +353,11 @@ module _ (cs : List Cubic) (lo hi end limit s : Float) (r : Ready cs lo hi end l
   unfolding cubicWithin
   bound-passes i h = true-T (le (boundAt cs end i) limit) (and-snd (le lo (cubicAt cs i .start) && le (cubicAt cs i .start) hi) (le (boundAt cs end i) limit) (passes i h))
 
-  ends-after : (i : ℕ) → Active (λ k. cubicAt cs k .start) (reached s) (length cs) i → Real binary64 (endAt cs end i) × T (le s (endAt cs end i))
+  ends-after : (i : ℕ) → Active (λ k. cubicAt cs k .start) (activeUpTo s) (length cs) i → Real binary64 (endAt cs end i) × T (le s (endAt cs end i))
   ends-after i a = go (ltb (i + 1) (length cs)) (ltb→lt (i + 1) (length cs))
     where
-      next : (q : Real binary64 (cubicAt cs (i + 1) .start)) → T (not (le (cubicAt cs (i + 1) .start) (reached s))) → T (le s (cubicAt cs (i + 1) .start))
-      next q n = le-trans' binary64 s (reached s) (cubicAt cs (i + 1) .start) (r .place .value) (reached-real s (r .place)) q (reached-grows s (r .place)) (nle→le binary64 (cubicAt cs (i + 1) .start) (reached s) q (reached-real s (r .place)) n)
+      next : (q : Real binary64 (cubicAt cs (i + 1) .start)) → T (not (le (cubicAt cs (i + 1) .start) (activeUpTo s))) → T (le s (cubicAt cs (i + 1) .start))
+      next q n = le-trans' binary64 s (activeUpTo s) (cubicAt cs (i + 1) .start) (r .place .value) (up-to-real s (r .place)) q (up-to-grows s (r .place)) (nle→le binary64 (cubicAt cs (i + 1) .start) (activeUpTo s) q (up-to-real s (r .place)) n)
 
       go : (b : Bool) → (T b → i + 1 < length cs) → Real binary64 (cond b (cubicAt cs (i + 1) .start) end) × T (le s (cond b (cubicAt cs (i + 1) .start) end))
       go true l = let q = start-real (i + 1) (l tt) in (q, next q (a .miss (l tt)))
@@ -372,7 +367,7 @@ module _ (cs : List Cubic) (lo hi end limit s : Float) (r : Ready cs lo hi end l
   unfolding reachAt
   reach-nn i =
       let x = cubicAt cs i .start in
-      add-nn binary64 (atLeastZero (endAt cs end i ⊖ x)) milli (raised-nn (endAt cs end i ⊖ x) (sub-fits binary64 (endAt cs end i) x)) (nn-of-mi milli (milli-own .value) (milli-own .plus))
+      add-nn binary64 (atLeastZero (endAt cs end i ⊖ x)) reachMargin (raised-nn (endAt cs end i ⊖ x) (sub-fits binary64 (endAt cs end i) x)) (nn-of-mi reachMargin (milli-own .value) (milli-own .plus))
 
   -- the bound of each cubic is finite and not below zero, and its a alone is within the limit
   pub bound-real : (i : ℕ) → i < length cs → Within binary64 (boundAt cs end i) (boundAt cs end i)

@@ -22,8 +22,8 @@ use Rattle.records.specs.declared.points.Found.{Found}
 use Rattle.records.specs.declared.points.Found.the-variants.{At, Nothing}
 use Rattle.records.specs.Active.{activeIn, valueIn}
 use Rattle.records.proofs.CubicLaws.{value-none}
-use Rattle.ranges.specs.Bounds.{boundAt, greatest, greatestBound}
-use Rattle.bounds.specs.Limits.{at88}
+use Rattle.bounds.specs.Bounds.{boundAt, greatest, greatestBound}
+use Rattle.bounds.specs.Limits.{farthestAcross, timesFarthest}
 use Rattle.limit_laws.proofs.ActiveRecord.{active-at}
 use Rattle.limit_laws.proofs.CubicBounds.{Ready, zero-own, nn-of-mi, active-within, bound-real}
 
@@ -112,18 +112,15 @@ add-nothing z c G r e w =
     minus : mag binary64 z ≡ pl binary64 z + mi binary64 z → mag binary64 c ≡ pl binary64 c + mi binary64 c → mi binary64 z + mi binary64 c - (pl binary64 z + pl binary64 c) ≤ mag binary64 c
     minus m n = omega arith
 
-abbrev eighty-eight : Float
-eighty-eight = f64 0x4056_0000_0000_0000
-
-place-own : Within binary64 eighty-eight eighty-eight
+place-own : Within binary64 farthestAcross farthestAcross
 unfolding ofBits fits le neg
-place-own = within-const binary64 eighty-eight eighty-eight tt
+place-own = within-const binary64 farthestAcross farthestAcross tt
 
-nothing-finite : T (finite (zero64 ⊗ eighty-eight))
+nothing-finite : T (finite (zero64 ⊗ farthestAcross))
 unfolding ofBits mul
 nothing-finite = tt
 
-nothing-is : pl binary64 (zero64 ⊗ eighty-eight) ≡ 0
+nothing-is : pl binary64 (zero64 ⊗ farthestAcross) ≡ 0
 unfolding ofBits mul pl
 nothing-is = refl
 
@@ -132,29 +129,29 @@ none m p h e = omega arith
 
 -- from the test that a program makes on the bounds G0 to G3, as `strip_limited` does
 pub horner-within :
-    (c0 c1 c2 c3 G0 G1 G2 G3 u limit : Float) → Within binary64 c0 G0 → Within binary64 c1 G1 → Within binary64 c2 G2 → Within binary64 c3 G3 → Within binary64 u (f64 0x4056_0000_0000_0000)
-    → Real binary64 limit → T (le (at88 (at88 (at88 G3 ⊕ G2) ⊕ G1) ⊕ G0) limit)
+    (c0 c1 c2 c3 G0 G1 G2 G3 u limit : Float) → Within binary64 c0 G0 → Within binary64 c1 G1 → Within binary64 c2 G2 → Within binary64 c3 G3 → Within binary64 u farthestAcross
+    → Real binary64 limit → T (le (timesFarthest (timesFarthest (timesFarthest G3 ⊕ G2) ⊕ G1) ⊕ G0) limit)
     → Within binary64 ((((zero64 ⊗ u ⊕ c3) ⊗ u ⊕ c2) ⊗ u ⊕ c1) ⊗ u ⊕ c0) limit
 horner-within c0 c1 c2 c3 G0 G1 G2 G3 u limit w0 w1 w2 w3 wu r h =
-    let P2 = at88 G3 ⊕ G2 in
-    let P1 = at88 P2 ⊕ G1 in
-    let P0 = at88 P1 ⊕ G0 in
-    let k = nn-of-mi eighty-eight (place-own .bound) (place-own .plus) in
-    let n2 = add-nn binary64 (at88 G3) G2 (mul-nn binary64 G3 eighty-eight (nn-of-mi G3 (w3 .bound) (w3 .plus)) k) (nn-of-mi G2 (w2 .bound) (w2 .plus)) in
-    let n1 = add-nn binary64 (at88 P2) G1 (mul-nn binary64 P2 eighty-eight n2 k) (nn-of-mi G1 (w1 .bound) (w1 .plus)) in
-    let n0 = add-nn binary64 (at88 P1) G0 (mul-nn binary64 P1 eighty-eight n1 k) (nn-of-mi G0 (w0 .bound) (w0 .plus)) in
+    let P2 = timesFarthest G3 ⊕ G2 in
+    let P1 = timesFarthest P2 ⊕ G1 in
+    let P0 = timesFarthest P1 ⊕ G0 in
+    let k = nn-of-mi farthestAcross (place-own .bound) (place-own .plus) in
+    let n2 = add-nn binary64 (timesFarthest G3) G2 (mul-nn binary64 G3 farthestAcross (nn-of-mi G3 (w3 .bound) (w3 .plus)) k) (nn-of-mi G2 (w2 .bound) (w2 .plus)) in
+    let n1 = add-nn binary64 (timesFarthest P2) G1 (mul-nn binary64 P2 farthestAcross n2 k) (nn-of-mi G1 (w1 .bound) (w1 .plus)) in
+    let n0 = add-nn binary64 (timesFarthest P1) G0 (mul-nn binary64 P1 farthestAcross n1 k) (nn-of-mi G0 (w0 .bound) (w0 .plus)) in
     let t0 = fin-of-le P0 limit n0 (r .finite) h in
-    let f1 = add-fin binary64 (at88 P1) G0 t0 .0 in
-    let t1 = mul-fin binary64 P1 eighty-eight f1 .0 in
-    let f2 = add-fin binary64 (at88 P2) G1 t1 .0 in
-    let t2 = mul-fin binary64 P2 eighty-eight f2 .0 in
-    let f3 = add-fin binary64 (at88 G3) G2 t2 .0 in
-    let z = mul-within binary64 zero64 u zero64 eighty-eight zero-own wu nothing-finite in
+    let f1 = add-fin binary64 (timesFarthest P1) G0 t0 .0 in
+    let t1 = mul-fin binary64 P1 farthestAcross f1 .0 in
+    let f2 = add-fin binary64 (timesFarthest P2) G1 t1 .0 in
+    let t2 = mul-fin binary64 P2 farthestAcross f2 .0 in
+    let f3 = add-fin binary64 (timesFarthest G3) G2 t2 .0 in
+    let z = mul-within binary64 zero64 u zero64 farthestAcross zero-own wu nothing-finite in
     let h3 = zero64 ⊗ u ⊕ c3 in
     let h2 = h3 ⊗ u ⊕ c2 in
     let h1 = h2 ⊗ u ⊕ c1 in
-    let v3 = add-nothing (zero64 ⊗ u) c3 G3 (z .value) (none (mag binary64 (zero64 ⊗ u)) (pl binary64 (zero64 ⊗ eighty-eight)) (z .le) nothing-is) w3 in
-    let v2 = add-within binary64 (h3 ⊗ u) c2 (at88 G3) G2 (mul-within binary64 h3 u G3 eighty-eight v3 wu f3) w2 t2 in
-    let v1 = add-within binary64 (h2 ⊗ u) c1 (at88 P2) G1 (mul-within binary64 h2 u P2 eighty-eight v2 wu f2) w1 t1 in
-    let v0 = add-within binary64 (h1 ⊗ u) c0 (at88 P1) G0 (mul-within binary64 h1 u P1 eighty-eight v1 wu f1) w0 t0 in
+    let v3 = add-nothing (zero64 ⊗ u) c3 G3 (z .value) (none (mag binary64 (zero64 ⊗ u)) (pl binary64 (zero64 ⊗ farthestAcross)) (z .le) nothing-is) w3 in
+    let v2 = add-within binary64 (h3 ⊗ u) c2 (timesFarthest G3) G2 (mul-within binary64 h3 u G3 farthestAcross v3 wu f3) w2 t2 in
+    let v1 = add-within binary64 (h2 ⊗ u) c1 (timesFarthest P2) G1 (mul-within binary64 h2 u P2 farthestAcross v2 wu f2) w1 t1 in
+    let v0 = add-within binary64 (h1 ⊗ u) c0 (timesFarthest P1) G0 (mul-within binary64 h1 u P1 farthestAcross v1 wu f1) w0 t0 in
     within-mono binary64 (h1 ⊗ u ⊕ c0) P0 limit v0 r h

@@ -7,13 +7,14 @@ use mathlib.Core.Logic.{_⊎_, ⊎-elim, inl, inr}
 use lib.ListN.{length}
 use lib.Dec.{T}
 use lib.Ieee.{Float, le, neg}
-use Rattle.float_laws.specs.Binary64.{f64, absOf}
+use Rattle.float_laws.specs.Binary64.{absOf}
 use Rattle.records.specs.declared.points.GeomShape.the-variants.{Arc, Spiral}
 use Rattle.records.specs.declared.points.HeightDef.{HeightDef}
 use Rattle.lent.specs.Lists.{allBelow}
-use Rattle.records.specs.Roads.{Road, Lane, Strip, geomAt, unusedZero, sectionOf, laneOf, profileAt, stripAt, columnOf, heightDefAt}
-use Rattle.ranges.specs.Bounds.{inRange, sized, largest, finite64, cubicsWithin, slopesWithin}
-use Rattle.bounds.specs.Limits.{lengthOk, onRoad, roadCubicsWithin, shapeLimited, geomLimited, sectionExtent, heightLimited, heightsLimited, laneLimited, sectionLimited, profileLimited, termsBound, stripLimited, limited}
+use Rattle.records.specs.Roads.{Road, Lane, Strip, straightCurvature, geomAt, unusedZero, sectionOf, laneOf, profileAt, stripAt, columnOf, heightDefAt}
+use Rattle.ranges.specs.Ranges.{inRange, sized, largest, finite64}
+use Rattle.bounds.specs.Bounds.{cubicsWithin, slopesWithin}
+use Rattle.bounds.specs.Limits.{greatestShapeStart, greatestPlace, greatestHeading, leastArcCurvature, greatestArcCurvature, greatestSpiralCurvature, greatestLaneHeight, shapesEnd, greatestElevation, greatestBank, greatestOffset, greatestShift, greatestWidth, greatestBorder, greatestShape, greatestStripWidth, greatestGrade, greatestStripHeight, lengthOk, geomLengthOk, onRoad, roadCubicsWithin, shapeLimited, geomLimited, sectionExtent, heightLimited, heightsLimited, laneLimited, sectionLimited, profileLimited, termsBound, stripLimited, limited}
 
 pub and-fst : (a b : Bool) → a && b ≡ true → a ≡ true
 and-fst true b e = refl
@@ -44,11 +45,11 @@ or-parts false b e = inr e
 pub record Limited (road : Road) : Type 0 where
   pub length-ok : lengthOk (road .length) ≡ true
   pub geoms : (i : ℕ) → i < length (road .geoms) → geomLimited road i ≡ true
-  pub elevations : roadCubicsWithin road (road .elevations) (f64 0x40c3_8800_0000_0000) ≡ true
-  pub slopes : slopesWithin (road .elevations) (road .length) (f64 0x3ff0_0000_0000_0000) ≡ true
-  pub superelevations : roadCubicsWithin road (road .superelevations) (f64 0x3fe8_0000_0000_0000) ≡ true
-  pub offsets : roadCubicsWithin road (road .offsets) (f64 0x4020_0000_0000_0000) ≡ true
-  pub tshifts : roadCubicsWithin road (road .tshifts) (f64 0x4020_0000_0000_0000) ≡ true
+  pub elevations : roadCubicsWithin road (road .elevations) greatestElevation ≡ true
+  pub slopes : slopesWithin (road .elevations) (road .length) greatestGrade ≡ true
+  pub superelevations : roadCubicsWithin road (road .superelevations) greatestBank ≡ true
+  pub offsets : roadCubicsWithin road (road .offsets) greatestOffset ≡ true
+  pub tshifts : roadCubicsWithin road (road .tshifts) greatestShift ≡ true
   pub sections : (i : ℕ) → i < length (road .sections) → sectionLimited road i ≡ true
   pub profiles : (i : ℕ) → i < length (road .profiles) → profileLimited road i ≡ true
   pub strips : (i : ℕ) → i < 4 → stripLimited road (stripAt road i) ≡ true
@@ -58,11 +59,11 @@ unfolding limited
 limited-parts road e =
     let l = lengthOk (road .length) in
     let g = allBelow (geomLimited road) (length (road .geoms)) in
-    let v = roadCubicsWithin road (road .elevations) (f64 0x40c3_8800_0000_0000) in
-    let s = slopesWithin (road .elevations) (road .length) (f64 0x3ff0_0000_0000_0000) in
-    let b = roadCubicsWithin road (road .superelevations) (f64 0x3fe8_0000_0000_0000) in
-    let o = roadCubicsWithin road (road .offsets) (f64 0x4020_0000_0000_0000) in
-    let t = roadCubicsWithin road (road .tshifts) (f64 0x4020_0000_0000_0000) in
+    let v = roadCubicsWithin road (road .elevations) greatestElevation in
+    let s = slopesWithin (road .elevations) (road .length) greatestGrade in
+    let b = roadCubicsWithin road (road .superelevations) greatestBank in
+    let o = roadCubicsWithin road (road .offsets) greatestOffset in
+    let t = roadCubicsWithin road (road .tshifts) greatestShift in
     let x = allBelow (sectionLimited road) (length (road .sections)) in
     let p = allBelow (profileLimited road) (length (road .profiles)) in
     let y = allBelow (λ i. stripLimited road (stripAt road i)) 4 in
@@ -91,10 +92,10 @@ limited-parts road e =
 
 pub record GeomLimited (road : Road) (i : ℕ) : Type 0 where
   pub s : onRoad road (geomAt road i .s) ≡ true
-  pub x : sized (f64 0x412e_8480_0000_0000) (geomAt road i .x) ≡ true
-  pub y : sized (f64 0x412e_8480_0000_0000) (geomAt road i .y) ≡ true
-  pub hdg : sized (f64 0x408f_4000_0000_0000) (geomAt road i .hdg) ≡ true
-  pub length : lengthOk (geomAt road i .length) ≡ true
+  pub x : sized greatestPlace (geomAt road i .x) ≡ true
+  pub y : sized greatestPlace (geomAt road i .y) ≡ true
+  pub hdg : sized greatestHeading (geomAt road i .hdg) ≡ true
+  pub length : geomLengthOk (geomAt road i .length) ≡ true
   pub shape : shapeLimited (geomAt road i .shape) ≡ true
   pub unused : unusedZero road i ≡ true
 
@@ -103,10 +104,10 @@ unfolding geomLimited
 geom-parts road i e =
     let g = geomAt road i in
     let a = onRoad road (g .s) in
-    let x = sized (f64 0x412e_8480_0000_0000) (g .x) in
-    let y = sized (f64 0x412e_8480_0000_0000) (g .y) in
-    let h = sized (f64 0x408f_4000_0000_0000) (g .hdg) in
-    let l = lengthOk (g .length) in
+    let x = sized greatestPlace (g .x) in
+    let y = sized greatestPlace (g .y) in
+    let h = sized greatestHeading (g .hdg) in
+    let l = geomLengthOk (g .length) in
     let s = shapeLimited (g .shape) in
     let u = unusedZero road i in
     let es = and-fst (a && x && y && h && l && s) u e in
@@ -124,13 +125,13 @@ geom-parts road i e =
       unused = and-snd (a && x && y && h && l && s) u e;
     }
 
-pub arc-parts : (k : Float) → shapeLimited (Arc k) ≡ true → (sized (f64 0x3e11_2e0b_e826_d695) k ≡ true) ⊎ (inRange (f64 0x3ee4_f8b5_88e3_68f1) (f64 0x3ff0_0000_0000_0000) (absOf k) ≡ true)
+pub arc-parts : (k : Float) → shapeLimited (Arc k) ≡ true → (sized straightCurvature k ≡ true) ⊎ (inRange leastArcCurvature greatestArcCurvature (absOf k) ≡ true)
 unfolding shapeLimited
-arc-parts k e = or-parts (sized (f64 0x3e11_2e0b_e826_d695) k) (inRange (f64 0x3ee4_f8b5_88e3_68f1) (f64 0x3ff0_0000_0000_0000) (absOf k)) e
+arc-parts k e = or-parts (sized straightCurvature k) (inRange leastArcCurvature greatestArcCurvature (absOf k)) e
 
-pub spiral-parts : (a b : Float) → shapeLimited (Spiral a b) ≡ true → (sized (f64 0x3ff0_0000_0000_0000) a ≡ true) × (sized (f64 0x3ff0_0000_0000_0000) b ≡ true)
+pub spiral-parts : (a b : Float) → shapeLimited (Spiral a b) ≡ true → (sized greatestSpiralCurvature a ≡ true) × (sized greatestSpiralCurvature b ≡ true)
 unfolding shapeLimited
-spiral-parts a b e = (and-fst (sized (f64 0x3ff0_0000_0000_0000) a) (sized (f64 0x3ff0_0000_0000_0000) b) e, and-snd (sized (f64 0x3ff0_0000_0000_0000) a) (sized (f64 0x3ff0_0000_0000_0000) b) e)
+spiral-parts a b e = (and-fst (sized greatestSpiralCurvature a) (sized greatestSpiralCurvature b) e, and-snd (sized greatestSpiralCurvature a) (sized greatestSpiralCurvature b) e)
 
 -- ---- a section and its lanes
 
@@ -159,7 +160,7 @@ lane-parts road i false k e h =
     all-at p n k (and-snd a (allBelow p n) (and-fst (a && allBelow p n) (allBelow (λ k. laneLimited (sectionExtent road i) (laneOf road i true k)) (length (sectionOf road i .right))) e)) h
 
 abbrev pub laneLimit : Lane → Float
-laneLimit lane = cond (lane .border) (f64 0x4042_0000_0000_0000) (f64 0x4020_0000_0000_0000)
+laneLimit lane = cond (lane .border) greatestBorder greatestWidth
 
 pub extents-pass : (extent : Float) (lane : Lane) → laneLimited extent lane ≡ true → cubicsWithin (lane .extents) (neg largest) largest extent (laneLimit lane) ≡ true
 unfolding laneLimited
@@ -167,16 +168,16 @@ extents-pass extent lane e = and-fst (cubicsWithin (lane .extents) (neg largest)
 
 pub record HeightLimited (h : HeightDef) : Type 0 where
   pub start : finite64 (h .«s_offset») ≡ true
-  pub inner : sized (f64 0x4000_0000_0000_0000) (h .inner) ≡ true
-  pub outer : sized (f64 0x4000_0000_0000_0000) (h .outer) ≡ true
+  pub inner : sized greatestLaneHeight (h .inner) ≡ true
+  pub outer : sized greatestLaneHeight (h .outer) ≡ true
 
 pub height-parts : (extent : Float) (lane : Lane) → laneLimited extent lane ≡ true → (j : ℕ) → j < length (lane .heights) → HeightLimited (heightDefAt (lane .heights) j)
 unfolding laneLimited heightsLimited heightLimited
 height-parts extent lane e j l =
     let h = heightDefAt (lane .heights) j in
     let a = finite64 (h .«s_offset») in
-    let b = sized (f64 0x4000_0000_0000_0000) (h .inner) in
-    let c = sized (f64 0x4000_0000_0000_0000) (h .outer) in
+    let b = sized greatestLaneHeight (h .inner) in
+    let c = sized greatestLaneHeight (h .outer) in
     let p = all-at (λ i. heightLimited (heightDefAt (lane .heights) i)) (length (lane .heights)) j (and-snd (cubicsWithin (lane .extents) (neg largest) largest extent (laneLimit lane)) (heightsLimited (lane .heights)) e) l in
     let q = and-fst (a && b) c p in
     record { start = and-fst a b q; inner = and-snd a b q; outer = and-snd (a && b) c p }
@@ -184,23 +185,23 @@ height-parts extent lane e j l =
 -- ---- a profile and a strip
 
 pub profile-parts : (road : Road) (i : ℕ) → profileLimited road i ≡ true
-    → (onRoad road (profileAt road i .s) ≡ true) × (cubicsWithin (profileAt road i .shapes) (neg (f64 0x4054_0000_0000_0000)) (f64 0x4054_0000_0000_0000) (f64 0x4054_0000_0000_0000) (f64 0x4044_0000_0000_0000) ≡ true)
+    → (onRoad road (profileAt road i .s) ≡ true) × (cubicsWithin (profileAt road i .shapes) (neg greatestShapeStart) greatestShapeStart shapesEnd greatestShape ≡ true)
 unfolding profileLimited
 profile-parts road i e =
     let a = onRoad road (profileAt road i .s) in
-    let b = cubicsWithin (profileAt road i .shapes) (neg (f64 0x4054_0000_0000_0000)) (f64 0x4054_0000_0000_0000) (f64 0x4054_0000_0000_0000) (f64 0x4044_0000_0000_0000) in
+    let b = cubicsWithin (profileAt road i .shapes) (neg greatestShapeStart) greatestShapeStart shapesEnd greatestShape in
     (and-fst a b e, and-snd a b e)
 
 pub record StripLimited (road : Road) (strip : Strip) : Type 0 where
-  pub width : roadCubicsWithin road (columnOf strip 0) (f64 0x4059_0000_0000_0000) ≡ true
+  pub width : roadCubicsWithin road (columnOf strip 0) greatestStripWidth ≡ true
   pub terms : (term : ℕ) → term < 4 → roadCubicsWithin road (columnOf strip (term + 1)) largest ≡ true
-  pub height : le (termsBound road strip) (f64 0x4044_0000_0000_0000) ≡ true
+  pub height : le (termsBound road strip) greatestStripHeight ≡ true
 
 pub strip-parts : (road : Road) (strip : Strip) → stripLimited road strip ≡ true → StripLimited road strip
 unfolding stripLimited
 strip-parts road strip e =
-    let a = roadCubicsWithin road (columnOf strip 0) (f64 0x4059_0000_0000_0000) in
+    let a = roadCubicsWithin road (columnOf strip 0) greatestStripWidth in
     let p : ℕ → Bool = λ term. roadCubicsWithin road (columnOf strip (term + 1)) largest in
-    let c = le (termsBound road strip) (f64 0x4044_0000_0000_0000) in
+    let c = le (termsBound road strip) greatestStripHeight in
     let q = and-fst (a && allBelow p 4) c e in
     record { width = and-fst a (allBelow p 4) q; terms = λ k h. all-at p 4 k (and-snd a (allBelow p 4) q) h; height = and-snd (a && allBelow p 4) c e }

@@ -8,13 +8,22 @@ use shape_limits::profiles_limited;
 use shape_limits::strips_limited;
 ghost use mathlib.Core.Path.{_≡_};
 ghost use mathlib.Core.Bool.{_&&_};
-ghost use Rattle.float_laws.specs.Binary64.{f64};
 ghost use Rattle.records.specs.Roads.{roadOf};
-ghost use Rattle.bounds.specs.Limits.{roadCubicsWithin, limited};
+ghost use Rattle.bounds.specs.Limits.{greatestBank, greatestOffset, greatestShift, roadCubicsWithin, limited};
+
+const LEAST_LENGTH: f64 = 0.01;
+
+const GREATEST_LENGTH: f64 = 10000.0;
+
+const GREATEST_BANK: f64 = 0.75;
+
+const GREATEST_OFFSET: f64 = 8.0;
+
+const GREATEST_SHIFT: f64 = 8.0;
 
 // Superelevations, offsets and shifts.
 fn tables_limited(words: &[u16], numbers: &[f64]) -> bool
-    ensures { λ r. ⌜ r ≡ (roadCubicsWithin (roadOf (now (words .entry)) (now (numbers .entry))) (roadOf (now (words .entry)) (now (numbers .entry)) .superelevations) (f64 0x3fe8_0000_0000_0000) && roadCubicsWithin (roadOf (now (words .entry)) (now (numbers .entry))) (roadOf (now (words .entry)) (now (numbers .entry)) .offsets) (f64 0x4020_0000_0000_0000) && roadCubicsWithin (roadOf (now (words .entry)) (now (numbers .entry))) (roadOf (now (words .entry)) (now (numbers .entry)) .tshifts) (f64 0x4020_0000_0000_0000)) ⌝ }
+    ensures { λ r. ⌜ r ≡ (roadCubicsWithin (roadOf (now (words .entry)) (now (numbers .entry))) (roadOf (now (words .entry)) (now (numbers .entry)) .superelevations) greatestBank && roadCubicsWithin (roadOf (now (words .entry)) (now (numbers .entry))) (roadOf (now (words .entry)) (now (numbers .entry)) .offsets) greatestOffset && roadCubicsWithin (roadOf (now (words .entry)) (now (numbers .entry))) (roadOf (now (words .entry)) (now (numbers .entry)) .tshifts) greatestShift) ⌝ }
 {
     let length = records::road_length(words, numbers);
     let bank = cubics_within(
@@ -22,17 +31,34 @@ fn tables_limited(words: &[u16], numbers: &[f64]) -> bool
         0.0,
         length,
         length,
-        0.75,
+        GREATEST_BANK,
     );
-    let offset = cubics_within(records::offsets(words, numbers), 0.0, length, length, 8.0);
-    bank & offset & cubics_within(records::tshifts(words, numbers), 0.0, length, length, 8.0)
+    let offset = cubics_within(
+        records::offsets(words, numbers),
+        0.0,
+        length,
+        length,
+        GREATEST_OFFSET,
+    );
+    let shift = cubics_within(
+        records::tshifts(words, numbers),
+        0.0,
+        length,
+        length,
+        GREATEST_SHIFT,
+    );
+    bank & offset & shift
 }
 
 // Whether every number of a road is finite and within its limit.
 pub fn limited(words: &[u16], numbers: &[f64]) -> bool
     ensures { λ r. ⌜ r ≡ limited (roadOf (now (words .entry)) (now (numbers .entry))) ⌝ }
 {
-    let length = in_range(0.01, 10000.0, records::road_length(words, numbers));
+    let length = in_range(
+        LEAST_LENGTH,
+        GREATEST_LENGTH,
+        records::road_length(words, numbers),
+    );
     let along = length & geoms_limited(words, numbers) & elevations_limited(words, numbers);
     let lanes = along & tables_limited(words, numbers) & sections_limited(words, numbers);
     lanes & profiles_limited(words, numbers) & strips_limited(words, numbers)

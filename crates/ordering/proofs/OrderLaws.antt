@@ -1,5 +1,5 @@
 -- What a road in order has: one record, by its tests and the neighbours of each list. Past a list's end there is nothing to be in order, so places need no bound but for strips.
-use Prim.Native.Nat.{ℕ, _+_, _<_, _≤_}
+use Prim.Native.Nat.{ℕ, _+_, _-_, _<_, _≤_}
 use native.Mathlib.Omega.{arith}
 use mathlib.Core.Path.{_≡_, refl}
 use mathlib.Core.Bool.{Bool, true, false, _&&_}
@@ -14,8 +14,28 @@ use Rattle.records.specs.declared.points.HeightDef.{HeightDef}
 use Rattle.lent.specs.Lists.{allBelow}
 use Rattle.cubics.specs.Cubics.{cubicAt}
 use Rattle.records.specs.Roads.{Road, Lane, Strip, geomAt, noSection, sectionOf, noLane, laneOf, noProfile, profileAt, stripAt, columnOf, heightDefAt}
-use Rattle.structure.specs.Order.{margin, neverFall, riseStrictly, apart, cubicsInOrder, laneInOrder, sectionInOrder, profilesInOrder, stripInOrder, ordered}
-use Rattle.structure.proofs.TestLaws.{told, chain-at, all-at, neverFall-at, riseStrictly-at, apart-at}
+use Rattle.ordering.specs.Order.{leastGap, neverFall, riseStrictly, apart, cubicsInOrder, laneInOrder, sectionInOrder, profilesInOrder, stripInOrder, ordered}
+use Rattle.structure.proofs.TestLaws.{told, chain-at, all-at}
+
+-- ---- the neighbours of a list in order
+
+below : (i n : ℕ) → i + 1 < n → i < n - 1
+below i n l = omega arith
+
+module _ (start : ℕ → Float) (n : ℕ) where
+  pub neverFall-at : neverFall start n ≡ true → (i : ℕ) → i + 1 < n → T (le (start i) (start (i + 1)))
+  unfolding neverFall
+  neverFall-at e i l = told (all-at (λ k. le (start k) (start (k + 1))) (n - 1) e i (below i n l))
+
+  pub riseStrictly-at : riseStrictly start n ≡ true → (i : ℕ) → i + 1 < n → T (lt (start i) (start (i + 1)))
+  unfolding riseStrictly
+  riseStrictly-at e i l = told (all-at (λ k. lt (start k) (start (k + 1))) (n - 1) e i (below i n l))
+
+  pub apart-at : apart start n ≡ true → (i : ℕ) → i + 1 < n → T (le leastGap (start (i + 1) ⊖ start i))
+  unfolding apart
+  apart-at e i l = told (all-at (λ k. le leastGap (start (k + 1) ⊖ start k)) (n - 1) e i (below i n l))
+
+-- ---- what a road in order has
 
 -- each cubic starts at or before the next
 abbrev pub CubicsRise : List Cubic → Type 0
@@ -23,7 +43,7 @@ CubicsRise cs = (i : ℕ) → i + 1 < length cs → T (le (cubicAt cs i .start) 
 
 -- each height is 0.001 or more before the next
 abbrev pub HeightsApart : List HeightDef → Type 0
-HeightsApart hs = (i : ℕ) → i + 1 < length hs → T (le margin (heightDefAt hs (i + 1) .«s_offset» ⊖ heightDefAt hs i .«s_offset»))
+HeightsApart hs = (i : ℕ) → i + 1 < length hs → T (le leastGap (heightDefAt hs (i + 1) .«s_offset» ⊖ heightDefAt hs i .«s_offset»))
 
 pub record LaneOrdered (lane : Lane) : Type 0 where
   pub extents : CubicsRise (lane .extents)
@@ -39,7 +59,7 @@ pub record Ordered (road : Road) : Type 0 where
   pub offsets : CubicsRise (road .offsets)
   pub tshifts : CubicsRise (road .tshifts)
   pub lanes : (section k : ℕ) (right : Bool) → LaneOrdered (laneOf road section right k)
-  pub profiles : (i : ℕ) → i + 1 < length (road .profiles) → T (le margin (profileAt road (i + 1) .s ⊖ profileAt road i .s))
+  pub profiles : (i : ℕ) → i + 1 < length (road .profiles) → T (le leastGap (profileAt road (i + 1) .s ⊖ profileAt road i .s))
   pub shapes : (i : ℕ) → CubicsRise (profileAt road i .shapes)
   pub columns : (i column : ℕ) → i < 4 → column < 5 → CubicsRise (columnOf (stripAt road i) column)
 

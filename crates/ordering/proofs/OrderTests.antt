@@ -8,7 +8,7 @@ use Rattle.float_laws.specs.Binary64.{zero64}
 use Rattle.lent.specs.Lists.{allBelow}
 use Rattle.cubics.specs.Cubics.{cubicsOf}
 use Rattle.records.specs.Roads.{Road, Lane, heightsOf, heightDefAt, geomAt, sectionOf, profileAt, stripAt}
-use Rattle.structure.specs.Order.{neverFall, riseStrictly, apart, cubicsInOrder, laneInOrder, sectionInOrder, profilesInOrder, stripInOrder, ordered}
+use Rattle.ordering.specs.Order.{neverFall, riseStrictly, apart, cubicsInOrder, laneInOrder, sectionInOrder, profilesInOrder, stripInOrder, ordered}
 
 pub lane-by :
     (lane : Lane) (xs ys : List Float) {a b : Bool} → a ≡ cubicsInOrder (cubicsOf xs) → cubicsOf xs ≡ lane .extents

@@ -8,7 +8,10 @@ ghost use Rattle.float_laws.specs.Binary64.{zero64};
 ghost use Rattle.lent.specs.Lists.{allBelow};
 ghost use Rattle.cubics.specs.Cubics.{cubicsOf};
 ghost use Rattle.records.specs.Roads.{roadOf, heightsOf, heightDefAt, geomAt, sectionOf, laneOf, profileAt, stripAt};
-ghost use Rattle.structure.specs.Order.{neverFall, riseStrictly, apart, cubicsInOrder, laneInOrder, sectionInOrder, stripInOrder, ordered};
+ghost use Rattle.ordering.specs.Order.{neverFall, riseStrictly, apart, cubicsInOrder, laneInOrder, sectionInOrder, stripInOrder, ordered};
+
+// Profiles, and heights of a lane, are at least so far apart.
+const LEAST_GAP: f64 = 0.001;
 
 fn less_one(n: usize) -> usize
     ensures { λ r. ⌜ r ≡ n - 1 ⌝ }
@@ -42,7 +45,7 @@ fn heights_apart(part: &[f64]) -> bool
     while i < n {
         let a = lane_records::height_def(part, i);
         let b = lane_records::height_def(part, i + 1);
-        ok = ok & (0.001 <= b.s_offset - a.s_offset);
+        ok = ok & (LEAST_GAP <= b.s_offset - a.s_offset);
         i += 1;
     }
     ok
@@ -131,7 +134,7 @@ fn profiles_apart(words: &[u16], numbers: &[f64]) -> bool
     while i < n {
         let a = shape_records::profile_start(words, numbers, i);
         let b = shape_records::profile_start(words, numbers, i + 1);
-        ok = ok & (0.001 <= b - a);
+        ok = ok & (LEAST_GAP <= b - a);
         i += 1;
     }
     ok

@@ -4,6 +4,9 @@ ghost use Rattle.records.specs.Roads.{roadOf};
 ghost use Rattle.bounds.specs.Limits.{onRoad};
 ghost use Rattle.places.specs.Places.{acrossRoad};
 
+// Half of the road's width.
+const HALF_WIDTH: f64 = 80.0;
+
 // Row 7: s in 0..length.
 pub fn on_road(words: &[u16], numbers: &[f64], s: f64) -> bool
     ensures { λ r. ⌜ r ≡ onRoad (roadOf (now (words .entry)) (now (numbers .entry))) s ⌝ }
@@ -15,5 +18,5 @@ pub fn on_road(words: &[u16], numbers: &[f64], s: f64) -> bool
 pub fn across(t: f64) -> bool
     ensures { λ r. ⌜ r ≡ acrossRoad t ⌝ }
 {
-    (-80.0 <= t) & (t <= 80.0)
+    (-HALF_WIDTH <= t) & (t <= HALF_WIDTH)
 }

@@ -8,7 +8,7 @@ use lib.ListN.{length}
 use Rattle.records.specs.declared.points.Found.{Found}
 use Rattle.records.specs.declared.points.Found.the-variants.{At, Nothing}
 use Rattle.cubics.specs.Cubics.{cubicsOf, cubicAt}
-use Rattle.records.specs.Active.{activeIn, foundOf, reached}
+use Rattle.records.specs.Active.{activeIn, foundOf, activeUpTo}
 use Rattle.cubics.proofs.CubicTables.{cubic-count}
 use Rattle.records.proofs.ScanLaws.{lastStart-below}
 
@@ -16,7 +16,7 @@ module _ (part : List Float) (s : Float) {f : Found} (e : f ≡ activeIn (cubics
   pub active-below : {i : ℕ} → f ≡ At i → i < length part
   unfolding activeIn
   active-below g =
-      let l = lastStart-below (λ (k : ℕ). cubicAt (cubicsOf part) k .start) (reached s) (length (cubicsOf part)) _ (sym e ∙ g) in
+      let l = lastStart-below (λ (k : ℕ). cubicAt (cubicsOf part) k .start) (activeUpTo s) (length (cubicsOf part)) _ (sym e ∙ g) in
       let n = cubic-count part in
       omega arith
 

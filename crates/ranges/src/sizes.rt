@@ -1,7 +1,10 @@
 // Sizes and ranges of numbers; a NaN is outside every range.
 ghost use mathlib.Core.Path.{_≡_};
 ghost use Rattle.float_laws.specs.Binary64.{absOf};
-ghost use Rattle.ranges.specs.Bounds.{inRange, atLeastZero, sized};
+ghost use Rattle.ranges.specs.Ranges.{inRange, atLeastZero, sized};
+
+// What lies in -LARGEST..LARGEST is finite.
+pub const LARGEST: f64 = 1.7976931348623157e308;
 
 pub fn abs(x: f64) -> f64
     ensures { λ r. ⌜ r ≡ absOf x ⌝ }

@@ -16,8 +16,8 @@ use Rattle.lent.specs.Lists as records-lists
 use Rattle.records.specs.Roads as records-roads
 use Rattle.spirals.specs.Poses as reference-line-poses
 use Rattle.spirals.specs.Spiral as reference-line-spiral
-use Rattle.structure.specs.Order as structure-order
-use Rattle.ranges.specs.Bounds as limits-bounds
+use Rattle.ordering.specs.Order as structure-order
+use Rattle.bounds.specs.Bounds as limits-bounds
 use Rattle.bounds.specs.Limits as limits-limits
 use Rattle.admission.specs.Admission as admission-admission
 use Rattle.structure.specs.Structure as structure-structure

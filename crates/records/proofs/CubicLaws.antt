@@ -12,7 +12,7 @@ use Rattle.records.specs.declared.points.Found.{Found}
 use Rattle.records.specs.declared.points.Found.the-variants.{At, Nothing}
 use Rattle.lent.specs.Lists.{table}
 use Rattle.cubics.specs.Cubics.{cubicsOf, cubicAt, evalAt, slopeAt}
-use Rattle.records.specs.Active.{lastStart, reached, activeIn, valueIn, slopeIn}
+use Rattle.records.specs.Active.{lastStart, activeUpTo, activeIn, valueIn, slopeIn}
 use Rattle.records.specs.Roads.{heightsOf, heightDefAt, heightFrom, noHeight}
 use Rattle.lent.proofs.TableLaws.{length-table, table-at, table-past}
 use Rattle.cubics.proofs.CubicTables.{cubic-count, cubic-in}
@@ -28,10 +28,10 @@ heights-none e = rw e
 
 module _ (xs : List Float) where
   -- the active cubic by the starts where they stand
-  pub active-by : (s : Float) → lastStart (λ (i : ℕ). getD xs (0 + i * 5) nan) (reached s) (length xs / 5) ≡ activeIn (cubicsOf xs) s
+  pub active-by : (s : Float) → lastStart (λ (i : ℕ). getD xs (0 + i * 5) nan) (activeUpTo s) (length xs / 5) ≡ activeIn (cubicsOf xs) s
   unfolding activeIn
   active-by s =
-      rw (cubic-count xs) (lastStart-same _ _ (reached s) _ (λ i h. ap (λ (k : ℕ). getD xs k nan) (none-more (i * 5)) ∙ sym (ap (λ (c : Cubic). c .start) (cubic-in xs i h))))
+      rw (cubic-count xs) (lastStart-same _ _ (activeUpTo s) _ (λ i h. ap (λ (k : ℕ). getD xs k nan) (none-more (i * 5)) ∙ sym (ap (λ (c : Cubic). c .start) (cubic-in xs i h))))
 
   pub height-count : length (heightsOf xs) ≡ length xs / 3
   unfolding heightsOf
@@ -46,10 +46,10 @@ module _ (xs : List Float) where
   height-past i h = table-past _ _ i noHeight h
 
   -- the last height reached by the starts where they stand
-  pub height-by : (s : Float) → lastStart (λ (i : ℕ). getD xs (0 + i * 3) nan) (reached s) (length xs / 3)
-      ≡ lastStart (λ (i : ℕ). heightDefAt (heightsOf xs) i .«s_offset») (reached s) (length (heightsOf xs))
+  pub height-by : (s : Float) → lastStart (λ (i : ℕ). getD xs (0 + i * 3) nan) (activeUpTo s) (length xs / 3)
+      ≡ lastStart (λ (i : ℕ). heightDefAt (heightsOf xs) i .«s_offset») (activeUpTo s) (length (heightsOf xs))
   height-by s =
-      rw height-count (lastStart-same _ _ (reached s) _ (λ i h. ap (λ (k : ℕ). getD xs k nan) (none-more (i * 3)) ∙ sym (ap (λ (x : HeightDef). x .«s_offset») (height-in i h))))
+      rw height-count (lastStart-same _ _ (activeUpTo s) _ (λ i h. ap (λ (k : ℕ). getD xs k nan) (none-more (i * 3)) ∙ sym (ap (λ (x : HeightDef). x .«s_offset») (height-in i h))))
 
 -- ---- by the active cubic
 

@@ -17,7 +17,7 @@ use Rattle.records.specs.declared.points.Found.{Found}
 use Rattle.records.specs.declared.points.Found.the-variants.{At, Nothing}
 use Rattle.lent.specs.Lists.{table, span}
 use Rattle.cubics.specs.Cubics.{cubicsOf}
-use Rattle.records.specs.Active.{lastStart, foundOf, orFirst, reached}
+use Rattle.records.specs.Active.{lastStart, foundOf, orFirst, activeUpTo}
 use Rattle.records.specs.Roads.{Road, Lane, Section, Profile, Strip, absent, present, roadOf, geomIn, unusedIn, laneIn, sectionIn, profileIn, columnIn, stripIn, cubicsIn, heightsIn, heightsOf, wordAt, geomFrom, noGeom, geomAt, unusedOf, allZero, unusedZero, noSection, sectionOf, noLane, laneBy, laneOf, noProfile, profileAt, stripAt, kindOf, columnOf, columnBy, geomIndex, sectionIndex}
 use Rattle.lent.proofs.TableLaws.{length-table, table-at, table-past, span-at}
 use Rattle.records.proofs.ScanLaws.{lastStart-same}
@@ -244,22 +244,22 @@ module _ (words : List ℕ) (numbers : List Float) where
       ∙ ap (λ (g : GeomRec). g .s) (sym (geom-in words numbers i h))
 
   pub geom-index :
-      (s : Float) (r : ℕ) {n : ℕ} → n ≡ getD words 0 0 → foundOf r ≡ lastStart (λ (i : ℕ). getD numbers (1 + i * 7) nan) (reached s) n
+      (s : Float) (r : ℕ) {n : ℕ} → n ≡ getD words 0 0 → foundOf r ≡ lastStart (λ (i : ℕ). getD numbers (1 + i * 7) nan) (activeUpTo s) n
       → orFirst (foundOf r) ≡ geomIndex (roadOf words numbers) s
   unfolding geomIndex
   geom-index s r e f =
-      rw (geom-count words numbers, f, e) (ap orFirst (lastStart-same _ _ (reached s) _ geom-start))
+      rw (geom-count words numbers, f, e) (ap orFirst (lastStart-same _ _ (activeUpTo s) _ geom-start))
 
   section-start : (i : ℕ) → i < getD words 5 0 → getD numbers (1729 + i * 1) nan ≡ sectionOf (roadOf words numbers) i .start
   unfolding sectionIn
   section-start i h = ap (λ (k : ℕ). getD numbers k nan) (once 1729 i) ∙ ap (λ (x : Section). x .start) (sym (section-in words numbers i h))
 
   pub section-index :
-      (s : Float) (r : ℕ) {n : ℕ} → n ≡ getD words 5 0 → foundOf r ≡ lastStart (λ (i : ℕ). getD numbers (1729 + i * 1) nan) (reached s) n
+      (s : Float) (r : ℕ) {n : ℕ} → n ≡ getD words 5 0 → foundOf r ≡ lastStart (λ (i : ℕ). getD numbers (1729 + i * 1) nan) (activeUpTo s) n
       → orFirst (foundOf r) ≡ sectionIndex (roadOf words numbers) s
   unfolding sectionIndex
   section-index s r e f =
-      rw (section-count words numbers, f, e) (ap orFirst (lastStart-same _ _ (reached s) _ section-start))
+      rw (section-count words numbers, f, e) (ap orFirst (lastStart-same _ _ (activeUpTo s) _ section-start))
 
   -- ---- the profile at s
   profile-start : (i : ℕ) → i < getD words 6 0 → getD numbers (5841 + i * 1) nan ≡ profileAt (roadOf words numbers) i .s
@@ -268,6 +268,6 @@ module _ (words : List ℕ) (numbers : List Float) where
 
   pub profile-by :
       (s : Float) {n : ℕ} → n ≡ getD words 6 0
-      → lastStart (λ (i : ℕ). getD numbers (5841 + i * 1) nan) (reached s) n
-      ≡ lastStart (λ (i : ℕ). profileAt (roadOf words numbers) i .s) (reached s) (length (roadOf words numbers .profiles))
-  profile-by s e = rw (profile-count words numbers, e) (lastStart-same _ _ (reached s) _ profile-start)
+      → lastStart (λ (i : ℕ). getD numbers (5841 + i * 1) nan) (activeUpTo s) n
+      ≡ lastStart (λ (i : ℕ). profileAt (roadOf words numbers) i .s) (activeUpTo s) (length (roadOf words numbers .profiles))
+  profile-by s e = rw (profile-count words numbers, e) (lastStart-same _ _ (activeUpTo s) _ profile-start)

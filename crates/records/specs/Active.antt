@@ -10,9 +10,13 @@ use Rattle.records.specs.declared.points.Found.{Found}
 use Rattle.records.specs.declared.points.Found.the-variants.{At, Nothing}
 use Rattle.cubics.specs.Cubics.{cubicAt, evalAt, slopeAt}
 
--- s + 1e-9, one sum
-abbrev pub reached : Float → Float
-reached s = s ⊕ f64 0x3e11_2e0b_e826_d695
+-- "start ≤ s + 1e-9": so far before its start a record is active
+abbrev pub activeMargin : Float
+activeMargin = f64 0x3e11_2e0b_e826_d695
+
+-- s + 1e-9, one sum: up to here a record has started
+abbrev pub activeUpTo : Float → Float
+activeUpTo s = s ⊕ activeMargin
 
 abbrev pub pickFound : Bool → Found → Found → Found
 pickFound true x y = x
@@ -31,7 +35,7 @@ foundOf (suc n) = At n
 -- "the last with start ≤ s + 1e-9"
 unfoldable pub activeIn : List Cubic → Float → Found
 unfolding lastStart
-activeIn cs s = lastStart (λ i. cubicAt cs i .start) (reached s) (length cs)
+activeIn cs s = lastStart (λ i. cubicAt cs i .start) (activeUpTo s) (length cs)
 
 -- "(geometry, section: the first)" where none is active
 abbrev pub orFirst : Found → ℕ

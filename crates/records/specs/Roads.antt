@@ -8,7 +8,7 @@ use mathlib.Core.List.{List, [], _∷_}
 use lib.ListN.{length, getD}
 use lib.Dec.{eqb}
 use lib.Ieee.{Float, nan, eq}
-use Rattle.float_laws.specs.Binary64.{zero64}
+use Rattle.float_laws.specs.Binary64.{f64, zero64}
 use Rattle.cubics.specs.declared.cubics.Cubic.{Cubic}
 use Rattle.records.specs.declared.points.GeomRec.{GeomRec}
 use Rattle.records.specs.declared.points.GeomShape.{GeomShape}
@@ -20,7 +20,7 @@ use Rattle.records.specs.declared.points.Found.{Found}
 use Rattle.records.specs.declared.points.Found.the-variants.{At, Nothing}
 use Rattle.lent.specs.Lists.{table, span}
 use Rattle.cubics.specs.Cubics.{cubicsOf}
-use Rattle.records.specs.Active.{lastStart, orFirst, reached}
+use Rattle.records.specs.Active.{lastStart, orFirst, activeUpTo}
 use Rattle.records.specs.Layout.{lengthPlace, geomBase, geomStride, elevBase, bankBase, offsetBase, tshiftBase, sectionBase, extentBase, heightBase, profileBase, shapeBase, cubicBase, cubicStride, heightStride, geomCountAt, elevCountAt, bankCountAt, offsetCountAt, tshiftCountAt, sectionCountAt, profileCountAt, kindBase, sectionWords, sectionStride, laneWords, laneStride, profileWords, profileStride, stripWords, stripStride}
 
 -- ---- the road
@@ -65,6 +65,10 @@ pub record Road : Type 0 where
   pub sections : List Section
   pub profiles : List Profile
   pub strips : List Strip
+
+-- "arc of size ≤ 1e-9 is a line": a curvature up to here is straight
+abbrev pub straightCurvature : Float
+straightCurvature = f64 0x3e11_2e0b_e826_d695
 
 -- ---- decoding
 
@@ -245,11 +249,11 @@ columnOf (present d) c = columnBy d c
 
 unfoldable pub geomIndex : Road → Float → ℕ
 unfolding lastStart
-geomIndex road s = orFirst (lastStart (λ i. geomAt road i .s) (reached s) (length (road .geoms)))
+geomIndex road s = orFirst (lastStart (λ i. geomAt road i .s) (activeUpTo s) (length (road .geoms)))
 
 unfoldable pub sectionIndex : Road → Float → ℕ
 unfolding lastStart
-sectionIndex road s = orFirst (lastStart (λ i. sectionOf road i .start) (reached s) (length (road .sections)))
+sectionIndex road s = orFirst (lastStart (λ i. sectionOf road i .start) (activeUpTo s) (length (road .sections)))
 
 -- The road of the two slices that a function was lent, as its contract names it
 abbrev pub lentRoad : {X Y : Type 0} → Both (RefT (List ℕ)) X → Both (RefT (List Float)) Y → Road

@@ -9,6 +9,7 @@ pub use points::GeomShape;
 pub use points::HeightDef;
 pub use points::Point;
 pub use points::RefPoint;
+pub use points::STRAIGHT_CURVATURE;
 pub use points::StripKind;
 pub use road::elevations;
 pub use road::geom_count;

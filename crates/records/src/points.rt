@@ -19,6 +19,9 @@ pub struct RefPoint {
     pub bank_rate: f64,
 }
 
+// An arc of at most this curvature is a line.
+pub const STRAIGHT_CURVATURE: f64 = 1e-9;
+
 // The shape of a geometry; an arc carries its curvature, a spiral its curvatures at the start and at the end.
 pub enum GeomShape {
     Line,

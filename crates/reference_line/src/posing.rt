@@ -4,6 +4,7 @@ use crate::counting::leading_at;
 use crate::differences::less;
 use records::GeomRec;
 use records::GeomShape;
+use records::STRAIGHT_CURVATURE;
 use spirals::Pose;
 use spirals::Sample;
 use spirals::least;
@@ -14,8 +15,8 @@ ghost use mathlib.Core.Path.{_≡_};
 ghost use Prim.Native.Nat.{_<_, _≤_};
 ghost use mathlib.Core.Bool.{cond};
 ghost use lib.Ieee.{lt};
-ghost use Rattle.float_laws.specs.Binary64.{f64, zero64, absOf};
-ghost use Rattle.records.specs.Roads.{roadOf};
+ghost use Rattle.float_laws.specs.Binary64.{zero64, absOf};
+ghost use Rattle.records.specs.Roads.{roadOf, straightCurvature};
 ghost use Rattle.spirals.specs.Poses.{linePose, arcPose, held, segment, fractionOf, between, spiralPose, poseOf};
 ghost use Rattle.spirals.specs.Spiral.{sampleAt};
 ghost use Rattle.reference_line.specs.Bearings.{bearingOf};
@@ -117,9 +118,9 @@ fn size(k: f64) -> f64
 
 // An arc of curvature 1e-9 or less is a line.
 fn arc_or_line(g: GeomRec, k: f64, ds: f64) -> Bearing
-    ensures { λ r. ⌜ r ≡ bearingOf (cond (lt (f64 0x3e11_2e0b_e826_d695) (absOf k)) (arcPose g k ds) (linePose g ds)) ⌝ }
+    ensures { λ r. ⌜ r ≡ bearingOf (cond (lt straightCurvature (absOf k)) (arcPose g k ds) (linePose g ds)) ⌝ }
 {
-    if 1e-9 < size(k) {
+    if STRAIGHT_CURVATURE < size(k) {
         arc_bearing(g, k, ds)
     } else {
         line_bearing(g, ds)

@@ -17,7 +17,7 @@ use Rattle.limit_laws.proofs.Fitting.{Fitting, road-fits}
 use Rattle.limit_laws.proofs.RoadBounds.{OnRoad}
 use Rattle.admission.specs.Admission.{admitted}
 use Rattle.admission.proofs.AdmissionLaws.{admitted-structured, admitted-limited, admitted-samples}
-use Rattle.spirals.specs.Spiral.{samplesNeeded, samplesOf}
+use Rattle.spirals.specs.Spiral.{mostSamples, samplesNeeded, samplesOf}
 use Rattle.spirals.specs.Poses.{poseOf}
 use Rattle.road_laws.proofs.Geometry.{PoseWithin}
 use Rattle.road_laws.proofs.PoseBounds.{pose-far, station-pose-within}
@@ -59,10 +59,10 @@ module _ (words : List ℕ) (numbers : List Float) where
   section-there e = subst (λ (n : ℕ). 0 < n) (sym (section-count words numbers)) (leb→le 1 (wordAt words numbers 5) (true-T (leb 1 (wordAt words numbers 5)) (counts-first e .1)))
 
   -- rows 3 to 5: at every station x and y are within 1,300,000 and the heading within 12,000, whatever follows the samples
-  pub admitted-pose-within : Fitting numbers → structured words numbers ≡ true → limited (roadOf words numbers) ≡ true → leb (samplesNeeded (roadOf words numbers)) 2000 ≡ true → (rest : List Float) (s : Float) → OnRoad (roadOf words numbers) s
+  pub admitted-pose-within : Fitting numbers → structured words numbers ≡ true → limited (roadOf words numbers) ≡ true → leb (samplesNeeded (roadOf words numbers)) mostSamples ≡ true → (rest : List Float) (s : Float) → OnRoad (roadOf words numbers) s
       → PoseWithin (poseOf (roadOf words numbers) (samplesOf (roadOf words numbers) ++ rest) (geomIndex (roadOf words numbers) s) s) pose-far sineRange
   admitted-pose-within f e l n rest s o =
-      station-pose-within (roadOf words numbers) (road-fits words numbers f) l (leb→le (samplesNeeded (roadOf words numbers)) 2000 (true-T (leb (samplesNeeded (roadOf words numbers)) 2000) n)) (geom-there e) rest s o
+      station-pose-within (roadOf words numbers) (road-fits words numbers f) l (leb→le (samplesNeeded (roadOf words numbers)) mostSamples (true-T (leb (samplesNeeded (roadOf words numbers)) mostSamples) n)) (geom-there e) rest s o
 
   -- the same of an admitted road
   pub pose-kept : Fitting numbers → admitted words numbers ≡ true → (rest : List Float) (s : Float) → OnRoad (roadOf words numbers) s

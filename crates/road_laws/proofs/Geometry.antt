@@ -24,31 +24,17 @@ use Rattle.records.specs.declared.points.GeomShape.the-variants.{Arc}
 use Rattle.records.specs.declared.points.Found.{Found}
 use Rattle.records.specs.declared.points.Found.the-variants.{At, Nothing}
 use Rattle.records.specs.Active.{lastStart, orFirst}
-use Rattle.records.specs.Roads.{Road, geomAt, geomIndex}
+use Rattle.records.specs.Roads.{Road, straightCurvature, geomAt, geomIndex}
 use Rattle.spirals.specs.declared.line.Pose.{Pose}
 use Rattle.spirals.specs.Poses.{linePose, arcPose}
-use Rattle.ranges.specs.Bounds.{inRange, sized}
-use Rattle.bounds.specs.Limits.{shapeLimited, limited}
+use Rattle.ranges.specs.Ranges.{inRange, sized}
+use Rattle.bounds.specs.Limits.{greatestLength, greatestPlace, greatestHeading, leastArcCurvature, greatestArcCurvature, shapeLimited, limited}
 use Rattle.limit_laws.proofs.Fitting.{RoadFits}
 use Rattle.limit_laws.proofs.ActiveRecord.{found-at}
 use Rattle.limit_laws.proofs.LimitParts.{and-fst, true-T, arc-parts}
 use Rattle.limit_laws.proofs.RoadBounds.{OnRoad, station-within, geom-start-in}
 
--- ---- the constants: 1,000,000, 1,000, 10,000, 1e-9 and 0.00001
-abbrev pub million : Float
-million = f64 0x412e_8480_0000_0000
-
-abbrev pub thousand : Float
-thousand = f64 0x408f_4000_0000_0000
-
-abbrev pub ten-thousand : Float
-ten-thousand = f64 0x40c3_8800_0000_0000
-
-abbrev pub nano : Float
-nano = f64 0x3e11_2e0b_e826_d695
-
-abbrev pub least-curve : Float
-least-curve = f64 0x3ee4_f8b5_88e3_68f1
+-- ---- the constants
 
 -- 1,010,000, 1,200,001 and 11,000
 abbrev pub line-far : Float
@@ -101,45 +87,45 @@ pub index-below : (road : Road) (s : Float) → 0 < length (road .geoms) → geo
 unfolding geomIndex
 index-below road s h = index-in (λ i. geomAt road i .s) _ (length (road .geoms)) h
 
-low-finite : T (finite (zero64 ⊖ ten-thousand))
+low-finite : T (finite (zero64 ⊖ greatestLength))
 unfolding ofBits sub
 low-finite = tt
 
-high-finite : T (finite (ten-thousand ⊖ zero64))
+high-finite : T (finite (greatestLength ⊖ zero64))
 unfolding ofBits sub
 high-finite = tt
 
-low-order : T (le (neg ten-thousand) (zero64 ⊖ ten-thousand))
+low-order : T (le (neg greatestLength) (zero64 ⊖ greatestLength))
 unfolding ofBits sub neg le
 low-order = tt
 
-high-order : T (le (ten-thousand ⊖ zero64) ten-thousand)
+high-order : T (le (greatestLength ⊖ zero64) greatestLength)
 unfolding ofBits sub le
 high-order = tt
 
-ten-thousand-real : Within binary64 zero64 ten-thousand
+length-real : Within binary64 zero64 greatestLength
 unfolding ofBits fits le neg
-ten-thousand-real = within-const binary64 zero64 ten-thousand tt
+length-real = within-const binary64 zero64 greatestLength tt
 
 module _ (road : Road) (fit : RoadFits road) (ok : limited road ≡ true) where
-  station-in : (s : Float) → OnRoad road s → In binary64 zero64 ten-thousand s
+  station-in : (s : Float) → OnRoad road s → In binary64 zero64 greatestLength s
   station-in s o =
       let w = station-within road fit ok s o in
-      record { low = ten-thousand-real .value; high = ten-thousand-real .bound; value = w .value; above = o .above; below = le-of-within binary64 s ten-thousand w .1 }
+      record { low = length-real .value; high = length-real .bound; value = w .value; above = o .above; below = le-of-within binary64 s greatestLength w .1 }
 
   -- a geometry's start lies on the road
   pub start-on : (i : ℕ) → i < length (road .geoms) → OnRoad road (geomAt road i .s)
   start-on i h = let g = geom-start-in road fit ok i h in record { fits = fit .geoms i .s; above = g .above; below = g .below }
 
   -- so a station is at most 10,000 away from it, before or behind
-  pub away-within : (i : ℕ) → i < length (road .geoms) → (s : Float) → OnRoad road s → Within binary64 (s ⊖ geomAt road i .s) ten-thousand
+  pub away-within : (i : ℕ) → i < length (road .geoms) → (s : Float) → OnRoad road s → Within binary64 (s ⊖ geomAt road i .s) greatestLength
   away-within i h s o =
       let a = geomAt road i .s in
-      let d = sub-in binary64 zero64 ten-thousand zero64 ten-thousand s a (station-in s o) (station-in a (start-on i h)) low-finite high-finite in
-      let t = ten-thousand-real .bound in
-      within-of-le binary64 (s ⊖ a) ten-thousand (d .value) t
-      (le-trans' binary64 (neg ten-thousand) (zero64 ⊖ ten-thousand) (s ⊖ a) (neg-real binary64 ten-thousand t) (d .low) (d .value) low-order (d .above))
-      (le-trans' binary64 (s ⊖ a) (ten-thousand ⊖ zero64) ten-thousand (d .value) (d .high) t (d .below) high-order)
+      let d = sub-in binary64 zero64 greatestLength zero64 greatestLength s a (station-in s o) (station-in a (start-on i h)) low-finite high-finite in
+      let t = length-real .bound in
+      within-of-le binary64 (s ⊖ a) greatestLength (d .value) t
+      (le-trans' binary64 (neg greatestLength) (zero64 ⊖ greatestLength) (s ⊖ a) (neg-real binary64 greatestLength t) (d .low) (d .value) low-order (d .above))
+      (le-trans' binary64 (s ⊖ a) (greatestLength ⊖ zero64) greatestLength (d .value) (d .high) t (d .below) high-order)
 
 -- ---- the curvature of an arc that turns
 
@@ -157,47 +143,47 @@ size-real k r = go (lt k zero64)
     go true = neg-real binary64 k r
     go false = r
 
-nano-real : Real binary64 nano
+straight-real : Real binary64 straightCurvature
 unfolding ofBits fits
-nano-real = good-real binary64 nano tt
+straight-real = good-real binary64 straightCurvature tt
 
-least-real : Real binary64 least-curve
+least-real : Real binary64 leastArcCurvature
 unfolding ofBits fits
-least-real = good-real binary64 least-curve tt
+least-real = good-real binary64 leastArcCurvature tt
 
 clash : (a b c d : ℕ) → a + b ≤ c + d → c + d < a + b → ⊥
 clash a b c d h k = omega arith
 
 -- over 1e-9 in size, so 0.00001 at least
-pub arc-curved : (k : Float) → Real binary64 k → shapeLimited (Arc k) ≡ true → T (lt nano (absOf k)) → pl binary64 least-curve ≤ mag binary64 k
+pub arc-curved : (k : Float) → Real binary64 k → shapeLimited (Arc k) ≡ true → T (lt straightCurvature (absOf k)) → pl binary64 leastArcCurvature ≤ mag binary64 k
 arc-curved k r e h =
     let q = size-real k r in
     ⊎-elim
-    (λ (p : sized nano k ≡ true). absurd (clash _ _ _ _ (le→units binary64 (absOf k) nano q nano-real (true-T (le (absOf k) nano) p)) (lt→units binary64 nano (absOf k) nano-real q h)))
-    (λ (p : inRange least-curve one (absOf k) ≡ true).
-    let a = le→parts binary64 least-curve (absOf k) least-real q (true-T (le least-curve (absOf k)) (and-fst (le least-curve (absOf k)) (le (absOf k) one) p)) in
+    (λ (p : sized straightCurvature k ≡ true). absurd (clash _ _ _ _ (le→units binary64 (absOf k) straightCurvature q straight-real (true-T (le (absOf k) straightCurvature) p)) (lt→units binary64 straightCurvature (absOf k) straight-real q h)))
+    (λ (p : inRange leastArcCurvature greatestArcCurvature (absOf k) ≡ true).
+    let a = le→parts binary64 leastArcCurvature (absOf k) least-real q (true-T (le leastArcCurvature (absOf k)) (and-fst (le leastArcCurvature (absOf k)) (le (absOf k) greatestArcCurvature) p)) in
     le-trans (a .0) (le-trans (pl-le binary64 (absOf k)) (le-of-eq (size-mag k r))))
     (arc-parts k e)
 
 -- ---- the poses
 
-line-test : T (sum-passes million ten-thousand one line-far)
+line-test : T (sum-passes greatestPlace greatestLength one line-far)
 unfolding ofBits fits le add mul
 line-test = tt
 
-turn-test : T (sum-passes thousand one ten-thousand arc-turn)
+turn-test : T (sum-passes greatestHeading one greatestLength arc-turn)
 unfolding ofBits fits le add mul
 turn-test = tt
 
-thousand-range : Within binary64 thousand sineRange
+heading-range : Within binary64 greatestHeading sineRange
 unfolding ofBits fits le neg
-thousand-range = within-const binary64 thousand sineRange tt
+heading-range = within-const binary64 greatestHeading sineRange tt
 
 turn-range : Within binary64 arc-turn sineRange
 unfolding ofBits fits le neg
 turn-range = within-const binary64 arc-turn sineRange tt
 
-curve-pos : 0 < pl binary64 least-curve
+curve-pos : 0 < pl binary64 leastArcCurvature
 unfolding ofBits pl
 curve-pos = lit< tt
 
@@ -205,15 +191,15 @@ two-finite : T (finite (one ⊕ one))
 unfolding ofBits add
 two-finite = tt
 
-radius-finite : T (finite ((one ⊕ one) ⊘ least-curve))
+radius-finite : T (finite ((one ⊕ one) ⊘ leastArcCurvature))
 unfolding ofBits add div
 radius-finite = tt
 
-arc-finite : T (finite (million ⊕ (one ⊕ one) ⊘ least-curve))
+arc-finite : T (finite (greatestPlace ⊕ (one ⊕ one) ⊘ leastArcCurvature))
 unfolding ofBits add div
 arc-finite = tt
 
-arc-order : T (le (million ⊕ (one ⊕ one) ⊘ least-curve) arc-far)
+arc-order : T (le (greatestPlace ⊕ (one ⊕ one) ⊘ leastArcCurvature) arc-far)
 unfolding ofBits add div le
 arc-order = tt
 
@@ -222,25 +208,25 @@ unfolding ofBits fits
 arc-far-real = good-real binary64 arc-far tt
 
 -- (a - b) / k for two numbers of size 1 at most
-chord-within : (a b k : Float) → Within binary64 a one → Within binary64 b one → Real binary64 k → pl binary64 least-curve ≤ mag binary64 k → Within binary64 ((a ⊖ b) ⊘ k) ((one ⊕ one) ⊘ least-curve)
-chord-within a b k v w r h = div-within binary64 (a ⊖ b) k (one ⊕ one) least-curve (sub-within binary64 a b one one v w two-finite) r least-real curve-pos h radius-finite
+chord-within : (a b k : Float) → Within binary64 a one → Within binary64 b one → Real binary64 k → pl binary64 leastArcCurvature ≤ mag binary64 k → Within binary64 ((a ⊖ b) ⊘ k) ((one ⊕ one) ⊘ leastArcCurvature)
+chord-within a b k v w r h = div-within binary64 (a ⊖ b) k (one ⊕ one) leastArcCurvature (sub-within binary64 a b one one v w two-finite) r least-real curve-pos h radius-finite
 
-module _ (g : GeomRec) (wx : Within binary64 (g .x) million) (wy : Within binary64 (g .y) million) (wh : Within binary64 (g .hdg) thousand) (ds : Float) (wd : Within binary64 ds ten-thousand) where
+module _ (g : GeomRec) (wx : Within binary64 (g .x) greatestPlace) (wy : Within binary64 (g .y) greatestPlace) (wh : Within binary64 (g .hdg) greatestHeading) (ds : Float) (wd : Within binary64 ds greatestLength) where
   up-to-range : Within binary64 (g .hdg) sineRange
-  up-to-range = within-mono binary64 (g .hdg) thousand sineRange wh (thousand-range .bound) (le-of-within binary64 thousand sineRange thousand-range .1)
+  up-to-range = within-mono binary64 (g .hdg) greatestHeading sineRange wh (heading-range .bound) (le-of-within binary64 greatestHeading sineRange heading-range .1)
 
-  pub line-pose-within : PoseWithin (linePose g ds) line-far thousand
+  pub line-pose-within : PoseWithin (linePose g ds) line-far greatestHeading
   unfolding linePose
   line-pose-within =
       record {
-        x = sum-within (g .x) ds (cosineOf (g .hdg)) million ten-thousand one line-far wx wd (cosine-within (g .hdg) up-to-range) line-test;
-        y = sum-within (g .y) ds (sineOf (g .hdg)) million ten-thousand one line-far wy wd (sine-within (g .hdg) up-to-range) line-test;
+        x = sum-within (g .x) ds (cosineOf (g .hdg)) greatestPlace greatestLength one line-far wx wd (cosine-within (g .hdg) up-to-range) line-test;
+        y = sum-within (g .y) ds (sineOf (g .hdg)) greatestPlace greatestLength one line-far wy wd (sine-within (g .hdg) up-to-range) line-test;
         heading = wh;
       }
 
-  module _ (k : Float) (wk : Within binary64 k one) (h : pl binary64 least-curve ≤ mag binary64 k) where
+  module _ (k : Float) (wk : Within binary64 k one) (h : pl binary64 leastArcCurvature ≤ mag binary64 k) where
     pub arc-heading-within : Within binary64 (g .hdg ⊕ k ⊗ ds) arc-turn
-    arc-heading-within = sum-within (g .hdg) k ds thousand one ten-thousand arc-turn wh wk wd turn-test
+    arc-heading-within = sum-within (g .hdg) k ds greatestHeading one greatestLength arc-turn wh wk wd turn-test
 
     turned : Within binary64 (g .hdg ⊕ k ⊗ ds) sineRange
     turned = within-mono binary64 (g .hdg ⊕ k ⊗ ds) arc-turn sineRange arc-heading-within (turn-range .bound) (le-of-within binary64 arc-turn sineRange turn-range .1)
@@ -249,11 +235,11 @@ module _ (g : GeomRec) (wx : Within binary64 (g .x) million) (wy : Within binary
     unfolding arcPose
     arc-pose-within =
         let t = g .hdg ⊕ k ⊗ ds in
-        let R = (one ⊕ one) ⊘ least-curve in
+        let R = (one ⊕ one) ⊘ leastArcCurvature in
         let sx = (sineOf t ⊖ sineOf (g .hdg)) ⊘ k in
         let cy = (cosineOf t ⊖ cosineOf (g .hdg)) ⊘ k in
         record {
-          x = within-mono binary64 (g .x ⊕ sx) (million ⊕ R) arc-far (add-within binary64 (g .x) sx million R wx (chord-within (sineOf t) (sineOf (g .hdg)) k (sine-within t turned) (sine-within (g .hdg) up-to-range) (wk .value) h) arc-finite) arc-far-real arc-order;
-          y = within-mono binary64 (g .y ⊖ cy) (million ⊕ R) arc-far (sub-within binary64 (g .y) cy million R wy (chord-within (cosineOf t) (cosineOf (g .hdg)) k (cosine-within t turned) (cosine-within (g .hdg) up-to-range) (wk .value) h) arc-finite) arc-far-real arc-order;
+          x = within-mono binary64 (g .x ⊕ sx) (greatestPlace ⊕ R) arc-far (add-within binary64 (g .x) sx greatestPlace R wx (chord-within (sineOf t) (sineOf (g .hdg)) k (sine-within t turned) (sine-within (g .hdg) up-to-range) (wk .value) h) arc-finite) arc-far-real arc-order;
+          y = within-mono binary64 (g .y ⊖ cy) (greatestPlace ⊕ R) arc-far (sub-within binary64 (g .y) cy greatestPlace R wy (chord-within (cosineOf t) (cosineOf (g .hdg)) k (cosine-within t turned) (cosine-within (g .hdg) up-to-range) (wk .value) h) arc-finite) arc-far-real arc-order;
           heading = arc-heading-within;
         }

@@ -1,5 +1,6 @@
 pub mod Powers
 pub mod Geometry
+pub mod SpiralFirst
 pub mod SampleBounds
 pub mod SampleRise
 pub mod PoseBounds

@@ -19,18 +19,18 @@ use Rattle.float_laws.proofs.Checker.{good-real}
 use Rattle.trigonometry.specs.Sine.{sineRange, one}
 use Rattle.records.specs.declared.points.GeomShape.{GeomShape}
 use Rattle.records.specs.declared.points.GeomShape.the-variants.{Line, Arc, Spiral}
-use Rattle.records.specs.Roads.{Road, geomAt, geomIndex}
+use Rattle.records.specs.Roads.{Road, straightCurvature, geomAt, geomIndex}
 use Rattle.spirals.specs.declared.line.Sample.{Sample}
-use Rattle.spirals.specs.Spiral.{spiralSteps, sampleCount, samplesBefore, samplesNeeded, geomSamples, samplesOf, sampleAt}
+use Rattle.spirals.specs.Spiral.{spiralSteps, sampleCount, samplesBefore, samplesNeeded, geomSamples, samplesOf, sampleAt, mostSamples}
 use Rattle.spirals.specs.Poses.{linePose, arcPose, held, leading, segment, fractionOf, between, spiralPose, poseBy, poseOf}
 use Rattle.spirals.proofs.SpiralLaws.{count-spiral, samples-held, first-distance}
-use Rattle.spirals.proofs.SpiralFirst.{admitted-count}
 use Rattle.spirals.proofs.PoseLaws.{segment-in}
-use Rattle.bounds.specs.Limits.{shapeLimited, limited}
+use Rattle.bounds.specs.Limits.{greatestLength, greatestHeading, shapeLimited, limited}
 use Rattle.limit_laws.proofs.Fitting.{Fits64, ShapeFits, RoadFits}
 use Rattle.limit_laws.proofs.RoadBounds.{OnRoad, geom-x-within, geom-y-within, geom-hdg-within, geom-length-in, geom-shape-passes, arc-within, spiral-within}
 use Rattle.road_laws.proofs.Powers.{Plus, none-below, sub-plus, ratio-plus, sub-above}
-use Rattle.road_laws.proofs.Geometry.{thousand, ten-thousand, nano, line-far, arc-far, arc-turn, PoseWithin, pose-mono, index-below, away-within, arc-curved, line-pose-within, arc-pose-within}
+use Rattle.road_laws.proofs.SpiralFirst.{admitted-count}
+use Rattle.road_laws.proofs.Geometry.{line-far, arc-far, arc-turn, PoseWithin, pose-mono, index-below, away-within, arc-curved, line-pose-within, arc-pose-within}
 use Rattle.road_laws.proofs.SampleBounds.{not-below-zero, sample-far, sample-turn, SampleWithin, sample-within, few-steps}
 use Rattle.road_laws.proofs.SampleRise.{samples-rise}
 
@@ -251,9 +251,9 @@ spiral-far-within : Within binary64 spiral-far pose-far
 unfolding ofBits fits le neg
 spiral-far-within = within-const binary64 spiral-far pose-far tt
 
-thousand-within : Within binary64 thousand sineRange
+heading-within : Within binary64 greatestHeading sineRange
 unfolding ofBits fits le neg
-thousand-within = within-const binary64 thousand sineRange tt
+heading-within = within-const binary64 greatestHeading sineRange tt
 
 arc-turn-within : Within binary64 arc-turn sineRange
 unfolding ofBits fits le neg
@@ -266,7 +266,7 @@ spiral-turn-within = within-const binary64 spiral-turn sineRange tt
 abbrev noSample : Sample
 noSample = record { distance = nan; x = nan; y = nan; heading = nan }
 
-module _ (road : Road) (fit : RoadFits road) (ok : limited road ≡ true) (few : samplesNeeded road ≤ 2000) (rest : List Float) (i : ℕ) (below : i < length (road .geoms)) where
+module _ (road : Road) (fit : RoadFits road) (ok : limited road ≡ true) (few : samplesNeeded road ≤ mostSamples) (rest : List Float) (i : ℕ) (below : i < length (road .geoms)) where
   -- each sample that the geometry reads is one of its own
   module _ {k0 k1 : Float} (e : geomAt road i .shape ≡ Spiral k0 k1) (f0 : Fits64 k0) (f1 : Fits64 k1) where
     curves : Within binary64 k0 one × Within binary64 k1 one
@@ -296,15 +296,15 @@ module _ (road : Road) (fit : RoadFits road) (ok : limited road ≡ true) (few :
         (let o : k < spiralSteps (g .length) = omega arith in o)))
 
   module _ (s : Float) (o : OnRoad road s) where
-    away : Within binary64 (s ⊖ geomAt road i .s) ten-thousand
+    away : Within binary64 (s ⊖ geomAt road i .s) greatestLength
     away = away-within road fit ok i below s o
 
     on-line : PoseWithin (linePose (geomAt road i) (s ⊖ geomAt road i .s)) pose-far sineRange
     on-line =
-        pose-mono (linePose (geomAt road i) (s ⊖ geomAt road i .s)) line-far pose-far thousand sineRange
-        (line-pose-within (geomAt road i) (geom-x-within road fit ok i below) (geom-y-within road fit ok i below) (geom-hdg-within road fit ok i below) (s ⊖ geomAt road i .s) away) line-far-within thousand-within
+        pose-mono (linePose (geomAt road i) (s ⊖ geomAt road i .s)) line-far pose-far greatestHeading sineRange
+        (line-pose-within (geomAt road i) (geom-x-within road fit ok i below) (geom-y-within road fit ok i below) (geom-hdg-within road fit ok i below) (s ⊖ geomAt road i .s) away) line-far-within heading-within
 
-    on-arc : (k : Float) → Fits64 k → shapeLimited (Arc k) ≡ true → T (lt nano (absOf k)) → PoseWithin (arcPose (geomAt road i) k (s ⊖ geomAt road i .s)) pose-far sineRange
+    on-arc : (k : Float) → Fits64 k → shapeLimited (Arc k) ≡ true → T (lt straightCurvature (absOf k)) → PoseWithin (arcPose (geomAt road i) k (s ⊖ geomAt road i .s)) pose-far sineRange
     on-arc k f e h =
         let w = arc-within k f e in
         pose-mono (arcPose (geomAt road i) k (s ⊖ geomAt road i .s)) arc-far pose-far arc-turn sineRange
@@ -312,9 +312,9 @@ module _ (road : Road) (fit : RoadFits road) (ok : limited road ≡ true) (few :
 
     by-shape : (shape : GeomShape) → geomAt road i .shape ≡ shape → ShapeFits shape → shapeLimited shape ≡ true → PoseWithin (poseBy road (samplesOf road ++ rest) i (s ⊖ geomAt road i .s) shape) pose-far sineRange
     by-shape Line e f l = on-line
-    by-shape (Arc k) e f l = go (lt nano (absOf k)) refl
+    by-shape (Arc k) e f l = go (lt straightCurvature (absOf k)) refl
       where
-        go : (b : Bool) → lt nano (absOf k) ≡ b → PoseWithin (cond b (arcPose (geomAt road i) k (s ⊖ geomAt road i .s)) (linePose (geomAt road i) (s ⊖ geomAt road i .s))) pose-far sineRange
+        go : (b : Bool) → lt straightCurvature (absOf k) ≡ b → PoseWithin (cond b (arcPose (geomAt road i) k (s ⊖ geomAt road i .s)) (linePose (geomAt road i) (s ⊖ geomAt road i .s))) pose-far sineRange
         go true q = on-arc k f l (subst T (sym q) tt)
         go false q = on-line
     by-shape (Spiral k0 k1) e f l =
@@ -328,6 +328,6 @@ module _ (road : Road) (fit : RoadFits road) (ok : limited road ≡ true) (few :
     pose-within = by-shape (geomAt road i .shape) refl (fit .geoms i .shape) (geom-shape-passes road fit ok i below)
 
 -- of the geometry in use there
-pub station-pose-within : (road : Road) → RoadFits road → limited road ≡ true → samplesNeeded road ≤ 2000 → 0 < length (road .geoms) → (rest : List Float) (s : Float) → OnRoad road s
+pub station-pose-within : (road : Road) → RoadFits road → limited road ≡ true → samplesNeeded road ≤ mostSamples → 0 < length (road .geoms) → (rest : List Float) (s : Float) → OnRoad road s
     → PoseWithin (poseOf road (samplesOf road ++ rest) (geomIndex road s) s) pose-far sineRange
 station-pose-within road fit ok few some rest s o = pose-within road fit ok few rest (geomIndex road s) (index-below road s some) s o

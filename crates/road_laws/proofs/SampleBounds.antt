@@ -24,18 +24,13 @@ use Rattle.records.specs.declared.points.GeomRec.{GeomRec}
 use Rattle.records.specs.declared.points.GeomShape.the-variants.{Spiral}
 use Rattle.records.specs.Roads.{Road, geomAt}
 use Rattle.spirals.specs.declared.line.Sample.{Sample}
-use Rattle.spirals.specs.Spiral.{goesOn, stepAt, stepsFrom, mostSteps, spiralSteps, sampleCount, samplesBefore, samplesNeeded, turnRate, headingAt, firstSample, nextSample, samplesAfter, geomSamples}
+use Rattle.spirals.specs.Spiral.{mostSamples, endMargin, goesOn, wholeStep, stepAt, stepsFrom, mostSteps, spiralSteps, sampleCount, samplesBefore, samplesNeeded, noTurnLength, turnRate, headingAt, firstSample, nextSample, samplesAfter, geomSamples}
 use Rattle.spirals.proofs.SpiralLaws.{count-spiral, before-next, before-mono, samples-are}
+use Rattle.bounds.specs.Limits.{greatestPlace, greatestHeading, leastGeomLength, greatestGeomLength}
 use Rattle.road_laws.proofs.Powers.{Small, mul-small, div-small, Plus, none-below, plus-small, plus-mono, sub-plus, lesser-plus, div-plus, add-plus, sum-next, power-below}
-use Rattle.road_laws.proofs.Geometry.{million, thousand, ten-thousand, nano, sum-passes, sum-within}
+use Rattle.road_laws.proofs.Geometry.{sum-passes, sum-within}
 
--- ---- the constants: 0.01, 0.25, 2, 4, 499.75, 500, 1,500, 3,500 and 1,000,500
-abbrev pub hundredth : Float
-hundredth = f64 0x3f84_7ae1_47ae_147b
-
-abbrev pub quarter : Float
-quarter = f64 0x3fd0_0000_0000_0000
-
+-- ---- the constants: 2, 4, 499.75, 500, 1,500, 3,500 and 1,000,500
 abbrev two : Float
 two = f64 0x4000_0000_0000_0000
 
@@ -58,13 +53,13 @@ abbrev pub sample-far : Float
 sample-far = f64 0x412e_8868_0000_0000
 
 -- a quarter metre is 2 ^ 1072 units
-pub quarter-plus : Plus binary64 quarter (2 ^ 1072)
+pub quarter-plus : Plus binary64 wholeStep (2 ^ 1072)
 unfolding ofBits fits pl mi
-quarter-plus = record { value = good-real binary64 quarter tt; plus = refl; le = lit≤ tt }
+quarter-plus = record { value = good-real binary64 wholeStep tt; plus = refl; le = lit≤ tt }
 
-pub nano-plus : Plus binary64 nano (pl binary64 hundredth)
+pub nano-plus : Plus binary64 endMargin (pl binary64 leastGeomLength)
 unfolding ofBits fits pl mi
-nano-plus = record { value = good-real binary64 nano tt; plus = refl; le = lit≤ tt }
+nano-plus = record { value = good-real binary64 endMargin tt; plus = refl; le = lit≤ tt }
 
 zero-plus : Plus binary64 zero64 (0 * 2 ^ 1072)
 unfolding ofBits fits pl mi
@@ -86,15 +81,15 @@ two-large : 2 ^ 1074 ≤ pl binary64 two
 unfolding ofBits pl
 two-large = lit≤ tt
 
-hundredth-large : 2 ^ 1067 ≤ pl binary64 hundredth
+hundredth-large : 2 ^ 1067 ≤ pl binary64 leastGeomLength
 unfolding ofBits pl
 hundredth-large = lit≤ tt
 
-hundredth-plus : mi binary64 hundredth ≡ 0
+hundredth-plus : mi binary64 leastGeomLength ≡ 0
 unfolding ofBits mi
 hundredth-plus = refl
 
-ten-thousand-small : pl binary64 ten-thousand ≤ 2 ^ 1088
+ten-thousand-small : pl binary64 greatestGeomLength ≤ 2 ^ 1088
 unfolding ofBits pl
 ten-thousand-small = lit≤ tt
 
@@ -146,7 +141,7 @@ end-large : 1999 * 2 ^ 1072 ≤ pl binary64 sample-end
 unfolding ofBits pl
 end-large = lit≤ tt
 
-million-small : pl binary64 million ≤ 4000000 * 2 ^ 1072
+million-small : pl binary64 greatestPlace ≤ 4000000 * 2 ^ 1072
 unfolding ofBits pl
 million-small = lit≤ tt
 
@@ -162,7 +157,7 @@ far-large : 4002000 * 2 ^ 1072 ≤ pl binary64 sample-far
 unfolding ofBits pl
 far-large = lit≤ tt
 
-first-test : T (sum-passes thousand one five-hundred fifteen-hundred)
+first-test : T (sum-passes greatestHeading one five-hundred fifteen-hundred)
 unfolding ofBits fits le add mul
 first-test = tt
 
@@ -170,9 +165,9 @@ second-test : T (sum-passes fifteen-hundred four five-hundred sample-turn)
 unfolding ofBits fits le add mul
 second-test = tt
 
-thousand-turn : Within binary64 thousand sample-turn
+thousand-turn : Within binary64 greatestHeading sample-turn
 unfolding ofBits fits le neg
-thousand-turn = within-const binary64 thousand sample-turn tt
+thousand-turn = within-const binary64 greatestHeading sample-turn tt
 
 pub turn-in-range : Within binary64 sample-turn sineRange
 unfolding ofBits fits le neg
@@ -184,16 +179,16 @@ unfolding ofBits
 not-below-zero x r h = from-zero binary64 x r h
 
 -- ---- an admitted length
-module _ (len : Float) (il : In binary64 hundredth ten-thousand len) where
-  pub length-large : pl binary64 hundredth ≤ pl binary64 len
-  length-large = le→parts binary64 hundredth len (il .low) (il .value) (il .above) .0
+module _ (len : Float) (il : In binary64 leastGeomLength greatestGeomLength len) where
+  pub length-large : pl binary64 leastGeomLength ≤ pl binary64 len
+  length-large = le→parts binary64 leastGeomLength len (il .low) (il .value) (il .above) .0
 
   pub length-plus : mi binary64 len ≡ 0
-  length-plus = none-below (mi binary64 len) (mi binary64 hundredth) (le→parts binary64 hundredth len (il .low) (il .value) (il .above) .1) hundredth-plus
+  length-plus = none-below (mi binary64 len) (mi binary64 leastGeomLength) (le→parts binary64 leastGeomLength len (il .low) (il .value) (il .above) .1) hundredth-plus
 
   -- over 1e-9
-  pub nano-below : Plus binary64 nano (pl binary64 len)
-  nano-below = plus-mono binary64 nano (pl binary64 hundredth) (pl binary64 len) length-large nano-plus
+  pub nano-below : Plus binary64 endMargin (pl binary64 len)
+  nano-below = plus-mono binary64 endMargin (pl binary64 leastGeomLength) (pl binary64 len) length-large nano-plus
 
 -- ---- steps in any format
 module _ (f : Format) where
@@ -260,11 +255,11 @@ record Sampled (a k : ℕ) (p : Sample) : Type 0 where
   heading : Within binary64 (p .heading) sample-turn
 
 module _ (g : GeomRec) (k0 k1 : Float)
-    (wx : Within binary64 (g .x) million) (wy : Within binary64 (g .y) million) (wh : Within binary64 (g .hdg) thousand)
-    (w0 : Within binary64 k0 one) (w1 : Within binary64 k1 one) (il : In binary64 hundredth ten-thousand (g .length)) where
+    (wx : Within binary64 (g .x) greatestPlace) (wy : Within binary64 (g .y) greatestPlace) (wh : Within binary64 (g .hdg) greatestHeading)
+    (w0 : Within binary64 k0 one) (w1 : Within binary64 k1 one) (il : In binary64 leastGeomLength greatestGeomLength (g .length)) where
   module _ (a : ℕ) (la : 2 ^ a ≤ pl binary64 (g .length)) (ha : pl binary64 (g .length) ≤ 2 ^ suc a) where
     a-high : a ≤ 1088
-    a-high = exponent a 1088 (le-trans la (le-trans (le→parts binary64 (g .length) ten-thousand (il .value) (il .high) (il .below) .0) ten-thousand-small))
+    a-high = exponent a 1088 (le-trans la (le-trans (le→parts binary64 (g .length) greatestGeomLength (il .value) (il .high) (il .below) .0) ten-thousand-small))
 
     a-low : 1066 ≤ a
     a-low = le-of-suc-le-suc (exponent 1067 (suc a) (le-trans hundredth-large (le-trans (length-large (g .length) il) ha)))
@@ -272,7 +267,7 @@ module _ (g : GeomRec) (k0 k1 : Float)
     -- ---- the heading
 
     rate-small : Small binary64 (turnRate (g .length) k0 k1) (2149 - a)
-    rate-small = go (lt nano (g .length))
+    rate-small = go (lt noTurnLength (g .length))
       where
         go : (b : Bool) → Small binary64 (cond b ((k1 ⊖ k0) ⊘ g .length) zero64) (2149 - a)
         go true =
@@ -286,19 +281,19 @@ module _ (g : GeomRec) (k0 k1 : Float)
         let e = mul-small binary64 half c 1073 (2149 - a) (2148 - a) half-small rate-small (sum-half a a-high) (room-half a a-low) in
         let w = mul-small binary64 (half ⊗ c) u (2148 - a) (suc (suc a)) 1076 e (plus-small binary64 u (suc (suc a)) (record { value = v .value; plus = v .plus; le = l })) (sum-four a a-high) (lit< tt) in
         sum-within (g .hdg ⊕ k0 ⊗ u) (half ⊗ c ⊗ u) u fifteen-hundred four five-hundred sample-turn
-        (sum-within (g .hdg) k0 u thousand one five-hundred fifteen-hundred wh w0 wu first-test) (small-within (half ⊗ c ⊗ u) four 1076 w four-real four-plus four-large) wu second-test
+        (sum-within (g .hdg) k0 u greatestHeading one five-hundred fifteen-hundred wh w0 wu first-test) (small-within (half ⊗ c ⊗ u) four 1076 w four-real four-plus four-large) wu second-test
 
     -- ---- a step
 
-    near-end : Plus binary64 (g .length ⊖ nano) (pl binary64 (g .length))
-    near-end = sub-plus binary64 (g .length) nano (il .value) (length-plus (g .length) il) (nano-below (g .length) il)
+    near-end : Plus binary64 (g .length ⊖ endMargin) (pl binary64 (g .length))
+    near-end = sub-plus binary64 (g .length) endMargin (il .value) (length-plus (g .length) il) (nano-below (g .length) il)
 
     before-end : (u : Float) (M : ℕ) → Plus binary64 u M → T (goesOn (g .length) u) → Plus binary64 u (pl binary64 (g .length))
     unfolding goesOn
-    before-end u M v t = below binary64 u (g .length ⊖ nano) (pl binary64 (g .length)) (v .value) (v .plus) near-end t
+    before-end u M v t = below binary64 u (g .length ⊖ endMargin) (pl binary64 (g .length)) (v .value) (v .plus) near-end t
 
     step-plus : (u : Float) → Plus binary64 u (pl binary64 (g .length)) → Plus binary64 (stepAt (g .length) u) (pl binary64 (g .length)) × Plus binary64 (stepAt (g .length) u) (2 ^ 1072)
-    step-plus u v = lesser-plus binary64 (g .length ⊖ u) quarter (pl binary64 (g .length)) (2 ^ 1072) (sub-plus binary64 (g .length) u (il .value) (length-plus (g .length) il) v) quarter-plus
+    step-plus u v = lesser-plus binary64 (g .length ⊖ u) wholeStep (pl binary64 (g .length)) (2 ^ 1072) (sub-plus binary64 (g .length) u (il .value) (length-plus (g .length) il) v) quarter-plus
 
     ahead : (u w : Float) (k : ℕ) → k < 2000 → Plus binary64 u (k * 2 ^ 1072) → Plus binary64 u (pl binary64 (g .length)) → Plus binary64 w (pl binary64 (g .length)) → Plus binary64 w (2 ^ 1072)
         → Plus binary64 (u ⊕ w) (suc k * 2 ^ 1072) × (pl binary64 (u ⊕ w) ≤ 2 ^ suc (suc a))
@@ -362,7 +357,7 @@ module _ (g : GeomRec) (k0 k1 : Float)
           x = le-trans (wx .le) million-small;
           y-real = wy .value;
           y = le-trans (wy .le) million-small;
-          heading = within-mono binary64 (g .hdg) thousand sample-turn wh (thousand-turn .bound) (le-of-within binary64 thousand sample-turn thousand-turn .1);
+          heading = within-mono binary64 (g .hdg) greatestHeading sample-turn wh (thousand-turn .bound) (le-of-within binary64 greatestHeading sample-turn thousand-turn .1);
         }
 
     -- ---- all samples: i steps after p, where k are made before; the test of going on is an argument, as in `stepsFrom`
@@ -421,7 +416,7 @@ shown a k p h s =
     }
 
 -- every sample of a spiral of at most 1,999 steps
-pub sample-within : (g : GeomRec) (k0 k1 : Float) → Within binary64 (g .x) million → Within binary64 (g .y) million → Within binary64 (g .hdg) thousand → Within binary64 k0 one → Within binary64 k1 one → In binary64 hundredth ten-thousand (g .length)
+pub sample-within : (g : GeomRec) (k0 k1 : Float) → Within binary64 (g .x) greatestPlace → Within binary64 (g .y) greatestPlace → Within binary64 (g .hdg) greatestHeading → Within binary64 k0 one → Within binary64 k1 one → In binary64 leastGeomLength greatestGeomLength (g .length)
     → (i : ℕ) (d : Sample) → g .shape ≡ Spiral k0 k1 → spiralSteps (g .length) ≤ 1999 → i ≤ spiralSteps (g .length) → SampleWithin (getD (geomSamples g) i d)
 sample-within g k0 k1 wx wy wh w0 w1 il i d e b h =
     let l = length-large (g .length) il in
@@ -429,7 +424,7 @@ sample-within g k0 k1 wx wy wh w0 w1 il i d e b h =
     shown (w .0) i (getD (geomSamples g) i d) (le-trans h b) (sampled-at g k0 k1 wx wy wh w0 w1 il (w .0) (w .1 .0) (w .1 .1) i d e b h)
 
 -- a road that passes row 5 has no spiral of more steps
-pub few-steps : (road : Road) (i : ℕ) {k0 k1 : Float} → i < length (road .geoms) → geomAt road i .shape ≡ Spiral k0 k1 → samplesNeeded road ≤ 2000 → spiralSteps (geomAt road i .length) ≤ 1999
+pub few-steps : (road : Road) (i : ℕ) {k0 k1 : Float} → i < length (road .geoms) → geomAt road i .shape ≡ Spiral k0 k1 → samplesNeeded road ≤ mostSamples → spiralSteps (geomAt road i .length) ≤ 1999
 unfolding samplesNeeded
 few-steps road i h e b = bound (samplesBefore road i) (samplesBefore road (suc i)) (sampleCount (geomAt road i)) (spiralSteps (geomAt road i .length)) _ (before-next road i) (count-spiral (geomAt road i) e refl) (before-mono road (suc i) (length (road .geoms)) h) b
   where

@@ -24,11 +24,11 @@ use Rattle.trigonometry.specs.Sine.{one}
 use Rattle.records.specs.declared.points.GeomRec.{GeomRec}
 use Rattle.records.specs.declared.points.GeomShape.the-variants.{Spiral}
 use Rattle.spirals.specs.declared.line.Sample.{Sample}
-use Rattle.spirals.specs.Spiral.{goesOn, stepAt, stepsFrom, mostSteps, spiralSteps, firstSample, nextSample, samplesAfter, geomSamples}
+use Rattle.spirals.specs.Spiral.{endMargin, goesOn, wholeStep, stepAt, stepsFrom, mostSteps, spiralSteps, firstSample, nextSample, samplesAfter, geomSamples}
 use Rattle.spirals.proofs.SpiralLaws.{samples-are, samples-next}
 use Rattle.road_laws.proofs.Powers.{Plus, sub-plus}
-use Rattle.road_laws.proofs.Geometry.{million, thousand, ten-thousand, nano}
-use Rattle.road_laws.proofs.SampleBounds.{hundredth, quarter, quarter-plus, nano-plus, not-below-zero, length-plus, nano-below, sample-end, five-hundred, SampleWithin, sample-within}
+use Rattle.bounds.specs.Limits.{greatestPlace, greatestHeading, leastGeomLength, greatestGeomLength}
+use Rattle.road_laws.proofs.SampleBounds.{quarter-plus, nano-plus, not-below-zero, length-plus, nano-below, sample-end, five-hundred, SampleWithin, sample-within}
 
 -- ---- one step, in any format: what is left is at least 2 ^ s units, and the distance changes by it
 gap : (u r n l v S E : ℕ) → u < r → r * 1 * 2 ≤ n * 2 + E * 1 → n ≡ l - v → v ≤ l → E + 2 * S ≤ 2 * v → u + S ≤ l
@@ -83,15 +83,15 @@ module _ (f : Format) (len u v q : Float) (s J K : ℕ) (rl : Real f len) (zl : 
   rises t r = let w = step-large (left t) in risen (cond (lt (sub f len u) q) (sub f len u) q) (w .0) (w .1) (w .2) r
 
 -- ---- the constants
-quarter-large : 2 ^ 1043 ≤ pl binary64 quarter
+quarter-large : 2 ^ 1043 ≤ pl binary64 wholeStep
 unfolding ofBits pl
 quarter-large = lit≤ tt
 
-nano-large : 2 ^ (1088 - 53) + 2 * 2 ^ 1043 ≤ 2 * pl binary64 nano
+nano-large : 2 ^ (1088 - 53) + 2 * 2 ^ 1043 ≤ 2 * pl binary64 endMargin
 unfolding ofBits pl
 nano-large = lit≤ tt
 
-ten-thousand-small : pl binary64 ten-thousand < 2 ^ 1088
+ten-thousand-small : pl binary64 greatestGeomLength < 2 ^ 1088
 unfolding ofBits pl
 ten-thousand-small = lit< tt
 
@@ -127,25 +127,25 @@ module _ (g : GeomRec) (k0 k1 : Float) where
   unfolding spiralSteps
   ends-at d e h = subst (λ (ps : List Sample). T (not (goesOn (g .length) (getD ps (spiralSteps (g .length)) d .distance)))) (sym (samples-are g e)) (ends mostSteps (goesOn (g .length) zero64) (firstSample g) d refl h)
 
-less-finite : T (finite (five-hundred ⊖ nano))
+less-finite : T (finite (five-hundred ⊖ endMargin))
 unfolding ofBits sub
 less-finite = tt
 
-less-real : Real binary64 (five-hundred ⊖ nano)
+less-real : Real binary64 (five-hundred ⊖ endMargin)
 unfolding ofBits sub fits
-less-real = good-real binary64 (five-hundred ⊖ nano) tt
+less-real = good-real binary64 (five-hundred ⊖ endMargin) tt
 
 five-hundred-real : Real binary64 five-hundred
 unfolding ofBits fits
 five-hundred-real = good-real binary64 five-hundred tt
 
-less-order : T (not (le (five-hundred ⊖ nano) sample-end))
+less-order : T (not (le (five-hundred ⊖ endMargin) sample-end))
 unfolding ofBits sub le
 less-order = tt
 
 module _ (g : GeomRec) (k0 k1 : Float)
-    (wx : Within binary64 (g .x) million) (wy : Within binary64 (g .y) million) (wh : Within binary64 (g .hdg) thousand)
-    (w0 : Within binary64 k0 one) (w1 : Within binary64 k1 one) (il : In binary64 hundredth ten-thousand (g .length))
+    (wx : Within binary64 (g .x) greatestPlace) (wy : Within binary64 (g .y) greatestPlace) (wh : Within binary64 (g .hdg) greatestHeading)
+    (w0 : Within binary64 k0 one) (w1 : Within binary64 k1 one) (il : In binary64 leastGeomLength greatestGeomLength (g .length))
     (e : g .shape ≡ Spiral k0 k1) (few : spiralSteps (g .length) ≤ 1999) (d : Sample) where
   at : (k : ℕ) → k ≤ spiralSteps (g .length) → SampleWithin (getD (geomSamples g) k d)
   at k h = sample-within g k0 k1 wx wy wh w0 w1 il k d e few h
@@ -161,8 +161,8 @@ module _ (g : GeomRec) (k0 k1 : Float)
       let n = samples-next g d k e h in
       let r : Real f (u ⊕ stepAt (g .length) u) = subst (λ (p : Sample). Real f (p .distance)) n (at (suc k) h .distance .value) in
       subst (λ (p : Sample). T (lt u (p .distance))) (sym n)
-      (rises f (g .length) u nano quarter 1043 1088 1083 (il .value) (length-plus (g .length) il) (a .value) zu (nano-below (g .length) il) (quarter-plus .value) (quarter-plus .plus) quarter-large
-      (lt-of-le-of-lt (le→parts f (g .length) ten-thousand (il .value) (il .high) (il .below) .0) ten-thousand-small)
+      (rises f (g .length) u endMargin wholeStep 1043 1088 1083 (il .value) (length-plus (g .length) il) (a .value) zu (nano-below (g .length) il) (quarter-plus .value) (quarter-plus .plus) quarter-large
+      (lt-of-le-of-lt (le→parts f (g .length) greatestGeomLength (il .value) (il .high) (il .below) .0) ten-thousand-small)
       (under (pl f u) (pl f sample-end) (2 ^ 1043) (2 ^ 1083) (le→parts f u sample-end (a .value) (a .high) (a .below) .0) end-small) nano-large (lit< tt)
       (goes-at g k0 k1 k d e h) r)
 
@@ -174,24 +174,24 @@ module _ (g : GeomRec) (k0 k1 : Float)
       end : SampleWithin (getD (geomSamples g) (spiralSteps (g .length)) d)
       end = at (spiralSteps (g .length)) (le-of-eq refl)
 
-      short : Plus binary64 (g .length ⊖ nano) (pl binary64 (g .length))
-      short = sub-plus binary64 (g .length) nano (il .value) (length-plus (g .length) il) (nano-below (g .length) il)
+      short : Plus binary64 (g .length ⊖ endMargin) (pl binary64 (g .length))
+      short = sub-plus binary64 (g .length) endMargin (il .value) (length-plus (g .length) il) (nano-below (g .length) il)
 
-      over : T (not (lt (getD (geomSamples g) (spiralSteps (g .length)) d .distance) (g .length ⊖ nano)))
+      over : T (not (lt (getD (geomSamples g) (spiralSteps (g .length)) d .distance) (g .length ⊖ endMargin)))
       over = ends-at g k0 k1 d e (below few)
         where
           below : {n : ℕ} → n ≤ 1999 → n < 2001
           below h = omega arith
 
-      reached : T (le (g .length ⊖ nano) sample-end)
+      reached : T (le (g .length ⊖ endMargin) sample-end)
       reached =
           let u = getD (geomSamples g) (spiralSteps (g .length)) d .distance in
           let a = end .distance in
-          le-trans' binary64 (g .length ⊖ nano) u sample-end (short .value) (a .value) (a .high) (units→le binary64 (g .length ⊖ nano) u (short .value) (a .value) (nlt→units binary64 u (g .length ⊖ nano) (a .value) (short .value) over)) (a .below)
+          le-trans' binary64 (g .length ⊖ endMargin) u sample-end (short .value) (a .value) (a .high) (units→le binary64 (g .length ⊖ endMargin) u (short .value) (a .value) (nlt→units binary64 u (g .length ⊖ endMargin) (a .value) (short .value) over)) (a .below)
 
       go : (b : Bool) → (T (not b) → T (le five-hundred (g .length))) → T b
       go true h = tt
       go false h =
-          absurd (T-not (le (five-hundred ⊖ nano) sample-end) less-order
-          (le-trans' binary64 (five-hundred ⊖ nano) (g .length ⊖ nano) sample-end less-real (short .value) (end .distance .high)
-          (sub-mono binary64 five-hundred (g .length) nano nano five-hundred-real (il .value) (nano-plus .value) (nano-plus .value) (h tt) (units→le binary64 nano nano (nano-plus .value) (nano-plus .value) (le-of-eq refl)) less-finite (short .value .finite)) reached))
+          absurd (T-not (le (five-hundred ⊖ endMargin) sample-end) less-order
+          (le-trans' binary64 (five-hundred ⊖ endMargin) (g .length ⊖ endMargin) sample-end less-real (short .value) (end .distance .high)
+          (sub-mono binary64 five-hundred (g .length) endMargin endMargin five-hundred-real (il .value) (nano-plus .value) (nano-plus .value) (h tt) (units→le binary64 endMargin endMargin (nano-plus .value) (nano-plus .value) (le-of-eq refl)) less-finite (short .value .finite)) reached))

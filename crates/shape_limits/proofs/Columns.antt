@@ -4,11 +4,11 @@ use mathlib.Core.Path.{_≡_}
 use mathlib.Core.Bool.{Bool}
 use mathlib.Core.List.{List}
 use lib.Ieee.{Float}
-use Rattle.float_laws.specs.Binary64.{_⊕_, _⊗_, f64, zero64}
+use Rattle.float_laws.specs.Binary64.{_⊕_, _⊗_, zero64}
 use Rattle.cubics.specs.declared.cubics.Cubic.{Cubic}
 use Rattle.records.specs.Roads.{Road, Strip, columnOf}
-use Rattle.ranges.specs.Bounds.{cubicsWithin, greatestBound}
-use Rattle.bounds.specs.Limits.{roadCubicsWithin, termsBound}
+use Rattle.bounds.specs.Bounds.{cubicsWithin, greatestBound}
+use Rattle.bounds.specs.Limits.{farthestAcross, roadCubicsWithin, termsBound}
 
 module _ (road : Road) (strip : Strip) where
   module _ (k : ℕ) {cs : List Cubic} {len : Float} (column : cs ≡ columnOf strip k) (e : len ≡ road .length) where
@@ -22,5 +22,5 @@ module _ (road : Road) (strip : Strip) where
       {a b c d : Float} → a ≡ greatestBound (columnOf strip 4) (road .length) → b ≡ greatestBound (columnOf strip 3) (road .length)
       → c ≡ greatestBound (columnOf strip 2) (road .length)
       → d ≡ greatestBound (columnOf strip 1) (road .length)
-      → ((a ⊗ f64 0x4056_0000_0000_0000 ⊕ b) ⊗ f64 0x4056_0000_0000_0000 ⊕ c) ⊗ f64 0x4056_0000_0000_0000 ⊕ d ≡ termsBound road strip
+      → ((a ⊗ farthestAcross ⊕ b) ⊗ farthestAcross ⊕ c) ⊗ farthestAcross ⊕ d ≡ termsBound road strip
   terms-by e f g h = rw (e, f, g, h)

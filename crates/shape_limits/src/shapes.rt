@@ -1,14 +1,28 @@
 // Row 4 of profiles and strips.
 use bounds::cubics_within;
 use bounds::greatest_bound;
+use ranges::LARGEST;
 use ranges::in_range;
 ghost use mathlib.Core.Path.{_≡_};
 ghost use Prim.Native.Nat.{ℕ, _+_};
 ghost use lib.ListN.{length};
 ghost use Rattle.lent.specs.Lists.{allBelow};
 ghost use Rattle.records.specs.Roads.{roadOf, stripAt, columnOf};
-ghost use Rattle.ranges.specs.Bounds.{largest, greatestBound};
+ghost use Rattle.ranges.specs.Ranges.{largest};
+ghost use Rattle.bounds.specs.Bounds.{greatestBound};
 ghost use Rattle.bounds.specs.Limits.{roadCubicsWithin, profileLimited, termsBound, stripLimited};
+
+const GREATEST_SHAPE_START: f64 = 80.0;
+
+const SHAPES_END: f64 = 80.0;
+
+const GREATEST_SHAPE: f64 = 40.0;
+
+const GREATEST_STRIP_WIDTH: f64 = 100.0;
+
+const FARTHEST_ACROSS: f64 = 88.0;
+
+const GREATEST_STRIP_HEIGHT: f64 = 40.0;
 
 // ---- profiles and strips
 fn profile_limited(words: &[u16], numbers: &[f64], i: usize) -> bool
@@ -22,10 +36,10 @@ fn profile_limited(words: &[u16], numbers: &[f64], i: usize) -> bool
     start
         & cubics_within(
             shape_records::shapes(words, numbers, i),
-            -80.0,
-            80.0,
-            80.0,
-            40.0,
+            -GREATEST_SHAPE_START,
+            GREATEST_SHAPE_START,
+            SHAPES_END,
+            GREATEST_SHAPE,
         )
 }
 
@@ -59,7 +73,8 @@ fn terms_bound(words: &[u16], numbers: &[f64], i: usize) -> f64
     let cubic = column_bound(words, numbers, i, 4);
     let square = column_bound(words, numbers, i, 3);
     let linear = column_bound(words, numbers, i, 2);
-    ((cubic * 88.0 + square) * 88.0 + linear) * 88.0 + column_bound(words, numbers, i, 1)
+    ((cubic * FARTHEST_ACROSS + square) * FARTHEST_ACROSS + linear) * FARTHEST_ACROSS
+        + column_bound(words, numbers, i, 1)
 }
 
 // A strip's column: starts on the road, and B at most the limit.
@@ -82,7 +97,7 @@ fn terms_within(words: &[u16], numbers: &[f64], i: usize) -> bool
     let mut ok = true;
     let mut term = 0;
     while term < 4 {
-        ok = ok & column_within(words, numbers, i, term + 1, 1.7976931348623157e308);
+        ok = ok & column_within(words, numbers, i, term + 1, LARGEST);
         term += 1;
     }
     ok
@@ -91,8 +106,10 @@ fn terms_within(words: &[u16], numbers: &[f64], i: usize) -> bool
 fn strip_limited(words: &[u16], numbers: &[f64], i: usize) -> bool
     ensures { λ r. ⌜ r ≡ stripLimited (roadOf (now (words .entry)) (now (numbers .entry))) (stripAt (roadOf (now (words .entry)) (now (numbers .entry))) i) ⌝ }
 {
-    let width = column_within(words, numbers, i, 0, 100.0);
-    width & terms_within(words, numbers, i) & (terms_bound(words, numbers, i) <= 40.0)
+    let width = column_within(words, numbers, i, 0, GREATEST_STRIP_WIDTH);
+    width
+        & terms_within(words, numbers, i)
+        & (terms_bound(words, numbers, i) <= GREATEST_STRIP_HEIGHT)
 }
 
 pub fn strips_limited(words: &[u16], numbers: &[f64]) -> bool

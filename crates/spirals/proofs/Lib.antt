@@ -1,4 +1,3 @@
 pub mod SpiralLaws
-pub mod SpiralFirst
 pub mod SpiralQuarters
 pub mod PoseLaws

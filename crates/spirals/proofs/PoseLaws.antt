@@ -7,10 +7,10 @@ use mathlib.Core.Bool.{Bool, true, false, cond}
 use mathlib.Core.List.{List}
 use lib.ListN.{getD}
 use lib.Ieee.{Float, nan, le, lt}
-use Rattle.float_laws.specs.Binary64.{_⊖_, f64, absOf}
+use Rattle.float_laws.specs.Binary64.{_⊖_, absOf}
 use Rattle.records.specs.declared.points.GeomRec.{GeomRec}
 use Rattle.records.specs.declared.points.GeomShape.the-variants.{Line, Arc, Spiral}
-use Rattle.records.specs.Roads.{Road, geomAt}
+use Rattle.records.specs.Roads.{Road, straightCurvature, geomAt}
 use Rattle.spirals.specs.declared.line.Sample.{Sample}
 use Rattle.spirals.specs.declared.line.Pose.{Pose}
 use Rattle.spirals.specs.Poses.{leading, held, segment, fractionOf, between, spiralPose, linePose, arcPose, poseOf}
@@ -67,7 +67,7 @@ module _ (road : Road) (samples : List Float) (i : ℕ) (s : Float) {g : GeomRec
   pose-line h k = rw (← e, h, ← e) k
 
   pub pose-arc : {k : Float} → g .shape ≡ Arc k
-      → r ≡ cond (lt (f64 0x3e11_2e0b_e826_d695) (absOf k)) (arcPose g k (s ⊖ g .s)) (linePose g (s ⊖ g .s)) → r ≡ poseOf road samples i s
+      → r ≡ cond (lt straightCurvature (absOf k)) (arcPose g k (s ⊖ g .s)) (linePose g (s ⊖ g .s)) → r ≡ poseOf road samples i s
   unfolding poseOf
   pose-arc h k = rw (← e, h, ← e) k
 

@@ -18,7 +18,7 @@ use Rattle.records.specs.declared.points.GeomShape.{GeomShape}
 use Rattle.records.specs.declared.points.GeomShape.the-variants.{Line, Arc, Spiral}
 use Rattle.records.specs.Roads.{Road, geomAt, noGeom}
 use Rattle.spirals.specs.declared.line.Sample.{Sample}
-use Rattle.spirals.specs.Spiral.{goesOn, stepAt, stepsFrom, mostSteps, spiralSteps, countBy, sampleCount, samplesBefore, samplesNeeded, firstSample, nextSample, samplesAfter, samplesBy, geomSamples, samplesUpTo, flat, samplesOf, sampleAt}
+use Rattle.spirals.specs.Spiral.{goesOn, stepAt, stepsFrom, mostSteps, spiralSteps, countBy, sampleCount, samplesBefore, samplesNeeded, firstSample, nextSample, samplesAfter, samplesBy, geomSamples, samplesUpTo, flat, samplesOf, sampleAt, mostSamples}
 
 -- ---- steps
 
@@ -64,7 +64,7 @@ some n true len u h = suc-le-suc zero-le
 -- a step is made where the loop starts at all
 pub steps-some : (len : Float) → T (goesOn len zero64) → 1 ≤ spiralSteps len
 unfolding spiralSteps
-steps-some len h = some 2000 (goesOn len zero64) len zero64 h
+steps-some len h = some mostSamples (goesOn len zero64) len zero64 h
 
 -- ---- how many samples
 

@@ -27,8 +27,8 @@ use Rattle.float_laws.proofs.Whole.{Steps, Whole, steps-rnd, steps-under, steps
 use Rattle.float_laws.proofs.Interval.{in-of-le, least, most}
 use Rattle.float_laws.proofs.Checker.{Ex, var, con, plus, times, eval, iv, ival, addI, mulI, conI, covers, check, checked, good-real}
 use Rattle.trigonometry.proofs.FloorCases.{real-no-nan}
-use Rattle.spirals.specs.Quarters.{quarters, QuartersBelow}
-use Rattle.spirals.specs.Spiral.{goesOn, stepAt, stepsFrom, mostSteps, spiralSteps}
+use Rattle.spirals.specs.Quarters.{quarters, leastEstimated, greatestEstimated, QuartersBelow}
+use Rattle.spirals.specs.Spiral.{endMargin, goesOn, wholeStep, stepAt, stepsFrom, mostSamples, mostSteps, spiralSteps}
 use Rattle.spirals.proofs.SpiralLaws.{steps-start, steps-next}
 
 -- ---- n / 4 is n steps of a quarter
@@ -96,36 +96,36 @@ from-zero : (len : Float) → spiralSteps len ≡ 0 + stepsFrom (mostSteps - 0) 
 unfolding mul ofInt ofBits
 from-zero len = steps-start len
 
-near-real : Real binary64 (f64 0x3e11_2e0b_e826_d695)
+near-real : Real binary64 endMargin
 unfolding fits ofBits
-near-real = good-real binary64 (f64 0x3e11_2e0b_e826_d695) tt
+near-real = good-real binary64 endMargin tt
 
-near-mi : mi binary64 (f64 0x3e11_2e0b_e826_d695) ≡ 0
+near-mi : mi binary64 endMargin ≡ 0
 unfolding mi ofBits
 near-mi = refl
 
-many : 2001 < 2 ^ prec binary64
+many : mostSteps < 2 ^ prec binary64
 many = lit< tt
 
-module _ (len : Float) (k : ℕ) (fit : T (fits binary64 len)) (few : k ≤ 2000) (known : T (finite (len ⊖ f64 0x3e11_2e0b_e826_d695))) (start : T (goesOn len (quarters k))) where
+module _ (len : Float) (k : ℕ) (fit : T (fits binary64 len)) (few : k ≤ mostSamples) (known : T (finite (len ⊖ endMargin))) (start : T (goesOn len (quarters k))) where
   abbrev last : Float
-  last = len ⊖ f64 0x3e11_2e0b_e826_d695
+  last = len ⊖ endMargin
 
   len-real : Real binary64 len
   unfolding sub
   len-real = record { finite = add-fin binary64 len _ known .0; fits = fit }
 
   last-real : Real binary64 last
-  last-real = record { finite = known; fits = sub-fits binary64 len (f64 0x3e11_2e0b_e826_d695) }
+  last-real = record { finite = known; fits = sub-fits binary64 len endMargin }
 
-  at : (i : ℕ) → i ≤ 2001 → Steps binary64 (low binary64 - 2) (quarters i) i 0
+  at : (i : ℕ) → i ≤ mostSteps → Steps binary64 (low binary64 - 2) (quarters i) i 0
   unfolding ofBits
   at i h = quarters-steps binary64 i (lt-of-le-of-lt h many)
 
   last-le : T (le last len)
   last-le =
       let z = near-mi in
-      is-le binary64 last len _ _ 1 (pl binary64 len) (mi binary64 len) 1 (pow-pos 0) (pow-pos 0) (sub-Is binary64 len (f64 0x3e11_2e0b_e826_d695) len-real near-real) (self-Is binary64 len len-real) known (len-real .finite) (omega arith)
+      is-le binary64 last len _ _ 1 (pl binary64 len) (mi binary64 len) 1 (pow-pos 0) (pow-pos 0) (sub-Is binary64 len endMargin len-real near-real) (self-Is binary64 len len-real) known (len-real .finite) (omega arith)
 
   under-last : k * 2 ^ (low binary64 - 2) + mi binary64 last < pl binary64 last
   unfolding goesOn
@@ -173,7 +173,7 @@ module _ (len : Float) (k : ℕ) (fit : T (fits binary64 len)) (few : k ≤ 2000
       none : (p m q n i k J : ℕ) → m ≡ 0 → q ≡ i * J → n ≡ 0 * J → i * J ≤ k * J → k * J < p → m + q - (p + n) ≡ 0
       none p m q n i k J a b c h l = omega arith
 
-  full : (i : ℕ) → i < k → stepAt len (quarters i) ≡ f64 0x3fd0_0000_0000_0000
+  full : (i : ℕ) → i < k → stepAt len (quarters i) ≡ wholeStep
   unfolding ofBits
   full i h =
       let f = binary64 in
@@ -200,16 +200,16 @@ module _ (len : Float) (k : ℕ) (fit : T (fits binary64 len)) (few : k ≤ 2000
   up-to zero h = from-zero len
   up-to (suc i) h =
       up-to i (omega arith)
-      ∙ steps-next len (quarters i) i (goesOn len (quarters i)) (f64 0x3fd0_0000_0000_0000) (omega arith) (goes i (omega arith)) (sym (full i h))
+      ∙ steps-next len (quarters i) i (goesOn len (quarters i)) wholeStep (omega arith) (goes i (omega arith)) (sym (full i h))
       ∙ ap (λ (u : Float). i + 1 + stepsFrom (mostSteps - (i + 1)) (goesOn len u) len u) (next i (omega arith))
       ∙ ap (λ (n : ℕ). n + stepsFrom (mostSteps - n) (goesOn len (quarters (suc i))) len (quarters (suc i))) (add-one i)
     where
-      next : (i : ℕ) → i ≤ 2000 → quarters i ⊕ f64 0x3fd0_0000_0000_0000 ≡ quarters (suc i)
-      next i h = quarters-next binary64 i (lt-of-le-of-lt (let o : suc i ≤ 2001 = omega arith in o) many)
+      next : (i : ℕ) → i ≤ mostSamples → quarters i ⊕ wholeStep ≡ quarters (suc i)
+      next i h = quarters-next binary64 i (lt-of-le-of-lt (let o : suc i ≤ mostSteps = omega arith in o) many)
 
 -- ---- a count that starts from quarters below the end
 -- above a number and at most another
-known : (u x : Float) → T (lt u x) → T (le x (f64 0x40c3_8800_0000_0000)) → T (finite x)
+known : (u x : Float) → T (lt u x) → T (le x greatestEstimated) → T (finite x)
 unfolding lt le eq ofBits
 known nan x a b = absurd a
 known (inf s) nan a b = absurd b
@@ -221,40 +221,34 @@ known (fin s m e) (inf true) a b = absurd a
 known (fin s m e) (inf false) a b = absurd b
 known (fin s m e) (fin t n d) a b = tt
 
-pub steps-from : (len : Float) (n : ℕ) → T (fits binary64 len) → QuartersBelow (len ⊖ f64 0x3e11_2e0b_e826_d695) n → spiralSteps len ≡ n + stepsFrom (mostSteps - n) (goesOn len (quarters n)) len (quarters n)
+pub steps-from : (len : Float) (n : ℕ) → T (fits binary64 len) → QuartersBelow (len ⊖ endMargin) n → spiralSteps len ≡ n + stepsFrom (mostSteps - n) (goesOn len (quarters n)) len (quarters n)
 unfolding goesOn
 steps-from len n fit h = go (h .1)
   where
     last : Float
-    last = len ⊖ f64 0x3e11_2e0b_e826_d695
+    last = len ⊖ endMargin
 
-    go : (n ≡ 0) ⊎ (T (lt (quarters n) last) × T (le last (f64 0x40c3_8800_0000_0000))) → spiralSteps len ≡ n + stepsFrom (mostSteps - n) (goesOn len (quarters n)) len (quarters n)
+    go : (n ≡ 0) ⊎ (T (lt (quarters n) last) × T (le last greatestEstimated)) → spiralSteps len ≡ n + stepsFrom (mostSteps - n) (goesOn len (quarters n)) len (quarters n)
     go (inl z) = rw z (from-zero len)
     go (inr t) = up-to len n fit (h .0) (known (quarters n) last (t .0) (t .1)) (t .0) n (le-refl n)
 
 -- ---- the code's sum, x * 4 + (2 ^ 52 - 1) for x in 1..10,000, is a number
-abbrev one : Float
-one = f64 0x3ff0_0000_0000_0000
-
-abbrev limit : Float
-limit = f64 0x40c3_8800_0000_0000
-
 abbrev sum : Ex
 sum = plus (times (var 0) (con (f64 0x4010_0000_0000_0000))) (con (f64 0x432f_ffff_ffff_fffe))
 
-sum-checks : T (check binary64 (iv one limit ∷ []) sum zero64 (f64 0x4340_0000_0000_0000))
+sum-checks : T (check binary64 (iv leastEstimated greatestEstimated ∷ []) sum zero64 (f64 0x4340_0000_0000_0000))
 unfolding check ival covers addI mulI conI add mul le lt fits ofBits least most
 sum-checks = tt
 
-pub sum-number : (x : Float) → T (fits binary64 x) → T (le one x) → T (le x limit) → T (not (isNan (add binary64 (mul binary64 x (f64 0x4010_0000_0000_0000)) (f64 0x432f_ffff_ffff_fffe))))
+pub sum-number : (x : Float) → T (fits binary64 x) → T (le leastEstimated x) → T (le x greatestEstimated) → T (not (isNan (add binary64 (mul binary64 x (f64 0x4010_0000_0000_0000)) (f64 0x432f_ffff_ffff_fffe))))
 unfolding eval fits ofBits
 sum-number x h a b =
     real-no-nan binary64 (eval binary64 (x ∷ []) sum)
-    (checked binary64 (iv one limit ∷ []) (x ∷ []) sum zero64 (f64 0x4340_0000_0000_0000) (good-real binary64 zero64 tt) (good-real binary64 (f64 0x4340_0000_0000_0000) tt) sum-checks
-    (in-of-le binary64 one limit x (good-real binary64 one tt) (good-real binary64 limit tt) h a b, tt) .value)
+    (checked binary64 (iv leastEstimated greatestEstimated ∷ []) (x ∷ []) sum zero64 (f64 0x4340_0000_0000_0000) (good-real binary64 zero64 tt) (good-real binary64 (f64 0x4340_0000_0000_0000) tt) sum-checks
+    (in-of-le binary64 leastEstimated greatestEstimated x (good-real binary64 leastEstimated tt) (good-real binary64 greatestEstimated tt) h a b, tt) .value)
 
 -- a count of steps as an f64
-pub number-fits : (n : ℕ) → n ≤ 2000 → T (inFloat binary64 (pos n))
+pub number-fits : (n : ℕ) → n ≤ mostSamples → T (inFloat binary64 (pos n))
 unfolding inFloat
 number-fits n h = subst T (sym (le-leb n (2 ^ 53) (le-trans h (lit≤ tt)))) tt
 

@@ -3,12 +3,12 @@ use Prim.Native.Nat.{ℕ, zero, suc, _+_, _-_, min}
 use mathlib.Core.Bool.{cond}
 use mathlib.Core.List.{List, [], _∷_}
 use lib.Ieee.{Float, lt, le}
-use Rattle.float_laws.specs.Binary64.{_⊕_, _⊖_, _⊗_, _⊘_, f64, zero64, absOf}
+use Rattle.float_laws.specs.Binary64.{_⊕_, _⊖_, _⊗_, _⊘_, zero64, absOf}
 use Rattle.trigonometry.specs.Sine.{sineOf, cosineOf}
 use Rattle.records.specs.declared.points.GeomRec.{GeomRec}
 use Rattle.records.specs.declared.points.GeomShape.{GeomShape}
 use Rattle.records.specs.declared.points.GeomShape.the-variants.{Line, Arc, Spiral}
-use Rattle.records.specs.Roads.{Road, geomAt}
+use Rattle.records.specs.Roads.{Road, straightCurvature, geomAt}
 use Rattle.spirals.specs.declared.line.Sample.{Sample}
 use Rattle.spirals.specs.declared.line.Pose.{Pose}
 use Rattle.spirals.specs.Spiral.{sampleCount, samplesBefore, sampleAt}
@@ -74,7 +74,7 @@ spiralPose samples first n ds =
 -- "arc of size ≤ 1e-9 is a line"
 abbrev pub poseBy : Road → List Float → ℕ → Float → GeomShape → Pose
 poseBy road samples i ds Line = linePose (geomAt road i) ds
-poseBy road samples i ds (Arc k) = cond (lt (f64 0x3e11_2e0b_e826_d695) (absOf k)) (arcPose (geomAt road i) k ds) (linePose (geomAt road i) ds)
+poseBy road samples i ds (Arc k) = cond (lt straightCurvature (absOf k)) (arcPose (geomAt road i) k ds) (linePose (geomAt road i) ds)
 poseBy road samples i ds (Spiral k0 k1) = spiralPose samples (samplesBefore road i) (sampleCount (geomAt road i)) ds
 
 unfoldable pub poseOf : Road → List Float → ℕ → Float → Pose

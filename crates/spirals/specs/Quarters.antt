@@ -6,11 +6,19 @@ use lib.Dec.{T}
 use lib.IntN.{pos}
 use lib.Ieee.{Float, binary64, ofInt, lt, le}
 use Rattle.float_laws.specs.Binary64.{_⊗_, f64}
+use Rattle.spirals.specs.Spiral.{wholeStep, mostSamples}
 
 -- where n steps of 0.25 end
 abbrev pub quarters : ℕ → Float
-quarters n = ofInt binary64 (pos n) ⊗ f64 0x3fd0_0000_0000_0000
+quarters n = ofInt binary64 (pos n) ⊗ wholeStep
+
+-- 1 and 10,000: between them the steps are estimated, elsewhere all are counted
+abbrev pub leastEstimated : Float
+leastEstimated = f64 0x3ff0_0000_0000_0000
+
+abbrev pub greatestEstimated : Float
+greatestEstimated = f64 0x40c3_8800_0000_0000
 
 -- no steps, or at most 2,000 that end below x, which is at most 10,000
 abbrev pub QuartersBelow : Float → ℕ → Type 0
-QuartersBelow x n = (n ≤ 2000) × ((n ≡ 0) ⊎ (T (lt (quarters n) x) × T (le x (f64 0x40c3_8800_0000_0000))))
+QuartersBelow x n = (n ≤ mostSamples) × ((n ≡ 0) ⊎ (T (lt (quarters n) x) × T (le x greatestEstimated)))

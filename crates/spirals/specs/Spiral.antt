@@ -16,12 +16,18 @@ use Rattle.spirals.specs.declared.line.Sample.{Sample}
 -- ---- how many steps
 
 -- "while u < length - 1e-9"
+abbrev pub endMargin : Float
+endMargin = f64 0x3e11_2e0b_e826_d695
+
 unfoldable pub goesOn : Float → Float → Bool
-goesOn len u = lt u (len ⊖ f64 0x3e11_2e0b_e826_d695)
+goesOn len u = lt u (len ⊖ endMargin)
 
 -- "steps of 0.25, the last shorter": the smaller of 0.25 and what is left
+abbrev pub wholeStep : Float
+wholeStep = f64 0x3fd0_0000_0000_0000
+
 abbrev pub stepAt : Float → Float → Float
-stepAt len u = cond (lt (len ⊖ u) (f64 0x3fd0_0000_0000_0000)) (len ⊖ u) (f64 0x3fd0_0000_0000_0000)
+stepAt len u = cond (lt (len ⊖ u) wholeStep) (len ⊖ u) wholeStep
 
 -- the steps from u on, at most as many as the first number says; the test of going on is an argument, so that the recursion stops with it
 unfoldable pub stepsFrom : ℕ → Bool → Float → Float → ℕ
@@ -30,9 +36,13 @@ stepsFrom zero more len u = 0
 stepsFrom (suc n) false len u = 0
 stepsFrom (suc n) true len u = suc (stepsFrom n (goesOn len (u ⊕ stepAt len u)) len (u ⊕ stepAt len u))
 
--- Row 5 refuses a road that needs over 2,000 samples, so no more than 2,001 steps are ever counted.
+-- "spirals need over 2,000 samples" is row 5
+abbrev pub mostSamples : ℕ
+mostSamples = 2000
+
+-- Row 5 refuses a road that needs more samples, so no more than 2,001 steps are ever counted.
 abbrev pub mostSteps : ℕ
-mostSteps = 2001
+mostSteps = suc mostSamples
 
 -- the steps of a spiral of some length
 unfoldable pub spiralSteps : Float → ℕ
@@ -63,8 +73,11 @@ samplesNeeded road = samplesBefore road (length (road .geoms))
 -- ---- the samples
 
 -- `c_dot` of `bake_spiral`: (k1 - k0) / length, 0 where the length is 1e-9 or less
+abbrev pub noTurnLength : Float
+noTurnLength = f64 0x3e11_2e0b_e826_d695
+
 abbrev pub turnRate : Float → Float → Float → Float
-turnRate len k0 k1 = cond (lt (f64 0x3e11_2e0b_e826_d695) len) ((k1 ⊖ k0) ⊘ len) zero64
+turnRate len k0 k1 = cond (lt noTurnLength len) ((k1 ⊖ k0) ⊘ len) zero64
 
 -- `heading` of `bake_spiral`: (hdg + k0×u) + ((0.5×c_dot)×u)×u
 abbrev pub headingAt : GeomRec → Float → Float → Float → Float

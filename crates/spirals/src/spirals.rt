@@ -7,22 +7,40 @@ ghost use mathlib.Core.Path.{_≡_};
 ghost use Prim.Native.Nat.{_<_, _≤_};
 ghost use lib.Dec.{T, leb};
 ghost use lib.Ieee.{le};
-ghost use Rattle.float_laws.specs.Binary64.{f64};
 ghost use Rattle.records.specs.Roads.{roadOf};
-ghost use Rattle.spirals.specs.Quarters.{QuartersBelow};
-ghost use Rattle.spirals.specs.Spiral.{stepAt, spiralSteps, sampleCount, samplesBefore, samplesNeeded, firstSample, nextSample, turnRate, headingAt};
+ghost use Rattle.spirals.specs.Quarters.{leastEstimated, greatestEstimated, QuartersBelow};
+ghost use Rattle.spirals.specs.Spiral.{mostSamples, mostSteps, stepAt, spiralSteps, sampleCount, samplesBefore, samplesNeeded, firstSample, nextSample, turnRate, headingAt};
+
+// All steps are as long but the last.
+const WHOLE_STEP: f64 = 0.25;
+
+// A spiral goes on while what is left of it is more.
+const END_MARGIN: f64 = 1e-9;
+
+// A spiral that is no longer has no turn rate.
+const NO_TURN_LENGTH: f64 = 1e-9;
+
+// The most samples that a road may need; one step more is counted, to see that it is over.
+const MOST_SAMPLES: usize = 2000;
+
+const MOST_STEPS: usize = 2001;
+
+// Between them the steps are estimated, elsewhere all are counted.
+const LEAST_ESTIMATED: f64 = 1.0;
+
+const GREATEST_ESTIMATED: f64 = 10000.0;
 
 // The length of the step from u on.
 fn step_at(length: f64, u: f64) -> f64
     ensures { λ r. ⌜ r ≡ stepAt length u ⌝ }
 {
     let left = length - u;
-    if left < 0.25 { left } else { 0.25 }
+    if left < WHOLE_STEP { left } else { WHOLE_STEP }
 }
 
 // About how many steps of 0.25 fit below x: the low bits of a sum which is rounded to a whole number, 4 x less 1.
 fn estimate(x: f64) -> usize
-    requires { ⌜ T (le (f64 0x3ff0_0000_0000_0000) x) × T (le x (f64 0x40c3_8800_0000_0000)) ⌝ }
+    requires { ⌜ T (le leastEstimated x) × T (le x greatestEstimated) ⌝ }
     ensures { λ r. ⌜ r < 65536 ⌝ }
 {
     (f64::to_bits(x * 4.0 + 4503599627370495.0) % 65536) as usize
@@ -32,10 +50,10 @@ fn estimate(x: f64) -> usize
 fn quarters_below(x: f64) -> usize
     ensures { λ r. ⌜ QuartersBelow x r ⌝ }
 {
-    let inside = (1.0 <= x) & (x <= 10000.0);
+    let inside = (LEAST_ESTIMATED <= x) & (x <= GREATEST_ESTIMATED);
     if inside {
-        let n = least(estimate(x), 2000);
-        if n as f64 * 0.25 < x {
+        let n = least(estimate(x), MOST_SAMPLES);
+        if n as f64 * WHOLE_STEP < x {
             return n;
         }
     }
@@ -45,12 +63,12 @@ fn quarters_below(x: f64) -> usize
 // The steps of a spiral. More than 2,001 are not counted: row 5 refuses over 2,000 samples.
 fn spiral_steps(length: f64) -> usize
     ensures { λ r. ⌜ r ≡ spiralSteps length ⌝ }
-    ensures small { λ r. ⌜ r ≤ 2001 ⌝ }
+    ensures small { λ r. ⌜ r ≤ mostSteps ⌝ }
 {
-    let last = length - 1e-9;
+    let last = length - END_MARGIN;
     let mut n = quarters_below(last);
-    let mut u = n as f64 * 0.25;
-    while n < 2001 {
+    let mut u = n as f64 * WHOLE_STEP;
+    while n < MOST_STEPS {
         if u < last {
             u = u + step_at(length, u);
             n += 1;
@@ -100,14 +118,14 @@ pub fn samples_needed(words: &[u16], numbers: &[f64]) -> usize
 
 // Whether a road needs at most 2,000 samples. It stops counting at the first geometry that passes this.
 pub fn samples_fit(words: &[u16], numbers: &[f64]) -> bool
-    ensures { λ r. ⌜ r ≡ leb (samplesNeeded (roadOf (now (words .entry)) (now (numbers .entry)))) 2000 ⌝ }
+    ensures { λ r. ⌜ r ≡ leb (samplesNeeded (roadOf (now (words .entry)) (now (numbers .entry)))) mostSamples ⌝ }
 {
     let n = records::geom_count(words, numbers);
     let mut needed = 0;
     let mut i = 0;
     while i < n {
         needed += sample_count(geometry::geom(words, numbers, i));
-        if 2000 < needed {
+        if MOST_SAMPLES < needed {
             return false;
         }
         i += 1;
@@ -118,7 +136,7 @@ pub fn samples_fit(words: &[u16], numbers: &[f64]) -> bool
 fn turn_rate(length: f64, k0: f64, k1: f64) -> f64
     ensures { λ r. ⌜ r ≡ turnRate length k0 k1 ⌝ }
 {
-    if 1e-9 < length {
+    if NO_TURN_LENGTH < length {
         (k1 - k0) / length
     } else {
         0.0

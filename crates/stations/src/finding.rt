@@ -1,6 +1,7 @@
 // The geometry, the section and the profile at a station.
+use crate::scan::ACTIVE_MARGIN;
 use crate::scan::found_of;
-use crate::scan::reach;
+use crate::scan::last_started;
 use lent::word;
 use records::Found;
 use records::layout::GEOM_BASE;
@@ -14,7 +15,7 @@ ghost use mathlib.Core.Path.{_≡_};
 ghost use Prim.Native.Nat.{ℕ, _+_, _-_, _*_, _<_, _≤_};
 ghost use lib.ListN.{getD, length};
 ghost use lib.Ieee.{nan};
-ghost use Rattle.records.specs.Active.{foundOf, lastStart, orFirst, reached};
+ghost use Rattle.records.specs.Active.{foundOf, lastStart, orFirst, activeUpTo};
 ghost use Rattle.records.specs.Roads.{roadOf, profileAt, geomIndex, sectionIndex};
 
 // The geometry at s: the last that starts at or before s + 1e-9, else the first.
@@ -22,7 +23,7 @@ pub fn geom_at(words: &[u16], numbers: &[f64], s: f64) -> usize
     ensures { λ r. ⌜ r ≡ geomIndex (roadOf (now (words .entry)) (now (numbers .entry))) s ⌝ }
 {
     let n = word(words, GEOM_COUNT_AT);
-    started(numbers, GEOM_BASE, GEOM_STRIDE, n, s + 1e-9)
+    started(numbers, GEOM_BASE, GEOM_STRIDE, n, s + ACTIVE_MARGIN)
 }
 
 // How many of count places, stride apart from base on, lie below len: all, unless the slice ends before the table does.
@@ -43,12 +44,12 @@ fn held(len: usize, base: usize, stride: usize, count: usize) -> usize
     0
 }
 
-// `reach` for a table that the slice may cut short: what is not there has not started.
-fn held_reach(numbers: &[f64], base: usize, stride: usize, count: usize, limit: f64) -> usize
+// `last_started` for a table that the slice may cut short: what is not there has not started.
+fn last_held(numbers: &[f64], base: usize, stride: usize, count: usize, limit: f64) -> usize
     requires { ⌜ (base < 65536) × (stride < 16) × (count < 65536) ⌝ }
     ensures { λ r. ⌜ foundOf r ≡ lastStart (λ (i : ℕ). getD (now (numbers .entry)) (base + i * stride) nan) limit count ⌝ }
 {
-    reach(
+    last_started(
         numbers,
         base,
         stride,
@@ -78,13 +79,13 @@ pub fn section_at(words: &[u16], numbers: &[f64], s: f64) -> usize
     ensures { λ r. ⌜ r ≡ sectionIndex (roadOf (now (words .entry)) (now (numbers .entry))) s ⌝ }
 {
     let n = word(words, SECTION_COUNT_AT);
-    started(numbers, SECTION_BASE, 1, n, s + 1e-9)
+    started(numbers, SECTION_BASE, 1, n, s + ACTIVE_MARGIN)
 }
 
 // The last profile that stands at or before s + 1e-9.
 pub fn profile_at(words: &[u16], numbers: &[f64], s: f64) -> Found
-    ensures { λ r. ⌜ r ≡ lastStart (λ (i : ℕ). profileAt (roadOf (now (words .entry)) (now (numbers .entry))) i .s) (reached s) (length (roadOf (now (words .entry)) (now (numbers .entry)) .profiles)) ⌝ }
+    ensures { λ r. ⌜ r ≡ lastStart (λ (i : ℕ). profileAt (roadOf (now (words .entry)) (now (numbers .entry))) i .s) (activeUpTo s) (length (roadOf (now (words .entry)) (now (numbers .entry)) .profiles)) ⌝ }
 {
     let n = word(words, PROFILE_COUNT_AT);
-    found_of(held_reach(numbers, PROFILE_BASE, 1, n, s + 1e-9))
+    found_of(last_held(numbers, PROFILE_BASE, 1, n, s + ACTIVE_MARGIN))
 }

@@ -10,20 +10,29 @@ ghost use lib.Ieee.{nan};
 ghost use Rattle.lent.specs.Lists.{span};
 ghost use Rattle.cubics.specs.Cubics.{cubicsOf};
 ghost use Rattle.records.specs.Roads.{heightsOf, heightDefAt};
-ghost use Rattle.records.specs.Active.{lastStart, foundOf, activeIn, valueIn, slopeIn, reached};
+ghost use Rattle.records.specs.Active.{lastStart, foundOf, activeIn, valueIn, slopeIn, activeUpTo};
 
-pub fn found_of(reach: usize) -> Found
-    ensures { λ r. ⌜ r ≡ foundOf reach ⌝ }
+// So far before its start a record is active.
+pub const ACTIVE_MARGIN: f64 = 1e-9;
+
+pub fn found_of(started: usize) -> Found
+    ensures { λ r. ⌜ r ≡ foundOf started ⌝ }
 {
-    if reach == 0 {
+    if started == 0 {
         Found::Nothing
     } else {
-        Found::At(reach - 1)
+        Found::At(started - 1)
     }
 }
 
 // Of count starts, stride places apart from base on, one more than the place of the last that is at most the limit; 0 where none is. The slice holds them all, so a turn has one test.
-pub(crate) fn reach(numbers: &[f64], base: usize, stride: usize, count: usize, limit: f64) -> usize
+pub(crate) fn last_started(
+    numbers: &[f64],
+    base: usize,
+    stride: usize,
+    count: usize,
+    limit: f64,
+) -> usize
     requires { ⌜ (0 < count → base + (count - 1) * stride < length (now numbers)) ⌝ }
     ensures { λ r. ⌜ foundOf r ≡ lastStart (λ (i : ℕ). getD (now (numbers .entry)) (base + i * stride) nan) limit count ⌝ }
     ensures small { λ r. ⌜ r ≤ count ⌝ }
@@ -43,14 +52,14 @@ pub(crate) fn reach(numbers: &[f64], base: usize, stride: usize, count: usize, l
 pub fn active(part: &[f64], s: f64) -> Found
     ensures { λ r. ⌜ r ≡ activeIn (cubicsOf (now (part .entry))) s ⌝ }
 {
-    found_of(reach(part, 0, 5, part.len() / 5, s + 1e-9))
+    found_of(last_started(part, 0, 5, part.len() / 5, s + ACTIVE_MARGIN))
 }
 
 // The last height of a part of the lent numbers, three a height, that starts at or before s + 1e-9.
 pub fn active_height(part: &[f64], s: f64) -> Found
-    ensures { λ r. ⌜ r ≡ lastStart (λ (i : ℕ). heightDefAt (heightsOf (now (part .entry))) i .«s_offset») (reached s) (length (heightsOf (now (part .entry)))) ⌝ }
+    ensures { λ r. ⌜ r ≡ lastStart (λ (i : ℕ). heightDefAt (heightsOf (now (part .entry))) i .«s_offset») (activeUpTo s) (length (heightsOf (now (part .entry)))) ⌝ }
 {
-    found_of(reach(part, 0, 3, part.len() / 3, s + 1e-9))
+    found_of(last_started(part, 0, 3, part.len() / 3, s + ACTIVE_MARGIN))
 }
 
 // The value at s of the active cubic, 0 where none is.
@@ -75,7 +84,7 @@ pub fn value_from(numbers: &[f64], start: u32, count: u16, s: f64) -> f64
     if numbers.len() < first + n * 5 {
         return value(part(numbers, first, n * 5), s);
     }
-    let i = reach(numbers, first, 5, n, s + 1e-9);
+    let i = last_started(numbers, first, 5, n, s + ACTIVE_MARGIN);
     if i == 0 {
         return 0.0;
     }

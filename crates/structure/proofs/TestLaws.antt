@@ -1,6 +1,5 @@
--- What a test that passed tells: each test of a chain of `&&`, the test at each index of `allBelow`, the neighbours of a list in order, a range. By induction.
-use Prim.Native.Nat.{ℕ, zero, suc, _+_, _-_, _<_, _≤_}
-use native.Mathlib.Omega.{arith}
+-- What a test that passed tells: each test of a chain of `&&`, the test at each index of `allBelow`, a range. By induction.
+use Prim.Native.Nat.{ℕ, zero, suc, _+_, _<_, _≤_}
 use native.Mathlib.Nat.{le-of-suc-le-suc, not-suc-le-zero, eq-or-lt-of-le}
 use mathlib.Core.Path.{_≡_, refl, sym, subst}
 use mathlib.Core.Bool.{Bool, true, false, _&&_}
@@ -8,12 +7,9 @@ use mathlib.Core.Logic.{⊎-elim}
 use mathlib.Core.List.{List, [], _∷_}
 use lib.ListN.{getD}
 use lib.Dec.{T, leb}
-use lib.Ieee.{Float, le, lt}
 use borrow.Author.Tests.{leb-true}
-use Rattle.float_laws.specs.Binary64.{_⊖_}
 use Rattle.lent.specs.Lists.{allBelow}
 use Rattle.structure.specs.Structure.{rangeOk}
-use Rattle.structure.specs.Order.{margin, neverFall, riseStrictly, apart}
 
 pub told : {b : Bool} → b ≡ true → T b
 told e = subst T (sym e) tt
@@ -51,22 +47,6 @@ all-at p (suc n) e i l =
     (λ q. rw q (and-right (allBelow p n) (p n) e))
     (λ m. all-at p n (and-left (allBelow p n) (p n) e) i m)
     (eq-or-lt-of-le (le-of-suc-le-suc l))
-
-below : (i n : ℕ) → i + 1 < n → i < n - 1
-below i n l = omega arith
-
-module _ (start : ℕ → Float) (n : ℕ) where
-  pub neverFall-at : neverFall start n ≡ true → (i : ℕ) → i + 1 < n → T (le (start i) (start (i + 1)))
-  unfolding neverFall
-  neverFall-at e i l = told (all-at (λ k. le (start k) (start (k + 1))) (n - 1) e i (below i n l))
-
-  pub riseStrictly-at : riseStrictly start n ≡ true → (i : ℕ) → i + 1 < n → T (lt (start i) (start (i + 1)))
-  unfolding riseStrictly
-  riseStrictly-at e i l = told (all-at (λ k. lt (start k) (start (k + 1))) (n - 1) e i (below i n l))
-
-  pub apart-at : apart start n ≡ true → (i : ℕ) → i + 1 < n → T (le margin (start (i + 1) ⊖ start i))
-  unfolding apart
-  apart-at e i l = told (all-at (λ k. le margin (start (k + 1) ⊖ start k)) (n - 1) e i (below i n l))
 
 pub record InRange (least most limit first count : ℕ) : Type 0 where
   pub enough : least ≤ count

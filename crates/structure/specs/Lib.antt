@@ -1,2 +1,1 @@
 pub mod Structure
-pub mod Order

@@ -14,9 +14,9 @@ use Rattle.refusals.specs.declared.refusals.Refusal.the-variants.{Structure, Ra
 use Rattle.lent.specs.Lists.{table, allBelow}
 use Rattle.records.specs.Roads.{Road, roadOf}
 use Rattle.structure.specs.Structure.{rangeOk, countsOk, kindsOk, laneOk, sectionOk, profileOk, columnOk, stripOk, structured}
-use Rattle.structure.specs.Order.{ordered}
+use Rattle.ordering.specs.Order.{ordered}
 use Rattle.bounds.specs.Limits.{limited}
-use Rattle.spirals.specs.Spiral.{samplesNeeded}
+use Rattle.spirals.specs.Spiral.{mostSamples, samplesNeeded}
 use Rattle.admission.specs.Admission.{admissionOf}
 use Rattle.schema.specs.Schema.{limits, limitOf}
 use Rattle.rows.specs.Columns.{cellOf, noCells}
@@ -89,7 +89,7 @@ structured-chain {g' = g'} {e' = e'} {c' = c'} {o' = o'} {t' = t'} {x' = x'} {y'
 
 -- rows 3, 4 and 5, with the answer to row 3's counts
 abbrev judged : Bool → Road → Answer (Unit {0})
-judged counts road = checked (row Structure (counts && ordered road) ∷ row Range (limited road) ∷ row SampleBudget (leb (samplesNeeded road) 2000) ∷ []) (value tt)
+judged counts road = checked (row Structure (counts && ordered road) ∷ row Range (limited road) ∷ row SampleBudget (leb (samplesNeeded road) mostSamples) ∷ []) (value tt)
 
 module _ (text : List ℕ) (l m n at count : ℕ) (track : Track) (ws : List ℕ) (ns : List Float) (vs : List ℕ) (read : Stored text l m n (done at count track ws ns vs)) where
   abbrev T : ℕ → List Cells

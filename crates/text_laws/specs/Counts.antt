@@ -8,9 +8,9 @@ use Rattle.refusals.specs.Answer.{Row, row}
 use Rattle.refusals.specs.declared.refusals.Refusal.the-variants.{Structure, Range, SampleBudget}
 use Rattle.cubics.specs.declared.cubics.Cubic.{Cubic}
 use Rattle.records.specs.Roads.{Road, Section, Lane, Profile, Strip, absent, present}
-use Rattle.structure.specs.Order.{ordered}
+use Rattle.ordering.specs.Order.{ordered}
 use Rattle.bounds.specs.Limits.{limited}
-use Rattle.spirals.specs.Spiral.{samplesNeeded}
+use Rattle.spirals.specs.Spiral.{mostSamples, samplesNeeded}
 
 -- least to most, both included
 abbrev pub within : ℕ → ℕ → ℕ → Bool
@@ -61,4 +61,4 @@ countsSaid road =
 
 -- rows 3, 4 and 5 of a road: those that a lent road is judged by (admission specs/Admission.antt `roadRows`), with the lengths of its lists in place of the tests on words
 abbrev pub saidRows : Road → List Row
-saidRows road = row Structure (countsSaid road && ordered road) ∷ row Range (limited road) ∷ row SampleBudget (leb (samplesNeeded road) 2000) ∷ []
+saidRows road = row Structure (countsSaid road && ordered road) ∷ row Range (limited road) ∷ row SampleBudget (leb (samplesNeeded road) mostSamples) ∷ []

@@ -5,7 +5,7 @@ use Rattle.lent.specs.Lists.{allBelow}
 use Rattle.lent.proofs.TableLaws.{all-none, all-next, all-done}
 use Rattle.cubics.specs.Cubics.{cubicsOf}
 use Rattle.cubics.proofs.CubicTables.{cubic-count}
-use Rattle.ranges.specs.Bounds.{cubicWithin, cubicsWithin}
+use Rattle.bounds.specs.Bounds.{cubicWithin, cubicsWithin}
 use borrow.Author.Needs.{needs}
 use Rattle.bounds.proofs.bounding.cubics_within.Statement.{statement}
 use Rattle.bounds.proofs.bounding.cubics_within.Tie as tie

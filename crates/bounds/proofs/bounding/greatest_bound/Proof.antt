@@ -3,8 +3,8 @@ use Prim.Native.Nat.{_≤_, _-_}
 use mathlib.Core.Path.{_≡_, sym}
 use Rattle.cubics.specs.Cubics.{cubicsOf}
 use Rattle.cubics.proofs.CubicTables.{cubic-count}
-use Rattle.ranges.specs.Bounds.{boundAt, greatest, greatestBound}
 use Rattle.bounds.proofs.Greatest.{greatest-none, greatest-next, greatest-done}
+use Rattle.bounds.specs.Bounds.{boundAt, greatest, greatestBound}
 use borrow.Author.Needs.{needs}
 use Rattle.bounds.proofs.bounding.greatest_bound.Statement.{statement}
 use Rattle.bounds.proofs.bounding.greatest_bound.Tie as tie

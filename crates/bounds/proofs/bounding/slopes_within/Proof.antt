@@ -6,7 +6,7 @@ use Rattle.lent.proofs.TableLaws.{all-none, all-next, all-done}
 use lib.Ieee.{le}
 use Rattle.cubics.specs.Cubics.{cubicsOf, cubicAt}
 use Rattle.cubics.proofs.CubicTables.{cubic-count}
-use Rattle.ranges.specs.Bounds.{reachAt, slopeBoundOf, slopesWithin}
+use Rattle.bounds.specs.Bounds.{reachAt, slopeBoundOf, slopesWithin}
 use borrow.Author.Needs.{needs}
 use Rattle.bounds.proofs.bounding.slopes_within.Statement.{statement}
 use Rattle.bounds.proofs.bounding.slopes_within.Tie as tie

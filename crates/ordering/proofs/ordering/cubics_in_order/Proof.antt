@@ -7,7 +7,7 @@ use Rattle.lent.specs.Lists.{allBelow}
 use Rattle.cubics.specs.Cubics.{cubicAt, cubicsOf}
 use Rattle.lent.proofs.TableLaws.{all-none, all-next, all-done}
 use Rattle.cubics.proofs.CubicTables.{cubic-count}
-use Rattle.structure.specs.Order.{neverFall, cubicsInOrder}
+use Rattle.ordering.specs.Order.{neverFall, cubicsInOrder}
 use borrow.Author.Needs.{needs}
 use Rattle.ordering.proofs.ordering.cubics_in_order.Statement.{statement}
 use Rattle.ordering.proofs.ordering.cubics_in_order.Tie as tie

@@ -1,5 +1,5 @@
 -- `flat_in_order`: each flat table by the scan of its cubics.
-use Rattle.structure.specs.Order.{cubicsInOrder}
+use Rattle.ordering.specs.Order.{cubicsInOrder}
 use mathlib.Core.Bool.{_&&_}
 use mathlib.Core.Path.{ap, ap₂, _∙_}
 use borrow.Author.Needs.{needs}

@@ -6,7 +6,7 @@ use lib.Ieee.{le}
 use Rattle.lent.specs.Lists.{allBelow}
 use Rattle.records.specs.Roads.{roadOf, geomAt}
 use Rattle.lent.proofs.TableLaws.{all-none, all-next, all-done}
-use Rattle.structure.specs.Order.{neverFall}
+use Rattle.ordering.specs.Order.{neverFall}
 use borrow.Author.Needs.{needs}
 use Rattle.ordering.proofs.ordering.geoms_in_order.Statement.{statement}
 use Rattle.ordering.proofs.ordering.geoms_in_order.Tie as tie

@@ -8,13 +8,13 @@ use Rattle.float_laws.specs.Binary64.{_⊖_}
 use Rattle.records.specs.Roads.{heightsOf, heightDefAt}
 use Rattle.lent.proofs.TableLaws.{all-none, all-next, all-done}
 use Rattle.records.proofs.CubicLaws.{height-count}
-use Rattle.structure.specs.Order.{margin, apart}
+use Rattle.ordering.specs.Order.{leastGap, apart}
 use borrow.Author.Needs.{needs}
 use Rattle.ordering.proofs.ordering.heights_apart.Statement.{statement}
 use Rattle.ordering.proofs.ordering.heights_apart.Tie as tie
 
 abbrev Inv-loop : tie.InvT-loop
-Inv-loop part n ok₀ i₀ ok i = (i ≤ n) × (ok ≡ allBelow (λ k. le margin (heightDefAt (heightsOf part) (k + 1) .«s_offset» ⊖ heightDefAt (heightsOf part) k .«s_offset»)) i)
+Inv-loop part n ok₀ i₀ ok i = (i ≤ n) × (ok ≡ allBelow (λ k. le leastGap (heightDefAt (heightsOf part) (k + 1) .«s_offset» ⊖ heightDefAt (heightsOf part) k .«s_offset»)) i)
 
 abbrev μ-loop : tie.MeasureT-loop
 μ-loop part n ok₀ i₀ ok i = n - i
@@ -41,7 +41,7 @@ loop-less : tie.Need-loop-less Inv-loop μ-loop
 loop-less c = search needs
 
 loop-again : tie.Need-loop-again Inv-loop μ-loop
-loop-again c = let at = c .before .before .before .before .before .loop in (search needs, all-next _ (at .i) (at .inv .1) (ap₂ (λ (x y : HeightDef). le margin (y .«s_offset» ⊖ x .«s_offset»)) (c .before .before .before .height-def .ensures) (c .before .before .height-def2 .ensures)))
+loop-again c = let at = c .before .before .before .before .before .loop in (search needs, all-next _ (at .i) (at .inv .1) (ap₂ (λ (x y : HeightDef). le leastGap (y .«s_offset» ⊖ x .«s_offset»)) (c .before .before .before .height-def .ensures) (c .before .before .height-def2 .ensures)))
 
 returns : tie.Need-returns Inv-loop μ-loop
 unfolding apart

@@ -6,13 +6,13 @@ use Rattle.lent.specs.Lists.{allBelow}
 use Rattle.float_laws.specs.Binary64.{_⊖_}
 use Rattle.records.specs.Roads.{roadOf, profileAt}
 use Rattle.lent.proofs.TableLaws.{all-none, all-next, all-done}
-use Rattle.structure.specs.Order.{margin, apart}
+use Rattle.ordering.specs.Order.{leastGap, apart}
 use borrow.Author.Needs.{needs}
 use Rattle.ordering.proofs.ordering.profiles_apart.Statement.{statement}
 use Rattle.ordering.proofs.ordering.profiles_apart.Tie as tie
 
 abbrev Inv-loop : tie.InvT-loop
-Inv-loop words numbers n ok₀ i₀ ok i = (i ≤ n) × (ok ≡ allBelow (λ k. le margin (profileAt (roadOf words numbers) (k + 1) .s ⊖ profileAt (roadOf words numbers) k .s)) i)
+Inv-loop words numbers n ok₀ i₀ ok i = (i ≤ n) × (ok ≡ allBelow (λ k. le leastGap (profileAt (roadOf words numbers) (k + 1) .s ⊖ profileAt (roadOf words numbers) k .s)) i)
 
 abbrev μ-loop : tie.MeasureT-loop
 μ-loop words numbers n ok₀ i₀ ok i = n - i
@@ -42,7 +42,7 @@ loop-less : tie.Need-loop-less Inv-loop μ-loop
 loop-less c = search needs
 
 loop-again : tie.Need-loop-again Inv-loop μ-loop
-loop-again c = let at = c .before .before .before .loop in (search needs, all-next _ (at .i) (at .inv .1) (ap₂ (λ (x y : Float). le margin (y ⊖ x)) (c .before .profile-start .ensures) (c .profile-start2 .ensures)))
+loop-again c = let at = c .before .before .before .loop in (search needs, all-next _ (at .i) (at .inv .1) (ap₂ (λ (x y : Float). le leastGap (y ⊖ x)) (c .before .profile-start .ensures) (c .profile-start2 .ensures)))
 
 returns : tie.Need-returns Inv-loop μ-loop
 unfolding apart

@@ -2,7 +2,7 @@
 use Rattle.lent.specs.Lists.{allBelow}
 use mathlib.Core.Bool.{_&&_}
 use mathlib.Core.Path.{ap, ap₂, _∙_}
-use Rattle.structure.specs.Order.{sectionInOrder}
+use Rattle.ordering.specs.Order.{sectionInOrder}
 use borrow.Author.Needs.{needs}
 use Rattle.ordering.proofs.ordering.section_in_order.Statement.{statement}
 use Rattle.ordering.proofs.ordering.section_in_order.Tie as tie

@@ -5,7 +5,7 @@ use lib.Ieee.{lt, Float}
 use Rattle.lent.specs.Lists.{allBelow}
 use Rattle.records.specs.Roads.{roadOf, sectionOf}
 use Rattle.lent.proofs.TableLaws.{all-none, all-next, all-done}
-use Rattle.structure.specs.Order.{riseStrictly}
+use Rattle.ordering.specs.Order.{riseStrictly}
 use borrow.Author.Needs.{needs}
 use Rattle.ordering.proofs.ordering.sections_rise.Statement.{statement}
 use Rattle.ordering.proofs.ordering.sections_rise.Tie as tie

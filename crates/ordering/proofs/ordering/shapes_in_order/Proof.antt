@@ -4,7 +4,7 @@ use mathlib.Core.Path.{_≡_, sym, ap, _∙_}
 use Rattle.lent.specs.Lists.{allBelow}
 use Rattle.records.specs.Roads.{roadOf, profileAt}
 use Rattle.lent.proofs.TableLaws.{all-none, all-next, all-done}
-use Rattle.structure.specs.Order.{cubicsInOrder}
+use Rattle.ordering.specs.Order.{cubicsInOrder}
 use borrow.Author.Needs.{needs}
 use Rattle.ordering.proofs.ordering.shapes_in_order.Statement.{statement}
 use Rattle.ordering.proofs.ordering.shapes_in_order.Tie as tie

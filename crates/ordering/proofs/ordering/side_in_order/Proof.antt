@@ -4,7 +4,7 @@ use mathlib.Core.Path.{_≡_, sym}
 use Rattle.lent.specs.Lists.{allBelow}
 use Rattle.records.specs.Roads.{roadOf, laneOf}
 use Rattle.lent.proofs.TableLaws.{all-none, all-next, all-done}
-use Rattle.structure.specs.Order.{laneInOrder}
+use Rattle.ordering.specs.Order.{laneInOrder}
 use borrow.Author.Needs.{needs}
 use Rattle.ordering.proofs.ordering.side_in_order.Statement.{statement}
 use Rattle.ordering.proofs.ordering.side_in_order.Tie as tie

@@ -4,7 +4,7 @@ use mathlib.Core.Path.{_≡_, sym}
 use Rattle.lent.specs.Lists.{allBelow}
 use Rattle.lent.proofs.TableLaws.{all-none, all-next, all-done}
 use Rattle.records.specs.Roads.{roadOf, stripAt, columnOf}
-use Rattle.ranges.specs.Bounds.{largest}
+use Rattle.ranges.specs.Ranges.{largest}
 use Rattle.bounds.specs.Limits.{roadCubicsWithin}
 use borrow.Author.Needs.{needs}
 use Rattle.shape_limits.proofs.shapes.terms_within.Statement.{statement}

@@ -4,14 +4,14 @@ use mathlib.Core.Path.{refl, sym, subst}
 use mathlib.Core.Logic.{inl, inr}
 use lib.Dec.{T}
 use lib.Ieee.{le}
-use Rattle.float_laws.specs.Binary64.{f64}
+use Rattle.spirals.specs.Quarters.{leastEstimated, greatestEstimated}
 use Rattle.spirals.proofs.SpiralQuarters.{number-fits, both}
 use borrow.Author.Needs.{needs}
 use Rattle.spirals.proofs.spirals.quarters_below.Statement.{statement}
 use Rattle.spirals.proofs.spirals.quarters_below.Tie as tie
 
 estimate-requires : tie.Need-estimate-requires
-estimate-requires c κs = let x = c .before .args .x in both (le (f64 0x3ff0_0000_0000_0000) x) (le x (f64 0x40c3_8800_0000_0000)) (c .if1 .taken)
+estimate-requires c κs = let x = c .before .args .x in both (le leastEstimated x) (le x greatestEstimated) (c .if1 .taken)
 
 least-requires : tie.Need-least-requires
 least-requires c κs = search needs
@@ -23,7 +23,7 @@ returns : tie.Need-returns
 returns c =
     let at = c .before .before .before .before in
     let x = at .before .args .x in
-    (omega (arith, c .before .before .least .ensures), inr (subst T (sym (c .if2 .taken)) tt, both (le (f64 0x3ff0_0000_0000_0000) x) (le x (f64 0x40c3_8800_0000_0000)) (at .if1 .taken) .1))
+    (omega (arith, c .before .before .least .ensures), inr (subst T (sym (c .if2 .taken)) tt, both (le leastEstimated x) (le x greatestEstimated) (at .if1 .taken) .1))
 
 returns-2 : tie.Need-returns-2
 returns-2 c = (omega arith, inl refl)

@@ -3,14 +3,14 @@ use Prim.Native.Nat.{_-_, _≤_}
 use native.Mathlib.Omega.{arith}
 use mathlib.Core.Path.{_≡_, sym}
 use Rattle.records.specs.Roads.{roadOf}
-use Rattle.spirals.specs.Spiral.{samplesBefore}
+use Rattle.spirals.specs.Spiral.{mostSamples, samplesBefore}
 use Rattle.spirals.proofs.SpiralLaws.{before-none, before-more, fit-over, fit-all}
 use borrow.Author.Needs.{needs}
 use Rattle.spirals.proofs.spirals.samples_fit.Statement.{statement}
 use Rattle.spirals.proofs.spirals.samples_fit.Tie as tie
 
 abbrev Inv-loop : tie.InvT-loop
-Inv-loop words numbers n needed₀ i₀ needed i = (i ≤ n) × (needed ≤ 2000) × (needed ≡ samplesBefore (roadOf words numbers) i)
+Inv-loop words numbers n needed₀ i₀ needed i = (i ≤ n) × (needed ≤ mostSamples) × (needed ≡ samplesBefore (roadOf words numbers) i)
 
 abbrev μ-loop : tie.MeasureT-loop
 μ-loop words numbers n needed₀ i₀ needed i = n - i
@@ -39,7 +39,7 @@ returns c =
     let road = roadOf (a .words .now) (a .numbers .now) in
     let n = at .before .geom-count .ensures in
     let more = c .before .before .before .loop-test .taken in
-    fit-over road (at .loop .i) 2000 (omega arith)
+    fit-over road (at .loop .i) mostSamples (omega arith)
     (before-more road (at .loop .i) (at .loop .inv .2) (c .before .before .geom .ensures) (c .before .sample-count .ensures .0))
     (c .if1 .taken)
 
@@ -63,7 +63,7 @@ returns-2 c =
     let road = roadOf (a .words .now) (a .numbers .now) in
     let n = at .before .geom-count .ensures in
     let inv = at .loop .inv in
-    fit-all road (at .loop .i) 2000 (omega arith) (inv .2) (inv .1)
+    fit-all road (at .loop .i) mostSamples (omega arith) (inv .2) (inv .1)
 
 pub samples-fit-spec : {M : Type 1} → statement M
 samples-fit-spec =

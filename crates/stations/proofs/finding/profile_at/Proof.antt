@@ -8,8 +8,8 @@ use Rattle.stations.proofs.finding.profile_at.Tie as tie
 word-requires : tie.Need-word-requires
 word-requires c κs = search needs
 
-held-reach-requires : tie.Need-held-reach-requires
-held-reach-requires c κs = search needs
+last-held-requires : tie.Need-last-held-requires
+last-held-requires c κs = search needs
 
 found-of-requires : tie.Need-found-of-requires
 found-of-requires c κs = search needs
@@ -17,7 +17,7 @@ found-of-requires c κs = search needs
 returns : tie.Need-returns
 returns c =
     let a = c .before .before .before .before .before .args in
-    c .found-of .ensures ∙ c .before .held-reach .ensures ∙ profile-by (a .words .now) (a .numbers .now) (a .s) (c .before .before .word .ensures .0)
+    c .found-of .ensures ∙ c .before .last-held .ensures ∙ profile-by (a .words .now) (a .numbers .now) (a .s) (c .before .before .word .ensures .0)
 
 pub profile-at-spec : {M : Type 1} → statement M
-profile-at-spec = tie.close (tie.spec word-requires held-reach-requires found-of-requires returns)
+profile-at-spec = tie.close (tie.spec word-requires last-held-requires found-of-requires returns)

@@ -5,8 +5,8 @@ use borrow.Author.Needs.{needs}
 use Rattle.stations.proofs.scan.active.Statement.{statement}
 use Rattle.stations.proofs.scan.active.Tie as tie
 
-reach-requires : tie.Need-reach-requires
-reach-requires c κs = search needs
+last-started-requires : tie.Need-last-started-requires
+last-started-requires c κs = search needs
 
 found-of-requires : tie.Need-found-of-requires
 found-of-requires c κs = search needs
@@ -14,7 +14,7 @@ found-of-requires c κs = search needs
 returns : tie.Need-returns
 returns c =
     let a = c .before .before .before .args in
-    c .found-of .ensures ∙ c .before .reach .ensures .0 ∙ active-by (a .part .now) (a .s)
+    c .found-of .ensures ∙ c .before .last-started .ensures .0 ∙ active-by (a .part .now) (a .s)
 
 pub active-spec : {M : Type 1} → statement M
-active-spec = tie.close (tie.spec reach-requires found-of-requires returns)
+active-spec = tie.close (tie.spec last-started-requires found-of-requires returns)

@@ -11,7 +11,7 @@ returns : tie.Need-returns
 returns c = found-none (c .if1 .taken)
 
 returns-2 : tie.Need-returns-2
-returns-2 c = found-some (c .before .args .reach) (c .if1 .left)
+returns-2 c = found-some (c .before .args .started) (c .if1 .left)
 
 pub found-of-spec : {M : Type 1} → statement M
 found-of-spec = tie.close (tie.spec sub-t4 returns returns-2)

@@ -9,7 +9,7 @@ use lib.Ieee.{Float, nan}
 use Rattle.lent.specs.Lists.{span}
 use Rattle.cubics.specs.declared.cubics.Cubic.{Cubic}
 use Rattle.cubics.specs.Cubics.{cubicsOf, cubicAt, cubicFrom, evalAt}
-use Rattle.records.specs.Active.{reached, lastStart, foundOf, activeIn, valueIn}
+use Rattle.records.specs.Active.{activeUpTo, lastStart, foundOf, activeIn, valueIn}
 use Rattle.lent.proofs.TableLaws.{span-at}
 use Rattle.cubics.proofs.CubicTables.{cubic-in}
 use Rattle.records.proofs.ScanLaws.{found-none, found-some, lastStart-same}
@@ -35,10 +35,10 @@ module _ (xs : List Float) (first n : ℕ) (held : first + n * 5 ≤ length xs) 
   start-there : (j : ℕ) → j < n → getD xs (first + j * 5) nan ≡ getD here (0 + j * 5) nan
   start-there j h = sym (span-at xs first (n * 5) (0 + j * 5) nan (omega arith) ∙ ap (λ (i : ℕ). getD xs i nan) (omega arith))
 
-  active-there : (s : Float) → lastStart (λ (i : ℕ). getD xs (first + i * 5) nan) (reached s) n ≡ activeIn (cubicsOf here) s
+  active-there : (s : Float) → lastStart (λ (i : ℕ). getD xs (first + i * 5) nan) (activeUpTo s) n ≡ activeIn (cubicsOf here) s
   active-there s =
-      lastStart-same _ _ (reached s) n start-there
-      ∙ ap (lastStart (λ (i : ℕ). getD here (0 + i * 5) nan) (reached s)) (sym count)
+      lastStart-same _ _ (activeUpTo s) n start-there
+      ∙ ap (lastStart (λ (i : ℕ). getD here (0 + i * 5) nan) (activeUpTo s)) (sym count)
       ∙ active-by here s
 
   cubic-there : (j k : ℕ) → j < n → first + j * 5 ≡ k → cubicFrom xs k ≡ cubicAt (cubicsOf here) j
@@ -71,14 +71,14 @@ returns c =
     let a = c .before .before .before .before .args in
     c .value .ensures ∙ ap (λ (ys : List Float). valueIn (cubicsOf ys) (a .s)) (c .before .part .ensures)
 
-reach-requires : tie.Need-reach-requires
-reach-requires c κs = search needs
+last-started-requires : tie.Need-last-started-requires
+last-started-requires c κs = search needs
 
 returns-2 : tie.Need-returns-2
 returns-2 c =
     let a = c .before .before .before .before .args in
     let h = c .before .before .if1 .left in
-    let e = c .before .reach .ensures .0 ∙ active-there (a .numbers .now) (a .start) (a .count) h (a .s) in
+    let e = c .before .last-started .ensures .0 ∙ active-there (a .numbers .now) (a .start) (a .count) h (a .s) in
     sym (value-none _ _ (sym e ∙ sym (found-none (c .if2 .taken))))
 
 sub-k : tie.Need-sub-k
@@ -139,9 +139,9 @@ returns-3 : tie.Need-returns-3
 returns-3 c =
     let two = c .before .before .before .before .before .before in
     let a = two .before .before .before .before .args in
-    let i = two .before .reach .result in
+    let i = two .before .last-started .result in
     let h = two .before .before .if1 .left in
-    let e = two .before .reach .ensures .0 ∙ active-there (a .numbers .now) (a .start) (a .count) h (a .s) in
+    let e = two .before .last-started .ensures .0 ∙ active-there (a .numbers .now) (a .start) (a .count) h (a .s) in
     c .eval .ensures
     ∙ ap (λ (x : Cubic). evalAt x (a .s)) (cubic-there (a .numbers .now) (a .start) (a .count) h (i - 1) _ (omega arith) refl)
     ∙ sym (value-at _ _ (i - 1) (sym e ∙ sym (found-some i (two .if2 .left))))
@@ -156,7 +156,7 @@ value-from-spec =
     part-requires
     value-requires
     returns
-    reach-requires
+    last-started-requires
     returns-2
     sub-k
     mul-k

@@ -1,4 +1,4 @@
--- Document 01, "Admission": "Reach D of a cubic", "Bound B", the elevation's slope, and the tests of a range. In f64, operation by operation.
+-- Document 01, "Admission": "Reach D of a cubic", "Bound B", the elevation's slope, and the tests of a list of cubics by them. In f64, operation by operation.
 use Prim.Native.Nat.{ℕ, zero, suc, _+_}
 use mathlib.Core.Bool.{Bool, _&&_, cond}
 use mathlib.Core.List.{List}
@@ -9,33 +9,18 @@ use Rattle.float_laws.specs.Binary64.{_⊕_, _⊖_, _⊗_, f64, zero64, absOf}
 use Rattle.cubics.specs.declared.cubics.Cubic.{Cubic}
 use Rattle.lent.specs.Lists.{allBelow}
 use Rattle.cubics.specs.Cubics.{cubicAt}
-
--- "NaN is outside every range": both comparisons have to pass
-abbrev pub inRange : Float → Float → Float → Bool
-inRange lo hi x = le lo x && le x hi
-
--- size at most m
-abbrev pub sized : Float → Float → Bool
-sized m x = le (absOf x) m
-
--- the largest f64: what lies in -largest..largest is finite
-abbrev pub largest : Float
-largest = f64 0x7fef_ffff_ffff_ffff
-
--- "a number not finite" fails
-abbrev pub finite64 : Float → Bool
-finite64 x = sized largest x
-
--- "at least 0"; a NaN stays
-abbrev pub atLeastZero : Float → Float
-atLeastZero x = cond (lt x zero64) zero64 x
+use Rattle.ranges.specs.Ranges.{inRange, atLeastZero}
 
 -- "Reach D of a cubic: next start less its own (after the last: list's end less its own), at least 0, plus 0.001"
 abbrev pub endAt : List Cubic → Float → ℕ → Float
 endAt cs end i = cond (ltb (i + 1) (length cs)) (cubicAt cs (i + 1) .start) end
 
+-- "plus 0.001"
+abbrev pub reachMargin : Float
+reachMargin = f64 0x3f50_624d_d2f1_a9fc
+
 unfoldable pub reachAt : List Cubic → Float → ℕ → Float
-reachAt cs end i = atLeastZero (endAt cs end i ⊖ cubicAt cs i .start) ⊕ f64 0x3f50_624d_d2f1_a9fc
+reachAt cs end i = atLeastZero (endAt cs end i ⊖ cubicAt cs i .start) ⊕ reachMargin
 
 -- "B = ((|a| + |b|×D) + (|c|×D)×D) + ((|d|×D)×D)×D"
 unfoldable pub boundOf : Cubic → Float → Float

@@ -1,4 +1,4 @@
--- `reach`: the starts from i on are all past the limit, so those below i decide. A turn looks at start i - 1, and returns at the first that is not past it.
+-- `last_started`: the starts from i on are all past the limit, so those below i decide. A turn looks at start i - 1, and returns at the first that is not past it.
 use Prim.Native.Nat.{ℕ, _≤_, _<_, _+_, _-_, _*_, _^_}
 use native.Mathlib.Omega.{arith}
 use mathlib.Core.Path.{_≡_, refl, _∙_, sym, ap}
@@ -8,8 +8,8 @@ use borrow.Author.Needs.{needs}
 use Rattle.records.specs.Active.{lastStart, foundOf}
 use Rattle.records.proofs.ScanLaws.{scan-none, scan-hit, scan-miss}
 use Rattle.stations.proofs.PastEnd.{place-within}
-use Rattle.stations.proofs.scan.reach.Statement.{statement}
-use Rattle.stations.proofs.scan.reach.Tie as tie
+use Rattle.stations.proofs.scan.last_started.Statement.{statement}
+use Rattle.stations.proofs.scan.last_started.Tie as tie
 
 abbrev Inv-loop : tie.InvT-loop
 Inv-loop numbers base stride count limit i₀ i =
@@ -74,8 +74,8 @@ returns-2 c =
     let at = c .before .loop in
     (ap foundOf (zero-is (at .i) (omega arith)) ∙ scan-none (λ (k : ℕ). getD (a .numbers .now) (a .base + k * a .stride) nan) (a .limit) (at .i) (omega arith) ∙ at .inv .1, omega arith)
 
-pub reach-spec : {M : Type 1} → statement M
-reach-spec =
+pub last-started-spec : {M : Type 1} → statement M
+last-started-spec =
     tie.close
     (tie.spec
     Inv-loop

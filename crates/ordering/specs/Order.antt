@@ -11,9 +11,9 @@ use Rattle.lent.specs.Lists.{allBelow}
 use Rattle.cubics.specs.Cubics.{cubicAt}
 use Rattle.records.specs.Roads.{Road, Lane, Strip, geomAt, sectionOf, laneOf, profileAt, stripAt, columnOf, heightDefAt}
 
--- 0.001
-abbrev pub margin : Float
-margin = f64 0x3f50_624d_d2f1_a9fc
+-- "at least 0.001 apart"
+abbrev pub leastGap : Float
+leastGap = f64 0x3f50_624d_d2f1_a9fc
 
 -- "other starts never fall": of n starts, each and the next
 unfoldable pub neverFall : (ℕ → Float) → ℕ → Bool
@@ -28,7 +28,7 @@ riseStrictly start n = allBelow (λ i. lt (start i) (start (i + 1))) (n - 1)
 -- "at least 0.001 apart"
 unfoldable pub apart : (ℕ → Float) → ℕ → Bool
 unfolding allBelow
-apart start n = allBelow (λ i. le margin (start (i + 1) ⊖ start i)) (n - 1)
+apart start n = allBelow (λ i. le leastGap (start (i + 1) ⊖ start i)) (n - 1)
 
 -- of cubics: "other starts never fall"
 unfoldable pub cubicsInOrder : List Cubic → Bool

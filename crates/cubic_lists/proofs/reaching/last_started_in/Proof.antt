@@ -1,4 +1,4 @@
--- `scan::reach_in` meets its contract: its MIR walked by hand, since a slice of structs is outside the borrow checker.
+-- `scan::last_started_in` meets its contract: its MIR walked by hand, since a slice of structs is outside the borrow checker.
 -- The fractured borrow of the slice is opened once, before the loop, and closed once, after it. In between a share of all the elements is the function's own, and a turn takes one element out of it and puts it back.
 -- Invariant: the answer among the first i is the answer among all (`Upto`); both ways out of the loop end alike (`ends`). The slice is Copy: a copy of what it owns is kept whole for the exit.
 use mathlib.Core.Path.{_≡_, refl, sym, _∙_}
@@ -53,11 +53,11 @@ use Rattle.records.specs.Active.{lastStart, foundOf}
 use Rattle.records.proofs.ScanLaws.{scan-none, scan-hit, scan-miss}
 use Rattle.cubics.proofs.cubics.Cubic as T
 use Rattle.cubics.proofs.cubics.Cubic.Laws as T′
-use Rattle.cubic_lists.proofs.reaching.reach_in.Key.{name as #reach-in}
-use Rattle.cubic_lists.proofs.reaching.reach_in as f
-use Rattle.cubic_lists.proofs.reaching.reach_in.Statement as stated
-use Rattle.cubic_lists.proofs.reaching.reach_in.Code as code
-use Rattle.cubic_lists.proofs.reaching.reach_in.Code.Mir as its
+use Rattle.cubic_lists.proofs.reaching.last_started_in.Key.{name as #last-started-in}
+use Rattle.cubic_lists.proofs.reaching.last_started_in as f
+use Rattle.cubic_lists.proofs.reaching.last_started_in.Statement as stated
+use Rattle.cubic_lists.proofs.reaching.last_started_in.Code as code
+use Rattle.cubic_lists.proofs.reaching.last_started_in.Code.Mir as its
 
 abbrev R : RattleType
 R = T.the-row
@@ -215,19 +215,19 @@ module _ {M : Type 1} (𝓤 : URA M) (H : Heap 𝓤) (A : Atoms 𝓤) (W : Given
       first ! $ blocks ! $ loops ! 𝓣 Nearer Nearer-wf (At 𝓣 q′ l₀ l₁ l₂ l₃ l₄ l₅ l₆ l₇ l₈) (turns 𝓣 q′ l₀ l₁ l₂ l₃ l₄ l₅ l₆ l₇ l₈) (n, le-refl n, refl)))))))))))
 
 module _ {M : Type 1} (𝓤 : URA M) (H : Heap 𝓤) (A : Atoms 𝓤) (W : Given 𝓤 H A) (mem′ : Memory → SProp 𝓤) (run : Routine → Fun 𝓤) (𝓣 : Tables 𝓤 H) where
-  reach-in-walks : Walks 𝓤 H A f.ended stayed (WpFn 𝓤 H (𝓣 .C) (𝓣 .Λ) code.function) (f.clauses 𝓤 H A mem′ run)
-  reach-in-walks =
+  last-started-in-walks : Walks 𝓤 H A f.ended stayed (WpFn 𝓤 H (𝓣 .C) (𝓣 .Λ) code.function) (f.clauses 𝓤 H A mem′ run)
+  last-started-in-walks =
       walked 𝓤 H A f.ended stayed (f.clauses 𝓤 H A mem′ run) (WpFn 𝓤 H (𝓣 .C) (𝓣 .Λ) code.function) (λ κs. (slice-vals, (float-vals binary64, tt))) (λ κs. (shr-slice-tells (named 0) (κs .0) R, (float-tells binary64, tt)))
       (λ κs qs bounds a g are. via 𝓤 _ (fst∗ 𝓤 _ (emp 𝓤)) (walk 𝓤 H A W mem′ run (κs .0) (qs .0) (a .0 .ptr .0) (a .0 .ptr .1) (a .0 .name) (a .0 .now) (a .1 .0) (are .0 .0 .1) (are .1 .0 .1) 𝓣))
 
-  reach-in-meets : Meets 𝓤 H A f.signature (WpFn 𝓤 H (𝓣 .C) (𝓣 .Λ) code.function) (f.spec 𝓤 H A mem′ run)
-  reach-in-meets =
+  last-started-in-meets : Meets 𝓤 H A f.signature (WpFn 𝓤 H (𝓣 .C) (𝓣 .Λ) code.function) (f.spec 𝓤 H A mem′ run)
+  last-started-in-meets =
       walk-meets 𝓤 H A f.ended stayed W (goes-none-slice 𝓤 H A W 1 (0 ∷ []) tt (plain (λ _. R)) yes, (goes-none 𝓤 H A W 1 (λ _. f64) yes (λ κs x f. refl), tt))
-      (f.clauses 𝓤 H A mem′ run) (WpFn 𝓤 H (𝓣 .C) (𝓣 .Λ) code.function) (WpFn-mono 𝓤 H (W .laws) 𝓣 code.function) reach-in-walks
+      (f.clauses 𝓤 H A mem′ run) (WpFn 𝓤 H (𝓣 .C) (𝓣 .Λ) code.function) (WpFn-mono 𝓤 H (W .laws) 𝓣 code.function) last-started-in-walks
 
-pub reach-in-spec : {M : Type 1} → stated.statement M
+pub last-started-in-spec : {M : Type 1} → stated.statement M
 unfolding code.routine tablesOf
-reach-in-spec 𝓤 H 𝓜 𝓖 𝓡 =
+last-started-in-spec 𝓤 H 𝓜 𝓖 𝓡 =
     entered 𝓤 H (tripleOf 𝓤 H (𝓖 .A) f.signature (f.spec 𝓤 H (𝓖 .A) (𝓜 .mem) (𝓡 .run)))
-    (tables 𝓤 H 𝓜 𝓡 code.env .C) (tables 𝓤 H 𝓜 𝓡 code.env .Λ) #reach-in code.function (code.unfolded 𝓤 H 𝓜 𝓡)
-    (reach-in-meets 𝓤 H (𝓖 .A) (givenOf 𝓤 H 𝓜 𝓖) (𝓜 .mem) (𝓡 .run) (tablesOf 𝓤 H 𝓜 (tables 𝓤 H 𝓜 𝓡 code.env)))
+    (tables 𝓤 H 𝓜 𝓡 code.env .C) (tables 𝓤 H 𝓜 𝓡 code.env .Λ) #last-started-in code.function (code.unfolded 𝓤 H 𝓜 𝓡)
+    (last-started-in-meets 𝓤 H (𝓖 .A) (givenOf 𝓤 H 𝓜 𝓖) (𝓜 .mem) (𝓡 .run) (tablesOf 𝓤 H 𝓜 (tables 𝓤 H 𝓜 𝓡 code.env)))
