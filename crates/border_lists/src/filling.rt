@@ -2,7 +2,7 @@
 use lane_records::side_line;
 use lanes::base_at;
 use lanes::lane_count;
-use lanes::line_width;
+use lanes::lane_width;
 use lanes::sign_of;
 use section_records::section_start;
 ghost use mathlib.Core.Path.{_≡_};
@@ -36,7 +36,7 @@ fn write_side(
     let mut inner = base;
     let mut k = 0;
     while k < n {
-        let width = line_width(words, numbers, (line + k) as u32, s, right, inner);
+        let width = lane_width(words, numbers, (line + k) as u32, s, right, inner);
         let outer = inner + sign * width;
         let at = first + k * 3;
         list[at] = inner;

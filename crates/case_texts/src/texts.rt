@@ -1,23 +1,12 @@
 // A text that is put together in a slice: it fills the first `held` bytes, and a piece is appended to it. What does not fit is left off.
 ghost use mathlib.Core.Path.{_≡_};
-ghost use Prim.Native.Nat.{_+_, _-_, _≤_, min};
+ghost use Prim.Native.Nat.{_+_, _-_, _≤_};
 ghost use lib.ListN.{length, take, drop};
 ghost use lib.Seq.{paste};
 ghost use Rattle.case_texts.specs.Texts.{appended, heldThen, partOf, bytesOf, pieceOf};
 use case_lines::Line;
-
-fn least(a: usize, b: usize) -> usize
-    ensures { λ r. ⌜ r ≡ min a b ⌝ }
-{
-    if a < b { a } else { b }
-}
-
-// a - b, 0 where b is more.
-fn less(a: usize, b: usize) -> usize
-    ensures { λ r. ⌜ r ≡ a - b ⌝ }
-{
-    if b < a { a - b } else { 0 }
-}
+use ranges::least;
+use ranges::less;
 
 fn copy(text: &mut [u8], held: usize, piece: &[u8], n: usize)
     requires { ⌜ (n ≤ length (now piece)) × (n ≤ length (now text) - held) ⌝ }

@@ -1,6 +1,8 @@
 // The cross section: up to two strips each side of the reference line, each a cubic across whose four terms are cubics along the road.
 // Strips are addressed by their place: left inner 0, left outer 1, right inner 2, right outer 3.
 use cubics::cubic_at;
+use ranges::abs;
+use ranges::not_below_zero;
 use records::Found;
 use records::StripKind;
 use records::tshifts;
@@ -10,10 +12,9 @@ use stations::active;
 use stations::value;
 ghost use mathlib.Core.Path.{_≡_};
 ghost use Prim.Native.Nat.{_+_, _<_};
-ghost use Rattle.float_laws.specs.Binary64.{absOf};
 ghost use Rattle.records.specs.Active.{activeIn, valueIn};
 ghost use Rattle.records.specs.Roads.{roadOf, stripAt, StripDef, present, columnOf};
-ghost use Rattle.lateral.specs.Lateral.{stripHeight, notBelowZero, pastWidth, byWidth, bySide, isLeft, isPresent, crossHeight};
+ghost use Rattle.lateral.specs.Lateral.{stripHeight, pastWidth, byWidth, bySide, isLeft, isPresent, crossHeight};
 
 pub(crate) fn is_present(words: &[u16], numbers: &[f64], i: usize) -> bool
     ensures { λ r. ⌜ r ≡ isPresent (stripAt (roadOf (now (words .entry)) (now (numbers .entry))) i) ⌝ }
@@ -71,12 +72,6 @@ fn past_width(
     }
 }
 
-fn not_below_zero(w: f64) -> f64
-    ensures { λ r. ⌜ r ≡ notBelowZero w ⌝ }
-{
-    if 0.0 < w { w } else { 0.0 }
-}
-
 // The side whose inner strip is there.
 fn by_width(words: &[u16], numbers: &[f64], inner: usize, s: f64, t: f64, sign: f64) -> f64
     requires { ⌜ inner < 4 ⌝ }
@@ -102,12 +97,6 @@ fn side_height(words: &[u16], numbers: &[f64], inner: usize, s: f64, t: f64, sig
     } else {
         0.0
     }
-}
-
-fn abs(x: f64) -> f64
-    ensures { λ r. ⌜ r ≡ absOf x ⌝ }
-{
-    if x < 0.0 { -x } else { x }
 }
 
 // Whether t lies left of the ridge; on it, within a nanometre, the side that toward points to.

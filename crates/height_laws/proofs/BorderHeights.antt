@@ -22,7 +22,8 @@ use Rattle.records.specs.Roads.{Road, Lane, noLane, laneOf, sectionIndex}
 use Rattle.records.proofs.CubicLaws.{value-at}
 use Rattle.limit_laws.proofs.RoadBounds.{OnRoad, offset-within, width-within, border-within}
 use Rattle.lateral.specs.declared.pairs.Pair.{Pair}
-use Rattle.lateral.specs.Lateral.{notBelowZero, heightToward}
+use Rattle.lateral.specs.Lateral.{heightToward}
+use Rattle.ranges.specs.Ranges.{notBelowZero}
 use Rattle.lateral_laws.proofs.LateralBounds.{two-wide, height-most}
 use Rattle.lanes.specs.Borders.{signOf, borderWidth, widthOf, baseAt, sideOf, bordersAt, bordersOf}
 use Rattle.lane_heights.specs.Heights.{levelUpTo, levelHeights, tiltedHeights, ownHeights, heightsFrom, heightAfter, heightsAt}

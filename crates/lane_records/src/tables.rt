@@ -16,15 +16,11 @@ use records::layout::SECTION_COUNT_AT;
 use records::layout::SECTION_STRIDE;
 use records::layout::SECTION_WORDS;
 ghost use mathlib.Core.Path.{_≡_};
-ghost use Prim.Native.Nat.{ℕ, _+_, _*_, _<_};
-ghost use mathlib.Core.Bool.{cond};
-ghost use mathlib.Core.List.{List};
-ghost use lib.ListN.{length};
-ghost use lib.Ieee.{Float};
+ghost use Prim.Native.Nat.{ℕ, _<_};
 ghost use Rattle.records.specs.declared.points.Found.the-variants.{At};
-ghost use Rattle.lent.specs.Lists.{span};
 ghost use Rattle.cubics.specs.Cubics.{cubicsOf};
-ghost use Rattle.records.specs.Roads.{roadOf, sectionOf, laneIn, laneBy, heightDefAt, heightsOf, laneOf};
+ghost use Rattle.records.specs.Roads.{roadOf, heightDefAt, heightsOf, laneOf};
+ghost use Rattle.lane_records.specs.Lines.{sideLine, lineOf, extentOf};
 
 // Where the extents stand, as a lane's own place is counted.
 const FIRST_EXTENT: u32 = EXTENT_BASE as u32;
@@ -39,8 +35,8 @@ pub struct LaneExtent {
 }
 
 // The line of the lane table that has the k-th lane of a section's side.
-fn lane_line(words: &[u16], section: usize, right: bool, k: usize) -> Found
-    ensures { λ r. ⌜ ((numbers : List Float) → laneOf (roadOf (now (words .entry)) numbers) section right k ≡ laneBy (now (words .entry)) numbers r) ⌝ }
+pub fn lane_line(words: &[u16], section: usize, right: bool, k: usize) -> Found
+    ensures { λ r. ⌜ r ≡ lineOf (now (words .entry)) section right k ⌝ }
     ensures small { λ r. ⌜ ((j : ℕ) → r ≡ At j → j < 196608) ⌝ }
 {
     if word(words, SECTION_COUNT_AT) <= section {
@@ -62,7 +58,7 @@ fn lane_line(words: &[u16], section: usize, right: bool, k: usize) -> Found
 
 // The line of the lane table where a side's lanes begin, for callers that go over them all.
 pub fn side_line(words: &[u16], section: usize, right: bool) -> usize
-    ensures { λ r. ⌜ ((numbers : List Float) (k : ℕ) → k < length (cond right (sectionOf (roadOf (now (words .entry)) numbers) section .right) (sectionOf (roadOf (now (words .entry)) numbers) section .left)) → laneOf (roadOf (now (words .entry)) numbers) section right k ≡ laneIn (now (words .entry)) numbers (r + k)) ⌝ }
+    ensures { λ r. ⌜ r ≡ sideLine (now (words .entry)) section right ⌝ }
     ensures small { λ r. ⌜ r < 131072 ⌝ }
 {
     if word(words, SECTION_COUNT_AT) <= section {
@@ -78,8 +74,7 @@ pub fn side_line(words: &[u16], section: usize, right: bool) -> usize
 
 // What a line says of its lane's widths or borders. A line that the words cut short has none.
 pub fn line_extent(words: &[u16], line: u32) -> LaneExtent
-    ensures { λ r. ⌜ ((numbers : List Float) → r .border ≡ laneIn (now (words .entry)) numbers line .border) ⌝ }
-    ensures { λ r. ⌜ ((numbers : List Float) → cubicsOf (span numbers (r .start) (r .count * 5)) ≡ laneIn (now (words .entry)) numbers line .extents) ⌝ }
+    ensures { λ r. ⌜ r ≡ extentOf (now (words .entry)) line ⌝ }
 {
     let at = LANE_WORDS + line as usize * LANE_STRIDE;
     if at + 3 < words.len() {

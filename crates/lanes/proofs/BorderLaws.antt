@@ -18,7 +18,7 @@ use Rattle.records.specs.declared.points.Found.the-variants.{At, Nothing}
 use Rattle.cubics.specs.Cubics.{cubicAt, evalAt}
 use Rattle.records.specs.Active.{activeIn, valueIn}
 use Rattle.records.specs.Roads.{Lane, noLane}
-use Rattle.lateral.specs.Lateral.{notBelowZero}
+use Rattle.ranges.specs.Ranges.{notBelowZero}
 use Rattle.lanes.specs.Borders.{signOf, borderWidth, widthOf, outerAfter, bordersAt}
 use Rattle.lanes.proofs.Outward.{SideSign, Ahead, Fitted, fitted-width, fitted-none, fitted-border, step-outward}
 

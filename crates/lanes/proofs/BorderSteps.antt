@@ -11,7 +11,7 @@ use lib.Dec.{T, leb, ltb, ltb→lt, nltb→le}
 use borrow.Author.Tests.{le-leb, lt-leb}
 use lib.ListN.{length, getD, take, drop, set, length-append, length-drop, take-append-drop, List·getD-append}
 use lib.Seq.{sets-eq, take-at, drop-append-add, drop-drop, length-take-le, getD-append-add}
-use lib.Ieee.{Float}
+use lib.Ieee.{Float, lt, ofBits}
 use Rattle.float_laws.specs.Binary64.{_⊖_, _⊗_, zero64}
 use Rattle.cubics.specs.declared.cubics.Cubic.{Cubic}
 use Rattle.records.specs.declared.points.Found.the-variants.{At, Nothing}
@@ -19,7 +19,7 @@ use Rattle.cubics.specs.Cubics.{cubicAt, evalAt}
 use Rattle.records.specs.Active.{activeIn, valueIn}
 use Rattle.records.specs.Roads.{Road, Lane, noLane, sectionOf, laneOf, roadOf}
 use Rattle.records.proofs.RoadLaws.{left-count, right-count, section-past}
-use Rattle.lateral.specs.Lateral.{notBelowZero}
+use Rattle.ranges.specs.Ranges.{notBelowZero}
 use Rattle.lanes.specs.declared.across.LaneBorders.{LaneBorders}
 use Rattle.lanes.specs.Borders.{signOf, borderWidth, widthOf, outerAfter, bordersFrom, bordersAt, baseAt, sideOf, lanesOf, bordersOf, sideList, borderList}
 
@@ -61,6 +61,15 @@ module _ (lane : Lane) (sign inner s : Float) where
   width-value xs e p f =
       ap notBelowZero
       (f ∙ ap (λ (cs : List Cubic). valueIn cs s) p ∙ sym (ap (λ (b : Bool). cond b (borderWidth lane sign inner s (activeIn (lane .extents) s)) (valueIn (lane .extents) s)) e))
+
+module _ (sign inner s : Float) where
+  -- the width of one lane is that of the same lane found otherwise; no lane has none
+  pub width-by : {lane other : Lane} {w : Float} → lane ≡ other → w ≡ widthOf other sign inner s → w ≡ widthOf lane sign inner s
+  width-by e f = rw e f
+
+  pub width-none : zero64 ≡ widthOf noLane sign inner s
+  unfolding widthOf valueIn activeIn lt ofBits
+  width-none = refl
 
 -- ---- the running outer border
 

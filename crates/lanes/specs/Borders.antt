@@ -12,7 +12,7 @@ use Rattle.cubics.specs.Cubics.{cubicAt, evalAt}
 use Rattle.records.specs.Active.{activeIn, valueIn}
 use Rattle.records.specs.Roads.{Road, Lane, noLane, sectionOf}
 use Rattle.lanes.specs.declared.across.LaneBorders.{LaneBorders}
-use Rattle.lateral.specs.Lateral.{notBelowZero}
+use Rattle.ranges.specs.Ranges.{notBelowZero}
 
 abbrev pub signOf : Bool → Float
 signOf false = f64 0x3ff0_0000_0000_0000

@@ -1,10 +1,10 @@
 // Where the lanes of a section lie across the road. A side is left or right of the center; its lanes count from the center outward.
 use crate::across::LaneBorders;
 use cubics::cubic_at;
-use lane_records::extents;
-use lane_records::lane_is_border;
+use lane_records::lane_line;
 use lane_records::line_extent;
 use lent::part;
+use ranges::not_below_zero;
 use records::Found;
 use records::offsets;
 use section_records::left_count;
@@ -19,7 +19,6 @@ ghost use lib.ListN.{length};
 ghost use Rattle.cubics.specs.Cubics.{cubicsOf};
 ghost use Rattle.records.specs.Active.{activeIn};
 ghost use Rattle.records.specs.Roads.{Lane, roadOf, laneIn, laneOf};
-ghost use Rattle.lateral.specs.Lateral.{notBelowZero};
 ghost use Rattle.lanes.specs.Borders.{signOf, borderWidth, widthOf, outerAfter, bordersFrom, baseAt, sideOf, lanesOf, bordersOf};
 
 // The t of the center.
@@ -55,12 +54,6 @@ pub fn sign_of(right: bool) -> f64
     if right { -1.0 } else { 1.0 }
 }
 
-fn not_below_zero(w: f64) -> f64
-    ensures { λ r. ⌜ r ≡ notBelowZero w ⌝ }
-{
-    if w > 0.0 { w } else { 0.0 }
-}
-
 // From the inner border to the active border record's t, no width where none is active.
 fn border_width(part: &[f64], sign: f64, inner: f64, s: f64) -> f64
     ensures { λ r. ⌜ ((lane : Lane) → cubicsOf (now (part .entry)) ≡ lane .extents → r ≡ borderWidth lane sign inner s (activeIn (lane .extents) s)) ⌝ }
@@ -74,28 +67,8 @@ fn border_width(part: &[f64], sign: f64, inner: f64, s: f64) -> f64
     }
 }
 
-// The k-th lane's width, s metres into its section.
-fn lane_width(
-    words: &[u16],
-    numbers: &[f64],
-    section: usize,
-    s: f64,
-    right: bool,
-    k: usize,
-    inner: f64,
-) -> f64
-    ensures { λ r. ⌜ r ≡ widthOf (laneOf (roadOf (now (words .entry)) (now (numbers .entry))) section right k) (signOf right) inner s ⌝ }
-{
-    let part = extents(words, numbers, section, right, k);
-    if lane_is_border(words, numbers, section, right, k) {
-        not_below_zero(border_width(part, sign_of(right), inner, s))
-    } else {
-        not_below_zero(value(part, s))
-    }
-}
-
-// The width of the lane that a line of the lane table has, s metres into its section, for callers that go over a side's lines.
-pub fn line_width(words: &[u16], numbers: &[f64], line: u32, s: f64, right: bool, inner: f64) -> f64
+// The width of the lane that a line of the lane table has, s metres into its section: the one way to a width.
+pub fn lane_width(words: &[u16], numbers: &[f64], line: u32, s: f64, right: bool, inner: f64) -> f64
     ensures { λ r. ⌜ r ≡ widthOf (laneIn (now (words .entry)) (now (numbers .entry)) line) (signOf right) inner s ⌝ }
 {
     let e = line_extent(words, line);
@@ -119,7 +92,10 @@ pub fn next_border(
 ) -> LaneBorders
     ensures { λ r. ⌜ r ≡ bordersFrom (laneOf (roadOf (now (words .entry)) (now (numbers .entry))) section right k) (signOf right) inner s ⌝ }
 {
-    let width = lane_width(words, numbers, section, s, right, k, inner);
+    let width = match lane_line(words, section, right, k) {
+        Found::At(line) => lane_width(words, numbers, line as u32, s, right, inner),
+        Found::Nothing => 0.0,
+    };
     LaneBorders {
         inner,
         outer: inner + sign_of(right) * width,

@@ -21,7 +21,8 @@ use Rattle.records.proofs.ScanLaws.{lastStart-below}
 use Rattle.cubics.proofs.CubicTables.{cubic-count}
 use Rattle.records.proofs.CubicLaws.{height-count}
 use Rattle.lateral.specs.declared.pairs.Pair.{Pair}
-use Rattle.lateral.specs.Lateral.{shapeBy, profileHeight, shapeBetween, shapeFrom, shapeOf, heightBetween, heightHeld, noHeights, heightFrom, heightOf, notBelowZero, stripHeight, outerHeight, pastWidth, byWidth, bySide, isLeft, crossBy, crossHeight, heightToward, isPresent, hasCrossSection, flatAcross}
+use Rattle.lateral.specs.Lateral.{shapeBy, profileHeight, shapeBetween, shapeFrom, shapeOf, heightBetween, heightHeld, noHeights, heightFrom, heightOf, stripHeight, outerHeight, pastWidth, byWidth, bySide, isLeft, crossBy, crossHeight, heightToward, isPresent, hasCrossSection, flatAcross}
+use Rattle.ranges.specs.Ranges.{notBelowZero}
 
 -- ---- a lane's heights
 

@@ -7,6 +7,7 @@ use lib.Dec.{ltb, eqb}
 use lib.Ieee.{Float, lt, neg}
 use Rattle.float_laws.specs.Binary64.{_⊕_, _⊖_, _⊗_, _⊘_, f64, zero64, absOf}
 use Rattle.cubics.specs.declared.cubics.Cubic.{Cubic}
+use Rattle.ranges.specs.Ranges.{notBelowZero}
 use Rattle.records.specs.declared.points.HeightDef.{HeightDef}
 use Rattle.records.specs.declared.points.Found.{Found}
 use Rattle.records.specs.declared.points.Found.the-variants.{At, Nothing}
@@ -70,10 +71,6 @@ unfolding lastStart
 heightOf hs s = heightFrom hs s (lastStart (λ i. heightDefAt hs i .«s_offset») (activeUpTo s) (length hs))
 
 -- ---- the cross section
-
--- "NaN or below 0 becomes 0"
-abbrev pub notBelowZero : Float → Float
-notBelowZero w = cond (lt zero64 w) w zero64
 
 -- a strip's term at s, 0 where none is active
 abbrev pub termAt : StripDef → Float → ℕ → Float

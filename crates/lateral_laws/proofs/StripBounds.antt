@@ -23,7 +23,8 @@ use Rattle.records.specs.declared.points.Found.the-variants.{At, Nothing}
 use Rattle.cubics.specs.Cubics.{cubicAt, evalAt}
 use Rattle.records.specs.Active.{activeIn, valueIn}
 use Rattle.records.specs.Roads.{Road, Strip, StripDef, absent, present, stripAt}
-use Rattle.lateral.specs.Lateral.{notBelowZero, termAt, stripHeight, outerHeight, pastWidth, byWidth, bySide, isLeft, crossBy, crossHeight}
+use Rattle.ranges.specs.Ranges.{notBelowZero}
+use Rattle.lateral.specs.Lateral.{termAt, stripHeight, outerHeight, pastWidth, byWidth, bySide, isLeft, crossBy, crossHeight}
 use Rattle.lateral_laws.proofs.StationBounds.{zero-within}
 
 -- ---- a strip by its terms

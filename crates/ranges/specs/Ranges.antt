@@ -1,4 +1,4 @@
--- Document 01: the tests of a range, "a number not finite" and "at least 0". In f64.
+-- Document 01: the tests of a range, "a number not finite", "at least 0", and how a number is kept within its ends. In f64.
 use mathlib.Core.Bool.{Bool, _&&_, cond}
 use lib.Ieee.{Float, le, lt}
 use Rattle.float_laws.specs.Binary64.{f64, zero64, absOf}
@@ -22,3 +22,11 @@ finite64 x = sized largest x
 -- "at least 0"; a NaN stays
 abbrev pub atLeastZero : Float → Float
 atLeastZero x = cond (lt x zero64) zero64 x
+
+-- "NaN or below 0 becomes 0", of a width: unlike `atLeastZero` it keeps no NaN and no -0
+abbrev pub notBelowZero : Float → Float
+notBelowZero w = cond (lt zero64 w) w zero64
+
+-- "raised to 0 if below it, then lowered" to the most "if above it"; a NaN stays
+abbrev pub clamped : Float → Float → Float
+clamped most x = let up = atLeastZero x in cond (lt most up) most up

@@ -1,7 +1,6 @@
 // The pose of a geometry at a station.
 mod bearings;
 mod counting;
-mod differences;
 mod posing;
 
 pub use bearings::Bearing;

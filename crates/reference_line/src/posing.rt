@@ -1,13 +1,15 @@
 // The pose of a geometry at a station, with the sine and the cosine of its heading. A line and an arc run on past their length; a spiral stops at its first and last sample.
 use crate::bearings::Bearing;
 use crate::counting::leading_at;
-use crate::differences::less;
+use ranges::abs;
+use ranges::clamp;
+use ranges::least;
+use ranges::less;
 use records::GeomRec;
 use records::GeomShape;
 use records::STRAIGHT_CURVATURE;
 use spirals::Pose;
 use spirals::Sample;
-use spirals::least;
 use spirals::sample_count;
 use spirals::samples_before;
 use trigonometry::sin_cos;
@@ -15,9 +17,9 @@ ghost use mathlib.Core.Path.{_≡_};
 ghost use Prim.Native.Nat.{_<_, _≤_};
 ghost use mathlib.Core.Bool.{cond};
 ghost use lib.Ieee.{lt};
-ghost use Rattle.float_laws.specs.Binary64.{zero64, absOf};
+ghost use Rattle.float_laws.specs.Binary64.{absOf};
 ghost use Rattle.records.specs.Roads.{roadOf, straightCurvature};
-ghost use Rattle.spirals.specs.Poses.{linePose, arcPose, held, segment, fractionOf, between, spiralPose, poseOf};
+ghost use Rattle.spirals.specs.Poses.{linePose, arcPose, segment, fractionOf, between, spiralPose, poseOf};
 ghost use Rattle.spirals.specs.Spiral.{sampleAt};
 ghost use Rattle.reference_line.specs.Bearings.{bearingOf};
 
@@ -61,20 +63,6 @@ fn sample_at(samples: &[f64], first: usize, k: usize) -> Sample
     }
 }
 
-fn raise(d: f64) -> f64
-    ensures { λ r. ⌜ r ≡ cond (lt d zero64) zero64 d ⌝ }
-{
-    if d < 0.0 { 0.0 } else { d }
-}
-
-// Raised to 0, then lowered to the last distance; a NaN stays.
-fn hold(last: f64, d: f64) -> f64
-    ensures { λ r. ⌜ r ≡ held last d ⌝ }
-{
-    let up = raise(d);
-    if last < up { last } else { up }
-}
-
 // The first sample of the segment: the last leading one, but never the very last.
 fn segment_of(lead: usize, n: usize) -> usize
     ensures { λ r. ⌜ r ≡ segment lead n ⌝ }
@@ -103,24 +91,18 @@ fn spiral_pose(samples: &[f64], first: usize, n: usize, ds: f64) -> Pose
     ensures { λ r. ⌜ r ≡ spiralPose (now (samples .entry)) first n ds ⌝ }
 {
     let last = sample_at(samples, first, less(n, 1));
-    let d = hold(last.distance, ds);
+    let d = clamp(last.distance, ds);
     let i = segment_of(leading_at(samples, first, d, n), n);
     let a = sample_at(samples, first, i);
     let b = sample_at(samples, first, i + 1);
     between_samples(a, b, fraction(a.distance, b.distance, d))
 }
 
-fn size(k: f64) -> f64
-    ensures { λ r. ⌜ r ≡ absOf k ⌝ }
-{
-    if k < 0.0 { -k } else { k }
-}
-
 // An arc of curvature 1e-9 or less is a line.
 fn arc_or_line(g: GeomRec, k: f64, ds: f64) -> Bearing
     ensures { λ r. ⌜ r ≡ bearingOf (cond (lt straightCurvature (absOf k)) (arcPose g k ds) (linePose g ds)) ⌝ }
 {
-    if STRAIGHT_CURVATURE < size(k) {
+    if STRAIGHT_CURVATURE < abs(k) {
         arc_bearing(g, k, ds)
     } else {
         line_bearing(g, ds)

@@ -5,6 +5,7 @@ use mathlib.Core.List.{List, [], _∷_}
 use lib.Ieee.{Float, lt, le}
 use Rattle.float_laws.specs.Binary64.{_⊕_, _⊖_, _⊗_, _⊘_, zero64, absOf}
 use Rattle.trigonometry.specs.Sine.{sineOf, cosineOf}
+use Rattle.ranges.specs.Ranges.{clamped}
 use Rattle.records.specs.declared.points.GeomRec.{GeomRec}
 use Rattle.records.specs.declared.points.GeomShape.{GeomShape}
 use Rattle.records.specs.declared.points.GeomShape.the-variants.{Line, Arc, Spiral}
@@ -35,7 +36,7 @@ arcPose g k ds =
 
 -- "raised to 0 if below it, then lowered to the last sample's if above it"; a NaN stays
 abbrev pub held : Float → Float → Float
-held last d = let up = cond (lt d zero64) zero64 d in cond (lt last up) last up
+held last d = clamped last d
 
 -- "the number of leading samples with distance ≤ that", of the n from a place on
 unfoldable pub leading : List Float → ℕ → Float → ℕ → ℕ

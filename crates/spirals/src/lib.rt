@@ -1,9 +1,7 @@
 // The samples of spirals: how many a road needs, and each from the last.
-mod counting;
 mod line;
 mod spirals;
 
-pub use counting::least;
 pub use line::Pose;
 pub use line::Sample;
 pub use spirals::first_sample;

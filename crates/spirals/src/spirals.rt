@@ -1,6 +1,6 @@
 // A spiral has no elementary form, so it is baked to samples by the midpoint rule: its start, then one a step of 0.25 m, the last shorter.
-use crate::counting::least;
 use crate::line::Sample;
+use ranges::least;
 use records::GeomRec;
 use records::GeomShape;
 ghost use mathlib.Core.Path.{_≡_};

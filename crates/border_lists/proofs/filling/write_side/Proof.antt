@@ -7,6 +7,7 @@ use lib.ListN.{length, take, drop, length-set}
 use lib.Ieee.{Float}
 use Rattle.float_laws.specs.Binary64.{_⊕_, _⊗_}
 use Rattle.records.specs.Roads.{Lane, roadOf}
+use Rattle.lane_records.proofs.LineLaws.{line-begun}
 use Rattle.lanes.specs.declared.across.LaneBorders.{LaneBorders}
 use Rattle.lanes.specs.Borders.{signOf, widthOf, sideOf, outerAfter, bordersFrom, bordersAt, sideList}
 use Rattle.lanes.proofs.BorderSteps.{outer-none, outer-turn, borders-turn, side-none, side-turn}
@@ -43,14 +44,14 @@ loop-holds c =
       side-none (bordersAt lanes (signOf (a .right)) (a .base) (a .s)) (a .list .now) (a .first),
     )
 
-add-line-width : tie.Need-add-line-width Inv-loop μ-loop
-add-line-width c = omega (arith, c .before .before .side-line .ensures .1)
+add-lane-width : tie.Need-add-lane-width Inv-loop μ-loop
+add-lane-width c = omega (arith, c .before .before .side-line .ensures .1)
 
-cast-line-width : tie.Need-cast-line-width Inv-loop μ-loop
-cast-line-width c = omega (arith, c .before .before .side-line .ensures .1)
+cast-lane-width : tie.Need-cast-lane-width Inv-loop μ-loop
+cast-lane-width c = omega (arith, c .before .before .side-line .ensures .1)
 
-line-width-requires : tie.Need-line-width-requires Inv-loop μ-loop
-line-width-requires c κs = search needs
+lane-width-requires : tie.Need-lane-width-requires Inv-loop μ-loop
+lane-width-requires c κs = search needs
 
 mul-at : tie.Need-mul-at Inv-loop μ-loop
 mul-at c = search needs
@@ -96,8 +97,8 @@ loop-again c =
     let a = begun .args in
     let lanes = sideOf (roadOf (a .words .now) (a .numbers .now)) (a .section) (a .right) in
     let sign = signOf (a .right) in
-    let lane = called .side-line .ensures .0 (a .numbers .now) (at .k) (omega arith) in
-    let made = borders-made _ _ sign (at .inner) (a .s) (begun .pre .1) lane (c .line-width .ensures) in (
+    let lane = line-begun (a .words .now) (a .numbers .now) (a .section) (a .right) (at .k) (called .side-line .ensures .0) (omega arith) in
+    let made = borders-made _ _ sign (at .inner) (a .s) (begun .pre .1) lane (c .lane-width .ensures) in (
       omega arith,
       simp length-set (at .inv .1),
       outer-turn lanes sign (a .base) (a .s) (at .k) (at .inv .2) made,
@@ -122,9 +123,9 @@ write-side-spec =
     μ-loop
     side-line-requires
     loop-holds
-    add-line-width
-    cast-line-width
-    line-width-requires
+    add-lane-width
+    cast-lane-width
+    lane-width-requires
     mul-at
     add-at
     mul-list

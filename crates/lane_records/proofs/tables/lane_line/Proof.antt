@@ -2,7 +2,8 @@
 use Prim.Native.Nat.{_<_, _≤_}
 use native.Mathlib.Omega.{arith}
 use lib.ListN.{getD}
-use Rattle.records.proofs.RoadLaws.{line-small, no-line, no-lane, left-lane-by, right-lane-by, left-none-by, right-none-by}
+use Rattle.records.proofs.RoadLaws.{line-small, no-line}
+use Rattle.lane_records.proofs.LineLaws.{no-lines, left-begins, right-begins, left-lines, right-lines, line-by, none-by}
 use borrow.Author.Needs.{needs}
 use Rattle.lane_records.proofs.tables.lane_line.Statement.{statement}
 use Rattle.lane_records.proofs.tables.lane_line.Tie as tie
@@ -14,7 +15,7 @@ returns : tie.Need-returns
 returns c =
     let a = c .before .before .before .args in
     let h : getD (a .words .now) 5 0 ≤ a .section = omega arith in
-    (λ numbers. no-lane (a .words .now) numbers (a .section) (a .k) (a .right) h, no-line)
+    (none-by (a .words .now) (a .section) (a .right) (a .k) (no-lines (a .words .now) (a .section) (a .right) h) (omega arith), no-line)
 
 mul-word : tie.Need-mul-word
 mul-word c = search needs
@@ -56,14 +57,14 @@ returns-2 c =
     let w = c .before .word4 .ensures in
     let u = c .before .before .before .word3 .ensures in
     let v = c .before .before .before .before .word2 .ensures in
-    (λ numbers. right-lane-by (a .words .now) numbers (a .section) (a .k) h (c .before .before .if2 .taken) (v .0) (u .0) (w .0) (c .if3 .taken), line-small _ (omega arith))
+    (line-by (a .words .now) (a .section) (a .right) (a .k) (right-lines (a .words .now) (a .section) (a .right) h (c .before .before .if2 .taken) (w .0)) (right-begins (a .words .now) (a .section) (a .right) h (c .before .before .if2 .taken) (v .0) (u .0)) (c .if3 .taken), line-small _ (omega arith))
 
 returns-3 : tie.Need-returns-3
 returns-3 c =
     let a = c .before .before .before .before .before .before .before .before .args in
     let h : a .section < getD (a .words .now) 5 0 = omega arith in
     let w = c .before .word4 .ensures in
-    (λ numbers. right-none-by (a .words .now) numbers (a .section) (a .k) h (c .before .before .if2 .taken) (w .0) (c .if3 .left), no-line)
+    (none-by (a .words .now) (a .section) (a .right) (a .k) (right-lines (a .words .now) (a .section) (a .right) h (c .before .before .if2 .taken) (w .0)) (c .if3 .left), no-line)
 
 add-t16 : tie.Need-add-t16
 add-t16 c = search needs
@@ -74,14 +75,14 @@ returns-4 c =
     let h : a .section < getD (a .words .now) 5 0 = omega arith in
     let u = c .before .before .word3 .ensures in
     let v = c .before .before .before .word2 .ensures in
-    (λ numbers. left-lane-by (a .words .now) numbers (a .section) (a .k) h (c .before .if2 .left) (v .0) (u .0) (c .if4 .taken), line-small _ (omega arith))
+    (line-by (a .words .now) (a .section) (a .right) (a .k) (left-lines (a .words .now) (a .section) (a .right) h (c .before .if2 .left) (u .0)) (left-begins (a .words .now) (a .section) (a .right) h (c .before .if2 .left) (v .0)) (c .if4 .taken), line-small _ (omega arith))
 
 returns-5 : tie.Need-returns-5
 returns-5 c =
     let a = c .before .before .before .before .before .before .before .args in
     let h : a .section < getD (a .words .now) 5 0 = omega arith in
     let u = c .before .before .word3 .ensures in
-    (λ numbers. left-none-by (a .words .now) numbers (a .section) (a .k) h (c .before .if2 .left) (u .0) (c .if4 .left), no-line)
+    (none-by (a .words .now) (a .section) (a .right) (a .k) (left-lines (a .words .now) (a .section) (a .right) h (c .before .if2 .left) (u .0)) (c .if4 .left), no-line)
 
 pub lane-line-spec : {M : Type 1} → statement M
 lane-line-spec =

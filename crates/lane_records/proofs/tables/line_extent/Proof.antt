@@ -1,20 +1,11 @@
 -- `line_extent`: the words of the line as they stand; where the words end before the line does, its count is 0.
-use Prim.Native.Nat.{ℕ, _+_, _*_}
+use Prim.Native.Nat.{_+_, _*_}
 use native.Mathlib.Omega.{arith}
-use mathlib.Core.Path.{_≡_, refl, ap}
-use mathlib.Core.List.{List, []}
-use lib.Dec.{eqb}
-use lib.ListN.{getD, List·getD-eq-default}
-use lib.Ieee.{Float}
-use Rattle.lent.specs.Lists.{span}
-use Rattle.cubics.specs.Cubics.{cubicsOf}
-use Rattle.records.specs.Roads.{laneIn}
+use lib.ListN.{List·getD-eq-default}
+use Rattle.lane_records.proofs.LineLaws.{extent-there, extent-cut}
 use borrow.Author.Needs.{needs}
 use Rattle.lane_records.proofs.tables.line_extent.Statement.{statement}
 use Rattle.lane_records.proofs.tables.line_extent.Tie as tie
-
-no-cubics : (numbers : List Float) (start : ℕ) {n : ℕ} → n ≡ 0 → cubicsOf [] ≡ cubicsOf (span numbers start (n * 5))
-no-cubics numbers start e = rw e
 
 mul-at : tie.Need-mul-at
 mul-at c = search needs
@@ -62,16 +53,12 @@ word-requires : tie.Need-word-requires
 word-requires c κs = search needs
 
 returns : tie.Need-returns
-unfolding laneIn
-returns c = (λ numbers. refl, λ numbers. refl)
+returns c = let a = c .before .before .before .before .before .args in rw (← extent-there (a .words .now) (a .line) (c .before .before .before .if1 .taken))
 
 returns-2 : tie.Need-returns-2
-unfolding laneIn
 returns-2 c =
-    let a = c .before .before .before .args in (
-      λ numbers. ap (λ (n : ℕ). eqb n 1) (c .word .ensures .0),
-      λ numbers. no-cubics numbers (1745 + getD (a .words .now) (119 + a .line * 6 + 2) 0 * 5) (List·getD-eq-default (a .words .now) 0 (c .before .if1 .left)),
-    )
+    let a = c .before .before .before .args in
+    rw (c .word .ensures .0, List·getD-eq-default (a .words .now) 0 (c .before .if1 .left), ← extent-cut (a .words .now) (a .line) (c .before .if1 .left))
 
 pub line-extent-spec : {M : Type 1} → statement M
 line-extent-spec =

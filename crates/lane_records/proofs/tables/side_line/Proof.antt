@@ -1,32 +1,11 @@
 -- `side_line`: the left lanes stand from the section's first lane on, the right ones after them; a section that is not there has none.
-use Prim.Native.Nat.{ℕ, _+_, _*_, _<_, _≤_}
+use Prim.Native.Nat.{_<_, _≤_}
 use native.Mathlib.Omega.{arith}
-use mathlib.Core.Path.{_≡_, refl}
-use mathlib.Core.Bool.{Bool, true, false, cond}
-use mathlib.Core.List.{List}
-use lib.ListN.{getD, length}
-use lib.Ieee.{Float}
-use Rattle.records.specs.Roads.{Lane, roadOf, sectionOf, laneOf, laneIn}
-use Rattle.records.proofs.RoadLaws.{section-past, left-count, right-count, left-lane-by, right-lane-by}
+use lib.ListN.{getD}
+use Rattle.lane_records.proofs.LineLaws.{no-side, left-begins, right-begins}
 use borrow.Author.Needs.{needs}
 use Rattle.lane_records.proofs.tables.side_line.Statement.{statement}
 use Rattle.lane_records.proofs.tables.side_line.Tie as tie
-
-module _ (words : List ℕ) (i : ℕ) where
-  abbrev side : List Float → Bool → List Lane
-  side numbers right = cond right (sectionOf (roadOf words numbers) i .right) (sectionOf (roadOf words numbers) i .left)
-
-  none : (numbers : List Float) (right : Bool) → getD words 5 0 ≤ i → length (side numbers right) ≡ 0
-  none numbers true h = rw (section-past words numbers i h)
-  none numbers false h = rw (section-past words numbers i h)
-
-  left-line : (numbers : List Float) (k : ℕ) {r : Bool} {first : ℕ} → i < getD words 5 0 → r ≡ false → first ≡ getD words (71 + i * 3) 0
-      → k < length (side numbers r) → laneOf (roadOf words numbers) i r k ≡ laneIn words numbers (first + k)
-  left-line numbers k h e f l = left-lane-by words numbers i k h e f refl (rw (e, left-count words numbers i h) at l)
-
-  right-line : (numbers : List Float) (k : ℕ) {r : Bool} {first left : ℕ} → i < getD words 5 0 → r ≡ true → first ≡ getD words (71 + i * 3) 0 → left ≡ getD words (72 + i * 3) 0
-      → k < length (side numbers r) → laneOf (roadOf words numbers) i r k ≡ laneIn words numbers (first + left + k)
-  right-line numbers k h e f g l = right-lane-by words numbers i k h e f g refl (rw (e, right-count words numbers i h) at l)
 
 word-requires : tie.Need-word-requires
 word-requires c κs = search needs
@@ -35,7 +14,7 @@ returns : tie.Need-returns
 returns c =
     let a = c .before .before .before .args in
     let h : getD (a .words .now) 5 0 ≤ a .section = omega arith in
-    (λ numbers k l. let e = none (a .words .now) (a .section) numbers (a .right) h in absurd (omega arith), omega arith)
+    (no-side (a .words .now) (a .section) (a .right) h, omega arith)
 
 mul-word : tie.Need-mul-word
 mul-word c = search needs
@@ -64,14 +43,14 @@ returns-2 c =
     let h : a .section < getD (a .words .now) 5 0 = omega arith in
     let v = c .before .before .word2 .ensures in
     let u = c .word3 .ensures in
-    (λ numbers k l. right-line (a .words .now) (a .section) numbers k h (c .before .if2 .taken) (v .0) (u .0) l, omega arith)
+    (right-begins (a .words .now) (a .section) (a .right) h (c .before .if2 .taken) (v .0) (u .0), omega arith)
 
 returns-3 : tie.Need-returns-3
 returns-3 c =
     let a = c .before .before .before .before .before .args in
     let h : a .section < getD (a .words .now) 5 0 = omega arith in
     let v = c .before .word2 .ensures in
-    (λ numbers k l. left-line (a .words .now) (a .section) numbers k h (c .if2 .left) (v .0) l, omega arith)
+    (left-begins (a .words .now) (a .section) (a .right) h (c .if2 .left) (v .0), omega arith)
 
 pub side-line-spec : {M : Type 1} → statement M
 side-line-spec =

@@ -10,8 +10,8 @@ less-requires c κs = search needs
 sample-at-requires : tie.Need-sample-at-requires
 sample-at-requires c κs = search needs
 
-hold-requires : tie.Need-hold-requires
-hold-requires c κs = search needs
+clamp-requires : tie.Need-clamp-requires
+clamp-requires c κs = search needs
 
 leading-at-requires : tie.Need-leading-at-requires
 leading-at-requires c κs = search needs
@@ -42,7 +42,7 @@ returns c =
     spiral-made (a .samples .now) (a .first) (a .n) (a .ds)
     (far .less .ensures)
     (near .before .before .before .sample-at .ensures)
-    (near .before .before .hold .ensures)
+    (near .before .before .clamp .ensures)
     (near .before .leading-at .ensures .0)
     (near .segment-of .ensures)
     (c .before .before .before .sample-at2 .ensures)
@@ -56,7 +56,7 @@ spiral-pose-spec =
     (tie.spec
     less-requires
     sample-at-requires
-    hold-requires
+    clamp-requires
     leading-at-requires
     segment-of-requires
     sample-at-requires-2

@@ -1,6 +1,6 @@
--- `not_below_zero`: by the test.
-use Rattle.lanes.proofs.bordering.not_below_zero.Statement.{statement}
-use Rattle.lanes.proofs.bordering.not_below_zero.Tie as tie
+-- `not_below_zero`: by its test.
+use Rattle.ranges.proofs.sizes.not_below_zero.Statement.{statement}
+use Rattle.ranges.proofs.sizes.not_below_zero.Tie as tie
 
 returns : tie.Need-returns
 returns c = rw (c .if1 .taken)
