@@ -17,10 +17,9 @@ use Rattle.records.proofs.RoadLaws.{strip-past}
 use Rattle.ordering.proofs.OrderLaws.{Ordered, ordered-is}
 use Rattle.structure.proofs.StructureLaws.{structured-is}
 use Rattle.ranges.specs.Ranges.{inRange}
-use Rattle.bounds.specs.Limits.{greatestLength, onRoad, limited}
-use Rattle.limit_laws.proofs.Fitting.{Fits64, Fitting, RoadFits, road-fits}
+use Rattle.bounds.specs.Limits.{greatestLength, limited}
+use Rattle.limit_laws.proofs.Fitting.{Fitting, RoadFits, road-fits}
 use Rattle.limit_laws.proofs.ActiveRecord.{Active, index-active}
-use Rattle.limit_laws.proofs.LimitParts.{and-fst, and-snd, true-T}
 use Rattle.limit_laws.proofs.CubicBounds.{far, up-to-real, up-to-grows}
 use Rattle.limit_laws.proofs.RoadBounds.{OnRoad, InSection, Across, station-within, section-start-in, section-start-within, extent-within, into-section}
 use Rattle.admission.specs.Admission.{admitted}
@@ -57,26 +56,11 @@ admits words numbers fitting ok =
     side l r i false = l i
     side l r i true = r i
 
--- ---- the station, and a t
-
--- row 7
-pub on-road : (road : Road) (s : Float) → Fits64 s → onRoad road s ≡ true → OnRoad road s
-on-road road s f on =
-    record {
-      fits = f;
-      above = true-T (le zero64 s) (and-fst (le zero64 s) (le s (road .length)) on);
-      below = true-T (le s (road .length)) (and-snd (le zero64 s) (le s (road .length)) on);
-    }
-
--- row 8, and the same by the size of t
+-- ---- row 8, by the size of t
 
 eighty-own : Within binary64 eighty eighty
 unfolding ofBits fits le neg
 eighty-own = within-const binary64 eighty eighty tt
-
-pub across-of : (t : Float) → Fits64 t → inRange (neg eighty) eighty t ≡ true → Across t
-across-of t f e =
-    record { fits = f; above = true-T (le (neg eighty) t) (and-fst (le (neg eighty) t) (le t eighty) e); below = true-T (le t eighty) (and-snd (le (neg eighty) t) (le t eighty) e) }
 
 pub across-within : (t : Float) → Within binary64 t eighty → Across t
 across-within t w = let l = le-of-within binary64 t eighty w in record { fits = w .value .fits; above = l .0; below = l .1 }

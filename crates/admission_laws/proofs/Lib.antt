@@ -1,1 +1,2 @@
 pub mod AdmittedRoad
+pub mod LaneSizesKept

@@ -21,6 +21,7 @@ use Rattle.float_laws.proofs.Interval.{nil, nil-real, nil-pl, nil-mi, finite-be
 use Rattle.float_laws.proofs.Size.{Within, within-of-le, le-of-within, mul-within}
 use Rattle.float_laws.proofs.Whole.{Steps, Whole, Nearest, nearest-is, reach-plus, twice-hid, steps-add}
 use Rattle.axis_counts.specs.Count.{nearestAway, nearestWhole, greatestCounted, countsPerMetre, countOf}
+use Rattle.axis_counts.specs.CountSizes.{CountSizes}
 use Rattle.refusals.specs.Answer.{value, refused}
 use Rattle.trigonometry.proofs.FloorLaws.{cut-plus, nearby}
 use Rattle.trigonometry.proofs.FloorCases.{yes, no, hid-whole, real-no-nan}
@@ -358,7 +359,7 @@ module _ (v : Float) (fit : T (fits binary64 v)) (lo : le (neg greatestCounted) 
   product-bound = nearest-bound binary64 (mul binary64 v countsPerMetre) 800000 (product-within .value) (le-trans (product-within .le) (le-of-eq (limit-whole .plus)))
 
 -- a count is at most 800,000 either way
-pub count-bounded : (v : Float) (z : ℤ) → T (fits binary64 v) → countOf v ≡ value z → natAbs z ≤ 800000
+pub count-bounded : CountSizes
 count-bounded v z fit e = go (le (neg greatestCounted) v) refl (le v greatestCounted) refl
   where
     apart : (n : ℕ) → refused n ≡ value z → ⊥

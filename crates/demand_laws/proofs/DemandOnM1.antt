@@ -20,7 +20,8 @@ use Rattle.bounds.specs.Limits.{shapeLimited, geomLimited, sectionExtent, heigh
 use Rattle.admission.specs.Admission.{admitted}
 use Rattle.admission.specs.Samples.{sampledList}
 use Rattle.surface_calls.specs.SurfaceCalls.{surfaceCall}
-use Rattle.demand_laws.specs.Demand.{AllF64, Answers, PointKept, Kept}
+use Rattle.limit_laws.specs.Fractions.{AllF64}
+use Rattle.demand_laws.specs.Demand.{Answers, PointKept, Kept}
 use Rattle.demand_laws.proofs.DemandKept.{demand-3}
 
 abbrev ten : Float

@@ -1,4 +1,2 @@
-pub mod FractionLaws
 pub mod DemandKept
 pub mod DemandOnM1
-pub mod FractionExamples

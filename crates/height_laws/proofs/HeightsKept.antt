@@ -26,7 +26,8 @@ use Rattle.lane_heights.specs.Heights.{heightAfter, heightsAt, acrossAt}
 use Rattle.heights_across.specs.HeightAcross.{heightWithin, heightAcross}
 use Rattle.lanes.proofs.Outward.{Ahead}
 use Rattle.lanes.proofs.BorderLaws.{eighty}
-use Rattle.admission_laws.proofs.AdmittedRoad.{Admits, admits, on-road, across-of, within-across}
+use Rattle.limit_laws.proofs.Places.{on-road, across-of}
+use Rattle.admission_laws.proofs.AdmittedRoad.{Admits, admits, within-across}
 use Rattle.height_laws.proofs.RoadHeights.{shape-kept, cross-kept, toward-kept, own-kept}
 use Rattle.height_laws.proofs.BorderHeights.{border-most, inner-kept, outer-kept, after-kept, border-heights-kept}
 use Rattle.height_laws.proofs.LaneHeights.{LaneKept, across-most, within-most, between-most}

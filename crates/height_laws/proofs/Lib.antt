@@ -4,3 +4,4 @@ pub mod BorderHeights
 pub mod Quotients
 pub mod LaneHeights
 pub mod HeightsKept
+pub mod HeightSizesKept

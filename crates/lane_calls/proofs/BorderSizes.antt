@@ -1,24 +1,25 @@
--- Demand 3 on borders, of the list that the borders call writes, for every admitted road and every s in 0..length: read outward, left borders never fall and right ones never rise, each inner is the outer of the lane before, and none lies beyond 80.
+-- `BorderSizes` holds, demand 3 on borders, of the list that the borders call writes.
 -- Admission's limits give the premises of the lanes layer's laws; those are read off the written list by place.
 use Prim.Native.Nat.{ℕ, suc, _+_, _*_, _/_, _^_, _≤_, _<_}
-use native.Mathlib.Nat.{add-zero, zero-add, le-trans, le-of-eq}
+use native.Mathlib.Nat.{add-zero, zero-add}
 use native.Mathlib.Omega.{arith}
 use mathlib.Core.Path.{_≡_, refl, sym, _∙_, ap, subst}
 use mathlib.Core.Bool.{Bool, true, false, _&&_}
 use mathlib.Core.List.{List}
-use lib.Dec.{leb}
-use lib.Ieee.{Float, nan, binary64, low, le, ofBits}
+use lib.Dec.{leb, lit≤}
+use lib.Ieee.{Float, nan, binary64, low, ofBits}
 use lib.ListN.{length, getD, drop, List·getD-append}
 use borrow.Author.Tests.{le-leb, leb-true}
-use Rattle.float_laws.specs.Binary64.{f64}
-use Rattle.float_laws.proofs.Value.{mag, pl, Real}
+use Rattle.float_laws.proofs.Value.{pl}
 use Rattle.float_laws.proofs.Size.{Within}
 use Rattle.refusals.specs.Answer.{value, checked}
 use Rattle.records.specs.Roads.{Road, roadOf, laneOf, noLane, sectionIndex}
 use Rattle.records.proofs.CubicLaws.{value-at}
 use Rattle.bounds.specs.Limits.{onRoad}
-use Rattle.admission_laws.proofs.AdmittedRoad.{Admits, admits, on-road, section-there, into, in-section}
-use Rattle.limit_laws.proofs.Fitting.{Fits64, Fitting}
+use Rattle.limit_laws.proofs.Places.{on-road}
+use Rattle.admission_laws.proofs.AdmittedRoad.{Admits, admits, section-there, into, in-section}
+use Rattle.limit_laws.specs.Fractions.{IsF64, AllF64, AtMost}
+use Rattle.limit_laws.proofs.FractionLaws.{within-at-most, le-not-over}
 use Rattle.limit_laws.proofs.LimitParts.{and-fst, and-snd}
 use Rattle.limit_laws.proofs.RoadBounds.{OnRoad, offset-within, width-within, border-within}
 use Rattle.admission.specs.Admission.{admitted}
@@ -31,38 +32,23 @@ use Rattle.lanes.proofs.BorderSteps.{three, left-written, right-written, list-l
 use Rattle.lanes.proofs.Outward.{Ahead}
 use Rattle.lanes.proofs.BorderLaws.{eight, thirtySix, eighty, ExtentWithin, inner-is-outer, inner-within, outer-border-within, outer-ahead}
 use Rattle.lane_calls.specs.LaneCalls.{sectionAt, lanesAt, listRows, bordersOf, bordersList}
+use Rattle.lane_calls.specs.BorderSizes.{innerAt, outerAt, Outward, SideKept, BorderSizes}
 use Rattle.lane_calls.proofs.CallLaws.{list-by}
-
--- ---- the statement
-
--- finite, and at most 80 in size, in units of the least f64
-abbrev pub Within80 : Float → Type 0
-Within80 x = Real binary64 x × (mag binary64 x ≤ 80 * 2 ^ low binary64)
-
--- the inner and the outer border of a list's lane
-abbrev pub innerAt : List Float → ℕ → Float
-innerAt list k = getD list (k * 3) nan
-
-abbrev pub outerAt : List Float → ℕ → Float
-outerAt list k = getD list (k * 3 + 1) nan
-
--- the n lanes of a side, the first of which is the list's lane first
-pub record SideKept (list : List Float) (right : Bool) (first n : ℕ) : Type 0 where
-  pub inner-size : (k : ℕ) → k < n → Within80 (innerAt list (first + k))
-  pub outer-size : (k : ℕ) → k < n → Within80 (outerAt list (first + k))
-  pub outward : (k : ℕ) → k < n → Ahead right (innerAt list (first + k)) (outerAt list (first + k))
-  pub joined : (k : ℕ) → suc k < n → innerAt list (first + suc k) ≡ outerAt list (first + k)
 
 -- ---- an admitted road at s
 
-eighty-is : pl binary64 eighty ≡ 80 * 2 ^ low binary64
+eighty-units : pl binary64 eighty ≤ 80 * 2 ^ low binary64
 unfolding ofBits pl
-eighty-is = refl
+eighty-units = lit≤ tt
 
-within-80 : (x : Float) → Within binary64 x eighty → Within80 x
-within-80 x w = (w .value, le-trans (w .le) (le-of-eq eighty-is))
+at-most-80 : (x : Float) → Within binary64 x eighty → AtMost 80 x
+at-most-80 x w = within-at-most x eighty w 80 eighty-units
 
-module _ (words : List ℕ) (numbers : List Float) (fitting : Fitting numbers) (ok : admitted words numbers ≡ true) (s : Float) (fits-s : Fits64 s) (on : onRoad (roadOf words numbers) s ≡ true) where
+outward-of : (right : Bool) (x y : Float) → Within binary64 x eighty → Within binary64 y eighty → Ahead right x y → Outward right x y
+outward-of false x y v w h = le-not-over x y (v .value) (w .value) h
+outward-of true x y v w h = le-not-over y x (w .value) (v .value) h
+
+module _ (words : List ℕ) (numbers : List Float) (fitting : AllF64 numbers) (ok : admitted words numbers ≡ true) (s : Float) (fits-s : IsF64 s) (on : onRoad (roadOf words numbers) s ≡ true) where
   abbrev road : Road
   road = roadOf words numbers
 
@@ -91,15 +77,24 @@ module _ (words : List ℕ) (numbers : List Float) (fitting : Fitting numbers) (
   abbrev lane : Bool → ℕ → LaneBorders
   lane right k = laneBorders road at s right k
 
+  inner-80 : (right : Bool) (k : ℕ) → k < length (sideOf road at right) → Within binary64 (lane right k .inner) eighty
+  inner-80 right k l = inner-within (sideOf road at right) right (baseAt road s) (into road s) (a .few at right) center (extents right) k l
+
+  outer-80 : (right : Bool) (k : ℕ) → k < length (sideOf road at right) → Within binary64 (lane right k .outer) eighty
+  outer-80 right k l = outer-border-within (sideOf road at right) right (baseAt road s) (into road s) (a .few at right) center (extents right) k l
+
+  ahead-80 : (right : Bool) (k : ℕ) → k < length (sideOf road at right) → Ahead right (lane right k .inner) (lane right k .outer)
+  ahead-80 right k l = outer-ahead (sideOf road at right) right (baseAt road s) (into road s) (a .few at right) center (extents right) k l
+
   -- read off a list by place
   side-kept : (list : List Float) (right : Bool) (first : ℕ) → ((k j : ℕ) → k < length (sideOf road at right) → j < 3 → getD list ((first + k) * 3 + j) nan ≡ getD (three (lane right k)) j nan)
       → SideKept list right first (length (sideOf road at right))
   side-kept list right first read =
       record {
-        inner-size = λ k l. subst Within80 (sym (inner-is k l)) (within-80 (lane right k .inner) (inner-within (sideOf road at right) right (baseAt road s) (into road s) (a .few at right) center (extents right) k l));
-        outer-size = λ k l. subst Within80 (sym (outer-is k l)) (within-80 (lane right k .outer) (outer-border-within (sideOf road at right) right (baseAt road s) (into road s) (a .few at right) center (extents right) k l));
-        outward = λ k l. subst (λ (x : Float). Ahead right x (outerAt list (first + k))) (sym (inner-is k l))
-            (subst (λ (y : Float). Ahead right (lane right k .inner) y) (sym (outer-is k l)) (outer-ahead (sideOf road at right) right (baseAt road s) (into road s) (a .few at right) center (extents right) k l));
+        inner-size = λ k l. subst (AtMost 80) (sym (inner-is k l)) (at-most-80 (lane right k .inner) (inner-80 right k l));
+        outer-size = λ k l. subst (AtMost 80) (sym (outer-is k l)) (at-most-80 (lane right k .outer) (outer-80 right k l));
+        outward = λ k l. subst (λ (x : Float). Outward right x (outerAt list (first + k))) (sym (inner-is k l))
+            (subst (λ (y : Float). Outward right (lane right k .inner) y) (sym (outer-is k l)) (outward-of right (lane right k .inner) (lane right k .outer) (inner-80 right k l) (outer-80 right k l) (ahead-80 right k l)));
         joined = λ k l. inner-is (suc k) l ∙ inner-is-outer (sideOf road at right) (signOf right) (baseAt road s) (into road s) k ∙ sym (outer-is k (let m = l in omega arith));
       }
     where
@@ -171,12 +166,15 @@ module _ (words : List ℕ) (numbers : List Float) (s : Float) where
     pub answered-list : bordersList words numbers s xs ≡ listedBy true (roadOf words numbers) (sectionAt words numbers s) s xs
     answered-list = sym (list-by words numbers s xs (sym e) refl)
 
-    -- demand 3 on borders: of the left lanes, then of the right ones, in the list as the call leaves it; numbers and s are f64
-    pub borders-kept : Fitting numbers → Fits64 s
-        → SideKept (bordersList words numbers s xs) false 0 (length (sideOf (roadOf words numbers) (sectionAt words numbers s) false))
-        × SideKept (bordersList words numbers s xs) true (length (sideOf (roadOf words numbers) (sectionAt words numbers s) false)) (length (sideOf (roadOf words numbers) (sectionAt words numbers s) true))
-    borders-kept fitting fits-s =
-        let i = sectionAt words numbers s in
-        let left = length (sideOf (roadOf words numbers) i false) in
-        subst (λ (list : List Float). SideKept list false 0 left × SideKept list true left (length (sideOf (roadOf words numbers) i true))) (sym answered-list)
-        (both-kept words numbers fitting answered-admitted s fits-s answered-on xs)
+pub border-sizes : BorderSizes
+border-sizes words numbers fitting ok s f on list room =
+    let road = roadOf words numbers in
+    let i = sectionAt words numbers s in
+    let listed = borders-answered words numbers s (length list) ok on room in
+    let w = sym (answered-list words numbers s list (lanesAt words numbers s) listed) in
+    let k = both-kept words numbers fitting ok s f on list in
+    record {
+      answer = listed;
+      side = λ (right : Bool).
+          elim right [ false ↦ subst (λ (l : List Float). SideKept l false 0 (length (sideOf road i false))) w (k .0) | true ↦ subst (λ (l : List Float). SideKept l true (length (sideOf road i false)) (length (sideOf road i true))) w (k .1) ];
+    }

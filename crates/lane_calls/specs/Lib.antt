@@ -1,1 +1,2 @@
 pub mod LaneCalls
+pub mod BorderSizes

@@ -68,9 +68,9 @@ height-within hs s w ki ko ws = (
   border-within hs s outerOf (λ (p : Pair). p .outer) (λ h. refl) (λ a b. refl) refl w ko ws,
 )
 
--- a lane's heights are limited to 2; 2.00001
+-- a lane's heights are limited to 2; the f64 below 2.00001
 abbrev pub two-wide : Float
-two-wide = f64 0x4000_0005_3e2d_6239
+two-wide = f64 0x4000_0005_3e2d_6238
 
 pub wider-two : Wider greatestLaneHeight two-wide 1075
 unfolding ofBits fits mi pl div
@@ -106,9 +106,9 @@ shape-within road s t {A} {B} {j} w k ws =
     subst (λ (x : Float). Within binary64 x B) (shape-along road s t (lastStart (λ (i : ℕ). profileAt road i .s) (activeUpTo s) (length (road .profiles))))
     (along-within (λ (i : ℕ). profileAt road i .s) (λ (i : ℕ). profileHeight road i t) (length (road .profiles)) s far A B j starts-far w k ws)
 
--- a shape is limited to 40; 40.001
+-- a shape is limited to 40; an f64 below 40.001
 abbrev pub forty-wide : Float
-forty-wide = f64 0x4044_0020_c49b_a5e3
+forty-wide = f64 0x4044_0020_c49b_a5e2
 
 pub wider-forty : Wider greatestShape forty-wide 1080
 unfolding ofBits fits mi pl div
@@ -127,9 +127,9 @@ pub toward-within :
 unfolding heightToward
 toward-within road s t toward B C v w f = add-within binary64 (shapeOf road s t) (crossHeight road s t toward) B C v w f
 
--- 40.001 and 2 × 40
+-- that and 2 × 40, the f64 below 120.001
 abbrev pub height-most : Float
-height-most = f64 0x405e_0010_624d_d2f2
+height-most = f64 0x405e_0010_624d_d2f1
 
 -- profiles within 40 at t, strips within 40 as far out as 88, and t within 88 of the ridge: the height is within 120.001
 pub toward-most :

@@ -5,3 +5,4 @@ pub mod SampleBounds
 pub mod SampleRise
 pub mod PoseBounds
 pub mod Admitted
+pub mod RoadSizesKept
