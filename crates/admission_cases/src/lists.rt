@@ -19,6 +19,8 @@ use case_lines::Line;
 use case_lines::line_at;
 use libc::STDIN_FILENO;
 use libc::STDOUT_FILENO;
+use records::layout::NUMBERS_NEEDED;
+use records::layout::WORDS_NEEDED;
 
 pub(crate) struct State {
     // how many words, numbers and numbers for samples are lent
@@ -67,8 +69,8 @@ fn show(line: Line, got: u64) {
 // Counts a case. The next one lends all.
 fn judged(line: Line, got: u64, state: State) -> State {
     let mut r = state;
-    r.words = 1347;
-    r.numbers = 7937;
+    r.words = WORDS_NEEDED as u64;
+    r.numbers = NUMBERS_NEEDED as u64;
     r.samples = 8004;
     r.cases = std::num::wrapping_add_u64(state.cases, 1);
     if got != line.b {
@@ -149,8 +151,8 @@ pub(crate) fn run() -> State {
     let mut words = word_space();
     let mut numbers = number_space();
     let start = State {
-        words: 1347,
-        numbers: 7937,
+        words: WORDS_NEEDED as u64,
+        numbers: NUMBERS_NEEDED as u64,
         samples: 8004,
         cases: 0,
         differ: 0,

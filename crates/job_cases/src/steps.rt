@@ -18,6 +18,8 @@ use case_texts::append;
 use case_texts::extend;
 use libc::STDIN_FILENO;
 use libc::STDOUT_FILENO;
+use records::layout::NUMBERS_NEEDED;
+use records::layout::WORDS_NEEDED;
 
 pub(crate) struct State {
     // how many bytes the text and the base have
@@ -90,8 +92,8 @@ fn tried(line: Line, text: &[u8], state: State) -> State {
     );
     let mut r = state;
     r.text = 0;
-    r.words = 1347;
-    r.numbers = 7937;
+    r.words = WORDS_NEEDED;
+    r.numbers = NUMBERS_NEEDED;
     r.cases = std::num::wrapping_add_u64(state.cases, 1);
     r
 }
@@ -163,8 +165,8 @@ pub(crate) fn run() -> State {
     let start = State {
         text: 0,
         base: 0,
-        words: 1347,
-        numbers: 7937,
+        words: WORDS_NEEDED,
+        numbers: NUMBERS_NEEDED,
         cases: 0,
         broken: 0,
     };

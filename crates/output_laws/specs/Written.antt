@@ -1,16 +1,18 @@
 -- Document 01, "The program `surface`", of an accepted job, by its text alone and with no word on memory: what is written, and demand 3 on the points. Read the two statements, `WrittenSays` and `WrittenKept`, at the end.
--- Words from below: `outputOf`, the bytes that the program writes (surface_output, Output); `rowsOf text 14`, the lines of want, and `roadSaid (rowsOf text)`, the road that a text says (reading_laws, Rows; text_laws, Said); `onRoad`, s in 0..length, and `acrossRoad`, t in -80..80 (bounds, places); `narrowedPoint (surfaceAt ..)`, the f32 point of `surface` (surface_points, Surfaces); `SizedPoint`, finite, x and y at most 2,000,000 in size, z at most 20,000 (surface_laws, Sizes).
+-- Words from below: `outputOf`, the bytes that the program writes (surface_output, Output); `rowsOf text wantTable`, the lines of want, and `roadSaid (rowsOf text)`, the road that a text says (reading_laws, Rows; text_laws, Said); `onRoad`, s in 0..length, and `acrossRoad`, t in -80..80 (bounds, places); `narrowedPoint (surfaceAt ..)`, the f32 point of `surface` (surface_points, Surfaces); `SizedPoint`, finite, x and y at most 2,000,000 in size, z at most 20,000 (surface_laws, Sizes).
 use Prim.Native.Nat.{ℕ}
 use mathlib.Core.Path.{_≡_}
 use mathlib.Core.Bool.{true, cond}
 use mathlib.Core.List.{List, [], _∷_, _++_}
 use Rattle.float_laws.specs.Binary64.{f64}
 use Rattle.refusals.specs.Answer.{value}
+use Rattle.records.specs.Layout.{numbersNeeded, wordsNeeded, wantsNeeded}
 use Rattle.records.specs.Roads.{Road}
 use Rattle.records.specs.declared.points.Point.{Point}
 use Rattle.spirals.specs.Spiral.{samplesOf}
 use Rattle.bounds.specs.Limits.{onRoad}
 use Rattle.places.specs.Places.{acrossRoad}
+use Rattle.schema.specs.Tables.{wantTable}
 use Rattle.rows.specs.Columns.{cellOf}
 use Rattle.rows.specs.declared.columns.Cells.{Cells}
 use Rattle.surface_points.specs.Surfaces.{narrowedPoint, surfaceAt}
@@ -25,7 +27,7 @@ use Rattle.surface_output.specs.Output.{outputOf}
 -- a text that reading accepts, into memory as long as the program has it, with so many wants
 pub record Job (text : List ℕ) : Type 0 where
   pub count : ℕ
-  pub accepted : verdictOf (readingOf text 1347 7937 32) ≡ value count
+  pub accepted : verdictOf (readingOf text wordsNeeded numbersNeeded wantsNeeded) ≡ value count
 
 module _ (road : Road) where
   -- the point of `surface` at s and t, by their patterns, with the samples made from the road
@@ -47,7 +49,7 @@ module _ (road : Road) where
 
 -- "names `s t x y z`, then a line per want"
 abbrev pub WrittenSays : Type 0
-WrittenSays = (text : List ℕ) → Job text → outputOf text ≡ namesLine ++ linesSaid (roadSaid (rowsOf text)) (rowsOf text 14)
+WrittenSays = (text : List ℕ) → Job text → outputOf text ≡ namesLine ++ linesSaid (roadSaid (rowsOf text)) (rowsOf text wantTable)
 
 -- of every point that is written: so no NaN and no infinity ever is
 abbrev pub WrittenKept : Type 0

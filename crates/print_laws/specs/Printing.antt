@@ -6,7 +6,9 @@ use mathlib.Core.Bool.{cond}
 use mathlib.Core.List.{List, [], _∷_, _++_, map}
 use lib.ListN.{getD}
 use lib.Dec.{eqb, ltb}
-use Rattle.schema.specs.Schema.{Table, tables, lists, countOf, kindOf}
+use Rattle.schema.specs.Tables.{roadTable, tableCount}
+use Rattle.schema.specs.Schema.{anF64, aWhole, kindBy, Table, tables, lists, countOf, kindOf}
+use Rattle.cells.specs.Cells.{wholeBias}
 use Rattle.rows.specs.Columns.{cellOf}
 use Rattle.rows.specs.declared.columns.Cells.{Cells}
 use Rattle.surface_output.specs.Digits.{bytesOf, hexOf}
@@ -17,7 +19,7 @@ lineOf [] = 10 ∷ []
 lineOf (w ∷ []) = w ++ (10 ∷ [])
 lineOf (w ∷ (v ∷ ws)) = w ++ (32 ∷ lineOf (v ∷ ws))
 
--- the words of a list of the schema: of lists 0 to 14 the columns of that table, of 15 to 19 a column's listed words
+-- the words of a list of the schema: a table's columns by the table's number, a column's listed words by its kind
 unfoldable pub wordsOf : ℕ → List (List ℕ)
 wordsOf list = map (λ (s : String). bytesOf s) (getD lists list [])
 
@@ -34,13 +36,13 @@ unfoldable pub decimalsOf : ℕ → ℕ → List ℕ
 decimalsOf zero n = []
 decimalsOf (suc k) n = cond (ltb n 10) ((48 + n) ∷ []) (decimalsOf k (n / 10) ++ ((48 + n % 10) ∷ []))
 
--- "`-` if negative": the cell is 10,000 more than the number
+-- "`-` if negative": the cell is wholeBias more than the number
 unfoldable pub wholeOf : ℕ → List ℕ
-wholeOf cell = cond (ltb cell 10000) (45 ∷ decimalsOf 4 (10000 - cell)) (decimalsOf 4 (cell - 10000))
+wholeOf cell = cond (ltb cell wholeBias) (45 ∷ decimalsOf 4 (wholeBias - cell)) (decimalsOf 4 (cell - wholeBias))
 
 -- a cell by its column's kind: "An f64 is its 16 lowercase hexadecimal digits", a whole number, else the word of that list at that place
 unfoldable pub wordOf : ℕ → ℕ → List ℕ
-wordOf kind cell = cond (eqb kind 0) (hexOf 16 cell) (cond (eqb kind 1) (wholeOf cell) (getD (wordsOf kind) cell []))
+wordOf kind cell = cond (eqb kind (kindBy anF64)) (hexOf 16 cell) (cond (eqb kind (kindBy aWhole)) (wholeOf cell) (getD (wordsOf kind) cell []))
 
 -- "lines of values in that order": the words of n columns, from column i on
 unfoldable pub valuesFrom : ℕ → ℕ → ℕ → Cells → List (List ℕ)
@@ -65,4 +67,4 @@ tablesOf (suc n) table T = tableOf table (T table) ++ tablesOf n (table + 1) T
 
 -- the text of the lines of the fifteen tables
 unfoldable pub printed : (ℕ → List Cells) → List ℕ
-printed T = tablesOf 15 0 T
+printed T = tablesOf tableCount roadTable T

@@ -1,6 +1,9 @@
 // The road in memory, the slice that calls write into, and the text of the list.
+use records::layout::NUMBERS_NEEDED;
+use records::layout::WORDS_NEEDED;
 ghost use mathlib.Core.Path.{_≡_};
 ghost use lib.ListN.{length};
+ghost use Rattle.records.specs.Layout.{numbersNeeded, wordsNeeded};
 
 // Puts a word at a place of the road; false where there is no such place or the value is no word.
 pub(crate) fn put_word(words: &mut [u16], place: u64, value: u64) -> bool {
@@ -23,16 +26,16 @@ pub(crate) fn put_number(numbers: &mut [f64], place: u64, bits: u64) -> bool {
     true
 }
 
-pub(crate) fn word_space() -> [u16; 1347]
-    ensures { λ r. ⌜ 1347 ≡ length r ⌝ }
+pub(crate) fn word_space() -> [u16; WORDS_NEEDED]
+    ensures { λ r. ⌜ wordsNeeded ≡ length r ⌝ }
 {
-    [0; 1347]
+    [0; WORDS_NEEDED]
 }
 
-pub(crate) fn number_space() -> [f64; 7937]
-    ensures { λ r. ⌜ 7937 ≡ length r ⌝ }
+pub(crate) fn number_space() -> [f64; NUMBERS_NEEDED]
+    ensures { λ r. ⌜ numbersNeeded ≡ length r ⌝ }
 {
-    [0.0; 7937]
+    [0.0; NUMBERS_NEEDED]
 }
 
 pub(crate) fn lent_space() -> [f64; 8000]
