@@ -6,19 +6,12 @@ use mathlib.Core.Bool.{cond}
 use mathlib.Core.List.{List}
 use lib.ListN.{getD}
 use lib.Dec.{leb, ltb, eqb}
+pub use Rattle.hexadecimal.specs.Hex.{byteAt}
+unfoldable pub use Rattle.hexadecimal.specs.Hex.{digitOf}
 use Rattle.schema.specs.Schema.{anF64, aWhole, kindBy, countOf, placeOf}
 use Rattle.cells.specs.declared.names.Span.{Span}
 use Rattle.cells.specs.declared.values.Cell.{Cell}
 use Rattle.cells.specs.declared.values.Cell.the-variants.{Value, Broken}
-
--- the text past its end has the byte 0, which is no digit, no space and no LF
-abbrev pub byteAt : List ℕ → ℕ → ℕ
-byteAt text i = getD text i 0
-
--- the value of a digit, 0-9 or a-f; 16 for any other byte
-unfoldable pub digitOf : ℕ → ℕ
-digitOf b =
-    cond (ltb b 48) 16 (cond (leb b 57) (b - 48) (cond (ltb b 97) 16 (cond (leb b 102) (b - 87) 16)))
 
 -- a value, and the place after it
 abbrev pub span : ℕ → ℕ → Span

@@ -1,11 +1,8 @@
 // Cells of the job text.
-mod bytes;
 mod names;
 mod sixteen;
 mod values;
 
-pub use bytes::byte_at;
-pub use bytes::of_bits;
 pub use names::Span;
 pub use names::name_at;
 pub use values::Cell;

@@ -1,5 +1,5 @@
 // A word of the text as one number.
-use crate::bytes::byte_at;
+use hexadecimal::byte_at;
 ghost use mathlib.Core.Path.{_≡_};
 ghost use Rattle.cells.specs.Cells.{nameAt};
 

@@ -3,7 +3,7 @@ ghost use mathlib.Core.Path.{_≡_};
 ghost use Prim.Native.Nat.{ℕ, _+_, _<_, _≤_};
 ghost use lib.ListN.{length, getD};
 ghost use Rattle.cells.specs.Cells.{byteAt, digitOf};
-use crate::bytes::digit;
+use hexadecimal::digit;
 
 pub struct Digits {
     pub of: [u8; 16],

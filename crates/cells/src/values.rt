@@ -1,9 +1,9 @@
 // The cells of a line: an f64, a whole number, one of a list's words.
-use crate::bytes::byte_at;
-use crate::bytes::digit;
 use crate::names::Span;
 use crate::names::name_at;
 use crate::sixteen::digits_at;
+use hexadecimal::byte_at;
+use hexadecimal::digit;
 use schema::count_of;
 use schema::place_of;
 use schema::tables::NUMBER;

@@ -12,6 +12,7 @@ unfoldable pub digitOf : ℕ → ℕ
 digitOf b =
     cond (ltb b 48) 16 (cond (leb b 57) (b - 48) (cond (ltb b 97) 16 (cond (leb b 102) (b - 87) 16)))
 
+-- a text past its end has the byte 0, which is no digit, no space and no LF
 abbrev pub byteAt : List ℕ → ℕ → ℕ
 byteAt text i = getD text i 0
 

@@ -1,31 +1,13 @@
 // Sixteen hexadecimal digits as a number.
+use crate::bytes::digit;
 ghost use mathlib.Core.Path.{_≡_};
 ghost use Prim.Native.Nat.{_+_, _<_};
 ghost use lib.ListN.{length};
-ghost use Rattle.hexadecimal.specs.Hex.{digitOf, wordWithin, wordAt};
+ghost use Rattle.hexadecimal.specs.Hex.{wordWithin, wordAt};
 
 pub enum Word {
     Number(u64),
     Broken,
-}
-
-// The value of a digit, 0-9 or a-f; 16 for any other byte.
-fn digit(b: u8) -> u64
-    ensures { λ r. ⌜ r ≡ digitOf b ⌝ }
-{
-    if b < 48 {
-        return 16;
-    }
-    if b <= 57 {
-        return (b - 48) as u64;
-    }
-    if b < 97 {
-        return 16;
-    }
-    if b <= 102 {
-        return (b - 87) as u64;
-    }
-    16
 }
 
 // The number at a place, with the byte `stop` after it.
@@ -40,7 +22,7 @@ fn word_within(text: &[u8], at: usize, stop: u8) -> Word
         if 16 <= d {
             return Word::Broken;
         }
-        bits = bits * 16 + d;
+        bits = bits * 16 + d as u64;
         n += 1;
     }
     if text[at + 16] == stop {

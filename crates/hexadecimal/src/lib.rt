@@ -1,7 +1,10 @@
-// Numbers written as sixteen lowercase hexadecimal digits, and an f64 by such a pattern.
+// Bytes of a text and hexadecimal digits in lower case, numbers written as sixteen of them, and an f64 by such a pattern.
+mod bytes;
 mod digits;
 mod patterns;
 
+pub use bytes::byte_at;
+pub use bytes::digit;
 pub use digits::Word;
 pub use digits::word_at;
 pub use patterns::bits_of;

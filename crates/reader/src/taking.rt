@@ -49,7 +49,7 @@ fn lines(
     let mut at = from;
     let mut k: u16 = 0;
     loop {
-        if cells::byte_at(text, at) == 10 {
+        if hexadecimal::byte_at(text, at) == 10 {
             let ended = store::end_table(words, table, k, track);
             return Taken {
                 number: 0,

@@ -39,7 +39,7 @@ fn no_head() -> Head
 fn column_at(text: &[u8], at: usize, table: usize) -> Named
     ensures { λ r. ⌜ (r ≡ columnAt (now (text .entry)) at table) × (r .column < 256) ⌝ }
 {
-    if cells::byte_at(text, at) != 32 {
+    if hexadecimal::byte_at(text, at) != 32 {
         return Named {
             column: NO_COLUMN,
             next: at,
@@ -73,7 +73,7 @@ pub fn head_at(text: &[u8], at: usize, table: usize) -> Head
         p = named.next;
         i += 1;
     }
-    if cells::byte_at(text, p) == 10 {
+    if hexadecimal::byte_at(text, p) == 10 {
         Head {
             good: true,
             next: p + 1,

@@ -49,7 +49,7 @@ pub fn row_at(text: &[u8], at: usize, table: usize, order: Order) -> Row
             return no_row();
         };
         i += 1;
-        if cells::byte_at(text, q) != stop_of(i, n) {
+        if hexadecimal::byte_at(text, q) != stop_of(i, n) {
             return no_row();
         }
         // in place: a function of all cells would copy them for each one

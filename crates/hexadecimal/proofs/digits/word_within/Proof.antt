@@ -37,6 +37,9 @@ mul-bits c =
     let here = c .before .before .before .before .loop in
     record { fits = omega (arith, more-fits (here .n) (here .bits) 0 (omega arith) (here .inv .1) (omega arith)) }
 
+cast-bits : tie.Need-cast-bits Inv-loop μ-loop
+cast-bits c = search needs
+
 add-bits : tie.Need-add-bits Inv-loop μ-loop
 add-bits c =
     let here = c .before .before .before .before .loop in
@@ -89,6 +92,7 @@ word-within-spec =
     digit-requires
     returns
     mul-bits
+    cast-bits
     add-bits
     add-n
     loop-less

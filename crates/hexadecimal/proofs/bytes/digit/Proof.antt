@@ -5,10 +5,10 @@ use mathlib.Core.Bool.{Bool, true, false, _&&_}
 use native.Mathlib.Omega.{arith}
 use borrow.Author.Tests.{lt-ltb, le-ltb, le-leb, lt-leb, ltb-false, leb-true, leb-false}
 use lib.Dec.{ltb, leb}
-use Rattle.cells.specs.Cells.{digitOf}
+use Rattle.hexadecimal.specs.Hex.{digitOf}
 use borrow.Author.Needs.{needs}
-use Rattle.cells.proofs.bytes.digit.Statement.{statement}
-use Rattle.cells.proofs.bytes.digit.Tie as tie
+use Rattle.hexadecimal.proofs.bytes.digit.Statement.{statement}
+use Rattle.hexadecimal.proofs.bytes.digit.Tie as tie
 
 left : (a b : Bool) → a && b ≡ true → a ≡ true
 left true b e = refl

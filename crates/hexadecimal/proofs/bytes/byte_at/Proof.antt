@@ -3,8 +3,8 @@ use mathlib.Core.Path.{sym}
 use Prim.Native.Nat.{_-_}
 use lib.ListN.{List·getD-eq-default}
 use borrow.Author.Needs.{needs}
-use Rattle.cells.proofs.bytes.byte_at.Statement.{statement}
-use Rattle.cells.proofs.bytes.byte_at.Tie as tie
+use Rattle.hexadecimal.proofs.bytes.byte_at.Statement.{statement}
+use Rattle.hexadecimal.proofs.bytes.byte_at.Tie as tie
 
 shared-slice-read-result : tie.Need-shared-slice-read-result
 shared-slice-read-result c = search needs
