@@ -6,6 +6,7 @@ use case_lines::Line;
 use case_lines::line_at;
 use libc::STDIN_FILENO;
 use libc::STDOUT_FILENO;
+use surface_output::OUTPUT_NEEDED;
 
 pub(crate) struct State {
     // how many jobs there were, and lines that break the form
@@ -22,7 +23,7 @@ fn next_line() -> Line {
 }
 
 fn show(number: u64, text: &[u8]) {
-    let mut out = [0; 986];
+    let mut out = [0; OUTPUT_NEEDED];
     let n = surface_output::answer(text, &mut out);
     io::write_all(STDOUT_FILENO, b"job ");
     io::print_decimal(STDOUT_FILENO, number);
