@@ -14,7 +14,7 @@ use Rattle.bounds.specs.Limits.{onRoad}
 use Rattle.places.specs.Places.{acrossRoad}
 use Rattle.limit_laws.specs.Fractions.{IsF64, AllF64, AtMost, AtMostPart, Between}
 use Rattle.admission.specs.Admission.{admitted}
-use Rattle.lateral.specs.declared.heights.Pair.{Pair}
+use Rattle.lateral.specs.declared.pairs.Pair.{Pair}
 use Rattle.lateral.specs.Lateral.{shapeOf, crossHeight, heightToward, heightOf}
 use Rattle.lanes.specs.Borders.{sideOf}
 use Rattle.lane_heights.specs.declared.across.Across.{Across}

@@ -23,11 +23,12 @@ use Rattle.limit_laws.proofs.Fitting.{RoadFits, ShapeFits, road-fits}
 use Rattle.limit_laws.proofs.Places.{on-road, across-of}
 use Rattle.limit_laws.proofs.RoadBounds.{OnRoad, Across, length-within, elevation-within, grade-within, superelevation-within, offset-within, tshift-within, shape-within, strip-width-within}
 use Rattle.admission.specs.Admission.{admitted}
-use Rattle.admission.proofs.AdmissionLaws.{admitted-limited, admitted-samples, samples-written}
+use Rattle.admission.proofs.AdmissionLaws.{admitted-limited, admitted-samples}
+use Rattle.admission.proofs.SampleCalls.{samples-written}
 use Rattle.spirals.specs.declared.line.Sample.{Sample}
 use Rattle.spirals.specs.declared.line.Pose.{Pose}
-use Rattle.spirals.specs.Spiral.{sampleCount, samplesBefore, samplesNeeded, samplesOf}
-use Rattle.spirals.specs.Poses.{sampleAt, poseOf}
+use Rattle.spirals.specs.Spiral.{sampleCount, samplesBefore, samplesNeeded, samplesOf, sampleAt}
+use Rattle.spirals.specs.Poses.{poseOf}
 use Rattle.spirals.proofs.SpiralLaws.{count-arc, count-line}
 use Rattle.road_laws.specs.RoadSizes.{AlongKept, SampleKept, SamplesKept, PoseKept, RoadKept, RoadSizes}
 use Rattle.road_laws.proofs.Geometry.{PoseWithin}

@@ -14,8 +14,8 @@ use Rattle.places.specs.Places.{acrossRoad}
 use Rattle.limit_laws.specs.Fractions.{IsF64, AllF64, AtMost, AtMostPart, below, Under}
 use Rattle.spirals.specs.declared.line.Sample.{Sample}
 use Rattle.spirals.specs.declared.line.Pose.{Pose}
-use Rattle.spirals.specs.Spiral.{sampleCount, samplesBefore, samplesNeeded}
-use Rattle.spirals.specs.Poses.{sampleAt, poseOf}
+use Rattle.spirals.specs.Spiral.{sampleCount, samplesBefore, samplesNeeded, sampleAt}
+use Rattle.spirals.specs.Poses.{poseOf}
 use Rattle.admission.specs.Admission.{admitted}
 use Rattle.admission.specs.Samples.{sampledList}
 
