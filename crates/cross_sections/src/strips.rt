@@ -16,6 +16,9 @@ ghost use Rattle.records.specs.Active.{activeIn, valueIn};
 ghost use Rattle.records.specs.Roads.{roadOf, stripAt, StripDef, present, columnOf};
 ghost use Rattle.lateral.specs.Lateral.{stripHeight, pastWidth, byWidth, bySide, isLeft, isPresent, crossHeight};
 
+// Nearer the ridge than this the side is the one that toward points to.
+const RIDGE_MARGIN: f64 = 1e-9;
+
 pub(crate) fn is_present(words: &[u16], numbers: &[f64], i: usize) -> bool
     ensures { λ r. ⌜ r ≡ isPresent (stripAt (roadOf (now (words .entry)) (now (numbers .entry))) i) ⌝ }
 {
@@ -103,7 +106,7 @@ fn side_height(words: &[u16], numbers: &[f64], inner: usize, s: f64, t: f64, sig
 fn is_left(t: f64, toward: f64) -> bool
     ensures { λ r. ⌜ r ≡ isLeft t toward ⌝ }
 {
-    if abs(t) < 1e-9 { 0.0 < toward } else { 0.0 < t }
+    if abs(t) < RIDGE_MARGIN { 0.0 < toward } else { 0.0 < t }
 }
 
 // The cross section's height at s and t; 0 on a side with no strip.

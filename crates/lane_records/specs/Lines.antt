@@ -6,7 +6,7 @@ use lib.ListN.{length, getD}
 use lib.Dec.{eqb, ltb}
 use Rattle.records.specs.declared.points.Found.{Found}
 use Rattle.records.specs.declared.points.Found.the-variants.{At, Nothing}
-use Rattle.records.specs.Layout.{sectionWords, sectionStride, laneWords, laneStride, extentBase, cubicStride}
+use Rattle.records.specs.Layout.{sectionCountAt, sectionWords, sectionStride, laneWords, laneStride, extentBase, cubicStride}
 use Rattle.lane_records.specs.declared.tables.LaneExtent.{LaneExtent}
 
 module _ (words : List ℕ) where
@@ -14,13 +14,13 @@ module _ (words : List ℕ) where
   abbrev pub sideLine : ℕ → Bool → ℕ
   sideLine i right =
       let k = sectionWords + i * sectionStride in
-      cond (ltb i (getD words 5 0)) (cond right (getD words k 0 + getD words (k + 1) 0) (getD words k 0)) 0
+      cond (ltb i (getD words sectionCountAt 0)) (cond right (getD words k 0 + getD words (k + 1) 0) (getD words k 0)) 0
 
   -- how many lines a side has
   abbrev pub sideLines : ℕ → Bool → ℕ
   sideLines i right =
       let k = sectionWords + i * sectionStride in
-      cond (ltb i (getD words 5 0)) (cond right (getD words (k + 2) 0) (getD words (k + 1) 0)) 0
+      cond (ltb i (getD words sectionCountAt 0)) (cond right (getD words (k + 2) 0) (getD words (k + 1) 0)) 0
 
   -- the line of a side's k-th lane, none past its last
   abbrev pub lineOf : ℕ → Bool → ℕ → Found
