@@ -106,7 +106,11 @@ fn side_height(words: &[u16], numbers: &[f64], inner: usize, s: f64, t: f64, sig
 fn is_left(t: f64, toward: f64) -> bool
     ensures { λ r. ⌜ r ≡ isLeft t toward ⌝ }
 {
-    if abs(t) < RIDGE_MARGIN { 0.0 < toward } else { 0.0 < t }
+    if abs(t) < RIDGE_MARGIN {
+        0.0 < toward
+    } else {
+        0.0 < t
+    }
 }
 
 // The cross section's height at s and t; 0 on a side with no strip.
