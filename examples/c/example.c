@@ -2,8 +2,8 @@
  * axis counts. Then a road with two lanes, read from a job text: its borders, the lanes named at its want and at other offsets, and a
  * lane's surface. It begins with a test of the floating-point environment.
  *
- *     rt staticlib exports
- *     gcc -Iinclude examples/c/example.c target/staticlib/libexports.a -o example && ./example
+ *     rt staticlib riftkettle
+ *     gcc -Iinclude examples/c/example.c target/staticlib/libriftkettle.a -o example && ./example
  *
  * It writes what examples/c/stdout holds. */
 #include <inttypes.h>

@@ -1,4 +1,4 @@
-// Writes the list of questions that the program `road_cases` asks, and what the published Rust answers. One command makes both
+// Writes the list of questions that the program `test_roads` asks, and what the published Rust answers. One command makes both
 // files anew, the same at every run:
 //
 //     tools/answers/run.sh

@@ -1,5 +1,5 @@
 #!/usr/bin/env bash
-# Makes crates/road_cases/stdin and stdout anew: questions, and what the published Rust answers. One command, from any folder:
+# Makes crates/test_roads/stdin and stdout anew: questions, and what the published Rust answers. One command, from any folder:
 #
 #     tools/answers/run.sh [--source DIR]
 #
@@ -20,4 +20,4 @@ done
 published "$source"
 library
 rustc "${RUST[@]}" --crate-name answers -o "$build/answers" tools/answers/main.rs "${USES[@]}"
-"$build/answers" crates/road_cases/stdin crates/road_cases/stdout
+"$build/answers" crates/test_roads/stdin crates/test_roads/stdout

@@ -1,7 +1,7 @@
-// Writes the list of cases that the program `admission_cases` runs, and the summary that it must print.
+// Writes the list of cases that the program `test_admission` runs, and the summary that it must print.
 //
 //     rustc --edition 2024 -O -o /tmp/make_cases tools/cases/main.rs
-//     /tmp/make_cases > crates/admission_cases/stdin 2> crates/admission_cases/stdout
+//     /tmp/make_cases > crates/test_admission/stdin 2> crates/test_admission/stdout
 //
 // The list is the same at every run. A line is 36 bytes: a letter, a space, 16 digits, a space, 16 digits, LF. Digits are
 // lowercase hexadecimal, an f64 is its bits. Where nothing is said of a number it is 0.

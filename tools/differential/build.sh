@@ -3,7 +3,7 @@
 #
 #     published DIR      checks the published files and puts patched copies into $build/source
 #     library            builds the Rust that all programs share, with the patched copies in it
-#     choose             sets $archive and $probes: those named, the stub's, or those of the crates `exports` and `probes`, built
+#     choose             sets $archive and $probes: those named, the stub's, or those of the crates `riftkettle` and `test_probes`, built
 #                        if need be
 #     choose_surface     sets $surface: the program named, the stub's, or that of the crate `surface`, built if need be
 #     stub [WORDS]       builds the stub in place of the library; WORDS go to rustc
@@ -58,9 +58,9 @@ choose() {
     probes=$archive
   fi
   # both at once, several checks at a time: rt staticlib alone proves one crate after the other
-  if [ -z "$archive$probes" ]; then rt check exports probes >&2 || fail "rt check exports probes failed"; fi
-  if [ -z "$archive" ]; then archive=$(built exports); fi
-  if [ -z "$probes" ]; then probes=$(built probes); fi
+  if [ -z "$archive$probes" ]; then rt check riftkettle test_probes >&2 || fail "rt check riftkettle test_probes failed"; fi
+  if [ -z "$archive" ]; then archive=$(built riftkettle); fi
+  if [ -z "$probes" ]; then probes=$(built test_probes); fi
   [ -f "$archive" ] || fail "no library $archive"
   [ -f "$probes" ] || fail "no library $probes"
   archive=$(realpath "$archive")

@@ -1,4 +1,4 @@
-// The C functions, once: those of include/riftkettle.h and those of crate `probes`. A slice crosses as a pointer and a length, a
+// The C functions, once: those of include/riftkettle.h and those of crate `test_probes`. A slice crosses as a pointer and a length, a
 // road as its two slices, and what a call writes as a pointer.
 //
 // A list is given to a macro: `asks` makes a safe function of each line, which calls the C function; `answers` makes the C function,

@@ -1,4 +1,4 @@
-// The C functions of crate `probes` behind safe ones: functions inside the library, without the check of the road.
+// The C functions of crate `test_probes` behind safe ones: functions inside the library, without the check of the road.
 use crate::model::{Cubic, Memory};
 
 mod c {

@@ -6,8 +6,8 @@
 #
 #   full       the full form (minutes); without it the short one (seconds)
 #   --source   the folder with the published road.rs and coords.rs, or with src/ that holds them (default ../shared/docs/src)
-#   --archive  the library to compare (default: target/staticlib/libexports.a, built by `rt staticlib exports`)
-#   --probes   the functions inside it (default: target/staticlib/libprobes.a, built by `rt staticlib probes`)
+#   --archive  the library to compare (default: target/staticlib/libriftkettle.a, built by `rt staticlib riftkettle`)
+#   --probes   the functions inside it (default: target/staticlib/libtest_probes.a, built by `rt staticlib test_probes`)
 #   --program  the program `surface` (default: target/bin/surface, built by `rt check surface`)
 #   --stub     in place of all three, ones that answer by the published Rust: a test of the comparison itself
 #   --seed     another run of random inputs (default 1); --only, comparisons by the start of their name, as often as there are

@@ -1,8 +1,8 @@
-// Writes the list of cases that the program `job_cases` reads, and what it must print: a text, how much of the three slices is
+// Writes the list of cases that the program `test_jobs` reads, and what it must print: a text, how much of the three slices is
 // lent, and the answer, the number of wants and a checksum of all memory afterwards.
 //
 //     rustc --edition 2024 -O -o /tmp/make_jobs tools/jobs/main.rs
-//     /tmp/make_jobs > crates/job_cases/stdin 2> crates/job_cases/stdout
+//     /tmp/make_jobs > crates/test_jobs/stdin 2> crates/test_jobs/stdout
 //
 // The list is the same at every run. A line is 36 bytes: a letter, a space, 16 digits (a), a space, 16 digits (b), LF. Digits are
 // lowercase hexadecimal. The list writes one text after the other; a text is made of bytes given and of pieces of an earlier

@@ -1,11 +1,11 @@
-// Writes the list of jobs that the program `output_cases` replays, and what the second program (tools/differential, the second
+// Writes the list of jobs that the program `test_outputs` replays, and what the second program (tools/differential, the second
 // reader and the published Rust) writes for each; and the examples, a job and its output in a file each. One command makes all
 // files anew, the same at every run:
 //
 //     tools/outputs/run.sh
 //
 // A job of the list is a line of 36 bytes, `j`, a space, its number, a space, how many bytes its text has, LF, the numbers as 16
-// lowercase hexadecimal digits; then its text as it is. A line `e` of the same form ends the list. `output_cases` writes a line `job` and the number, then the job's whole
+// lowercase hexadecimal digits; then its text as it is. A line `e` of the same form ends the list. `test_outputs` writes a line `job` and the number, then the job's whole
 // output; at the end how many jobs there were and how many lines that break the list's form.
 //
 // Each job stands with what its output says (`says`): `refused` and the number, or a word of a letter a want, p for a point, 7 or

@@ -1,5 +1,5 @@
 #!/usr/bin/env bash
-# Makes crates/output_cases/stdin and stdout and examples/jobs anew: jobs, and what the second program (the second reader and the
+# Makes crates/test_outputs/stdin and stdout and examples/jobs anew: jobs, and what the second program (the second reader and the
 # published Rust) writes for them. One command, from any folder:
 #
 #     tools/outputs/run.sh [--source DIR]
@@ -21,4 +21,4 @@ done
 published "$source"
 library
 rustc "${RUST[@]}" --crate-name outputs -o "$build/outputs" tools/outputs/main.rs "${USES[@]}"
-"$build/outputs" crates/output_cases/stdin crates/output_cases/stdout examples/jobs
+"$build/outputs" crates/test_outputs/stdin crates/test_outputs/stdout examples/jobs

@@ -1,7 +1,7 @@
-// Writes the list of vectors that the program `vectors` replays, and the summary that it must print.
+// Writes the list of vectors that the program `test_vectors` replays, and the summary that it must print.
 //
 //     rustc -O -o /tmp/make_vectors tools/vectors/main.rs
-//     /tmp/make_vectors > crates/vectors/stdin 2> crates/vectors/stdout
+//     /tmp/make_vectors > crates/test_vectors/stdin 2> crates/test_vectors/stdout
 //
 // The list is the same at every run: the random part starts from a fixed seed. A line is 36 bytes: a letter, a space, the
 // argument's 16 digits, a space, the answer's 16 digits, LF. Digits are lowercase hexadecimal, an f64 is its bits.

@@ -1,4 +1,3 @@
+pub mod LimitTests
 pub mod RowLaws
 pub mod AdmissionLaws
-pub mod WritingLaws
-pub mod SampleCalls

@@ -8,10 +8,10 @@ use Rattle.refusals.specs.Answer.{Answer, value, refused, Row, row, checked}
 use Rattle.refusals.specs.Refusal.{numberOf}
 use Rattle.refusals.specs.declared.refusals.Refusal.the-variants.{Structure, Range, SampleBudget}
 use Rattle.records.specs.Roads.{roadOf}
-use Rattle.structure.specs.Structure.{structured}
-use Rattle.ordering.specs.Order.{ordered}
-use Rattle.bounds.specs.Limits.{limited}
-use Rattle.spirals.specs.Spiral.{samplesNeeded, mostSamples}
+use Rattle.admission_structure.specs.Structure.{structured}
+use Rattle.admission_order.specs.Order.{ordered}
+use Rattle.admission.specs.Limits.{limited}
+use Rattle.line_samples.specs.Samples.{samplesNeeded, mostSamples}
 use Rattle.admission.specs.declared.verdicts.Verdict.{Verdict}
 use Rattle.admission.specs.declared.verdicts.Verdict.the-variants.{Admitted, Refused}
 
@@ -29,14 +29,14 @@ pass [] = true
 pass (r ∷ rs) = r .passes && pass rs
 
 -- "a call that takes a road checks 3 to 5": nothing where all pass, else the first that fails
-unfoldable pub admissionOf : List ℕ → List Float → Answer (Unit {0})
-admissionOf words numbers = checked (roadRows words numbers) (value tt)
+unfoldable pub admitCall : List ℕ → List Float → Answer (Unit {0})
+admitCall words numbers = checked (roadRows words numbers) (value tt)
 
 -- "A road is admitted when it passes rows 3 to 5"
 unfoldable pub admitted : List ℕ → List Float → Bool
 admitted words numbers = pass (roadRows words numbers)
 
 -- the number of a refusal
-abbrev pub answerOf : Verdict → Answer (Unit {0})
-answerOf Admitted = value tt
-answerOf (Refused r) = refused (numberOf r)
+abbrev pub admitAnswer : Verdict → Answer (Unit {0})
+admitAnswer Admitted = value tt
+admitAnswer (Refused r) = refused (numberOf r)

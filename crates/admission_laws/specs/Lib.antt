@@ -1,1 +1,2 @@
-pub mod LaneSizes
+pub mod Fractions
+pub mod RoadSizes

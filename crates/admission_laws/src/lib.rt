@@ -1,1 +1,1 @@
-// Laws on an admitted road and a station on it: what admission says, as one record, and the section at s. There is no code here.
+// No code here. What rows 3 to 5 say of a road: of its values along and across, of its samples and of its poses.

@@ -1,3 +1,1 @@
-pub mod BorderSteps
-pub mod Outward
-pub mod BorderLaws
+pub mod LateralLaws

@@ -1,1 +1,1 @@
-pub mod Borders
+pub mod Lateral

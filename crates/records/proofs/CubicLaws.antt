@@ -6,16 +6,16 @@ use mathlib.Core.List.{List, []}
 use lib.ListN.{length, getD}
 use lib.Ieee.{Float, nan}
 use Rattle.float_laws.specs.Binary64.{zero64}
-use Rattle.cubics.specs.declared.cubics.Cubic.{Cubic}
+use Rattle.records_cubic.specs.declared.cubics.Cubic.{Cubic}
 use Rattle.records.specs.declared.points.HeightDef.{HeightDef}
 use Rattle.records.specs.declared.points.Found.{Found}
 use Rattle.records.specs.declared.points.Found.the-variants.{At, Nothing}
-use Rattle.lent.specs.Lists.{table}
-use Rattle.cubics.specs.Cubics.{cubicsOf, cubicAt, evalAt, slopeAt}
+use Rattle.records_lent.specs.Lists.{tabulate}
+use Rattle.records_cubic.specs.Cubics.{cubicsOf, cubicAt, evalAt, slopeAt}
 use Rattle.records.specs.Active.{lastStart, activeUpTo, activeIn, valueIn, slopeIn}
-use Rattle.records.specs.Roads.{heightsOf, heightDefAt, heightFrom, noHeight}
-use Rattle.lent.proofs.TableLaws.{length-table, table-at, table-past}
-use Rattle.cubics.proofs.CubicTables.{cubic-count, cubic-in}
+use Rattle.records.specs.Roads.{heightsOf, heightDefAt, heightDefFrom, noHeight}
+use Rattle.records_lent.proofs.TableLaws.{length-table, table-at, table-past}
+use Rattle.records_cubic.proofs.CubicTables.{cubic-count, cubic-in}
 use Rattle.records.proofs.ScanLaws.{lastStart-same}
 
 none-more : (k : ℕ) → 0 + k ≡ k
@@ -37,7 +37,7 @@ module _ (xs : List Float) where
   unfolding heightsOf
   height-count = length-table _ _
 
-  pub height-in : (i : ℕ) → i < length xs / 3 → heightDefAt (heightsOf xs) i ≡ heightFrom xs (i * 3)
+  pub height-in : (i : ℕ) → i < length xs / 3 → heightDefAt (heightsOf xs) i ≡ heightDefFrom xs (i * 3)
   unfolding heightsOf
   height-in i h = table-at _ _ i noHeight h
 

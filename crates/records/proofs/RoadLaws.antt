@@ -9,17 +9,17 @@ use lib.ListN.{length, getD}
 use lib.Dec.{eqb}
 use lib.Ieee.{Float, nan, eq}
 use Rattle.float_laws.specs.Binary64.{zero64}
-use Rattle.cubics.specs.declared.cubics.Cubic.{Cubic}
+use Rattle.records_cubic.specs.declared.cubics.Cubic.{Cubic}
 use Rattle.records.specs.declared.points.GeomRec.{GeomRec}
 use Rattle.records.specs.declared.points.StripKind.{StripKind}
 use Rattle.records.specs.declared.points.StripKind.the-variants.{Absent, Absolute, Relative}
 use Rattle.records.specs.declared.points.Found.{Found}
 use Rattle.records.specs.declared.points.Found.the-variants.{At, Nothing}
-use Rattle.lent.specs.Lists.{table, span}
-use Rattle.cubics.specs.Cubics.{cubicsOf}
+use Rattle.records_lent.specs.Lists.{tabulate, span}
+use Rattle.records_cubic.specs.Cubics.{cubicsOf}
 use Rattle.records.specs.Active.{lastStart, foundOf, orFirst, activeUpTo}
-use Rattle.records.specs.Roads.{Road, Lane, Section, Profile, Strip, absent, present, roadOf, geomIn, unusedIn, laneIn, sectionIn, profileIn, columnIn, stripIn, cubicsIn, heightsIn, heightsOf, wordAt, geomFrom, noGeom, geomAt, unusedOf, allZero, unusedZero, noSection, sectionOf, noLane, laneBy, laneOf, noProfile, profileAt, stripAt, kindOf, columnOf, columnBy, geomIndex, sectionIndex}
-use Rattle.lent.proofs.TableLaws.{length-table, table-at, table-past, span-at}
+use Rattle.records.specs.Roads.{Road, Lane, Section, Profile, Strip, absent, present, roadOf, geomIn, unusedIn, laneIn, sectionIn, profileIn, columnIn, stripIn, cubicsIn, heightsIn, heightsOf, wordAt, geomFrom, noGeom, geomAt, unusedOf, allZero, unusedZero, noSection, sectionOf, noLane, laneBy, laneOf, noProfile, profileAt, stripAt, stripKindOf, columnOf, columnBy, geomIndex, sectionIndex}
+use Rattle.records_lent.proofs.TableLaws.{length-table, table-at, table-past, span-at}
 use Rattle.records.proofs.ScanLaws.{lastStart-same}
 
 -- a place by a sum of two literals, and by a sum of three
@@ -157,7 +157,7 @@ module _ (words : List ℕ) (numbers : List Float) where
 
 -- a strip that is there
 abbrev there : List ℕ → List Float → ℕ → ℕ → Strip
-there words numbers i code = present (record { relative = eqb code 2; width = columnIn words numbers i 0; terms = table (λ j. columnIn words numbers i (j + 1)) 4 })
+there words numbers i code = present (record { relative = eqb code 2; width = columnIn words numbers i 0; terms = tabulate (λ j. columnIn words numbers i (j + 1)) 4 })
 
 -- the line of a lane is small, as the words that make it are
 pub line-small : (x : ℕ) → x < 196608 → (j : ℕ) → At x ≡ At j → j < 196608
@@ -206,11 +206,11 @@ module _ (words : List ℕ) (numbers : List Float) where
   right-none-by i k h r g l = rw r (right-lane-past words numbers i k h (rw g at l))
 
   pub strip-by : (i : ℕ) {code : ℕ} → i < 4 → code ≡ getD words (1303 + i * 11) 0
-      → cond (eqb code 0) Absent (cond (eqb code 2) Relative Absolute) ≡ kindOf (stripAt (roadOf words numbers) i)
+      → cond (eqb code 0) Absent (cond (eqb code 2) Relative Absolute) ≡ stripKindOf (stripAt (roadOf words numbers) i)
   unfolding stripIn
   strip-by i {code} h e = rw (strip-in words numbers i h, ← e) (go (eqb code 0))
     where
-      go : (b : Bool) → cond b Absent (cond (eqb code 2) Relative Absolute) ≡ kindOf (cond b absent (there words numbers i code))
+      go : (b : Bool) → cond b Absent (cond (eqb code 2) Relative Absolute) ≡ stripKindOf (cond b absent (there words numbers i code))
       go true = refl
       go false = refl
 

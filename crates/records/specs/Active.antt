@@ -5,10 +5,10 @@ use mathlib.Core.List.{List}
 use lib.ListN.{length}
 use lib.Ieee.{Float, le}
 use Rattle.float_laws.specs.Binary64.{_⊕_, f64, zero64}
-use Rattle.cubics.specs.declared.cubics.Cubic.{Cubic}
+use Rattle.records_cubic.specs.declared.cubics.Cubic.{Cubic}
 use Rattle.records.specs.declared.points.Found.{Found}
 use Rattle.records.specs.declared.points.Found.the-variants.{At, Nothing}
-use Rattle.cubics.specs.Cubics.{cubicAt, evalAt, slopeAt}
+use Rattle.records_cubic.specs.Cubics.{cubicAt, evalAt, slopeAt}
 
 -- "start ≤ s + 1e-9": so far before its start a record is active
 abbrev pub activeMargin : Float

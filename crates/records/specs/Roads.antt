@@ -9,7 +9,7 @@ use lib.ListN.{length, getD}
 use lib.Dec.{eqb}
 use lib.Ieee.{Float, nan, eq}
 use Rattle.float_laws.specs.Binary64.{f64, zero64}
-use Rattle.cubics.specs.declared.cubics.Cubic.{Cubic}
+use Rattle.records_cubic.specs.declared.cubics.Cubic.{Cubic}
 use Rattle.records.specs.declared.points.GeomRec.{GeomRec}
 use Rattle.records.specs.declared.points.GeomShape.{GeomShape}
 use Rattle.records.specs.declared.points.GeomShape.the-variants.{Line, Arc, Spiral}
@@ -18,8 +18,8 @@ use Rattle.records.specs.declared.points.StripKind.{StripKind}
 use Rattle.records.specs.declared.points.StripKind.the-variants.{Absent, Absolute, Relative}
 use Rattle.records.specs.declared.points.Found.{Found}
 use Rattle.records.specs.declared.points.Found.the-variants.{At, Nothing}
-use Rattle.lent.specs.Lists.{table, span}
-use Rattle.cubics.specs.Cubics.{cubicsOf}
+use Rattle.records_lent.specs.Lists.{tabulate, span}
+use Rattle.records_cubic.specs.Cubics.{cubicsOf}
 use Rattle.records.specs.Active.{lastStart, orFirst, activeUpTo}
 use Rattle.records.specs.Layout.{lengthPlace, geomBase, geomStride, elevBase, bankBase, offsetBase, tshiftBase, sectionBase, extentBase, heightBase, profileBase, shapeBase, cubicBase, cubicStride, heightStride, geomCountAt, elevCountAt, bankCountAt, offsetCountAt, tshiftCountAt, sectionCountAt, profileCountAt, kindBase, sectionWords, sectionStride, laneWords, laneStride, profileWords, profileStride, stripWords, stripStride}
 
@@ -73,8 +73,8 @@ straightCurvature = f64 0x3e11_2e0b_e826_d695
 -- ---- decoding
 
 -- "kind line, arc or spiral", in this order from 0
-abbrev pub shapeOf : ℕ → Float → Float → GeomShape
-shapeOf kind k0 k1 = cond (eqb kind 1) (Arc k0) (cond (eqb kind 2) (Spiral k0 k1) Line)
+abbrev pub geomShapeOf : ℕ → Float → Float → GeomShape
+geomShapeOf kind k0 k1 = cond (eqb kind 1) (Arc k0) (cond (eqb kind 2) (Spiral k0 k1) Line)
 
 -- "unused k0, k1 zero": those that are, both of a line and k1 of an arc
 abbrev pub unusedOf : ℕ → Float → Float → List Float
@@ -89,22 +89,22 @@ geomFrom xs kind =
       y = getD xs 2 nan;
       hdg = getD xs 3 nan;
       length = getD xs 4 nan;
-      shape = shapeOf kind (getD xs 5 nan) (getD xs 6 nan);
+      shape = geomShapeOf kind (getD xs 5 nan) (getD xs 6 nan);
     }
 
 abbrev pub noGeom : GeomRec
 noGeom = geomFrom [] 0
 
 -- three numbers from a place on: start inner outer
-abbrev pub heightFrom : List Float → ℕ → HeightDef
-heightFrom xs k = record { «s_offset» = getD xs k nan; inner = getD xs (k + 1) nan; outer = getD xs (k + 2) nan }
+abbrev pub heightDefFrom : List Float → ℕ → HeightDef
+heightDefFrom xs k = record { «s_offset» = getD xs k nan; inner = getD xs (k + 1) nan; outer = getD xs (k + 2) nan }
 
 abbrev pub noHeight : HeightDef
 noHeight = record { «s_offset» = nan; inner = nan; outer = nan }
 
 unfoldable pub heightsOf : List Float → List HeightDef
-unfolding table
-heightsOf xs = table (λ i. heightFrom xs (i * heightStride)) (length xs / heightStride)
+unfolding tabulate
+heightsOf xs = tabulate (λ i. heightDefFrom xs (i * heightStride)) (length xs / heightStride)
 
 -- the i-th height of a list, one of NaNs past its end
 abbrev pub heightDefAt : List HeightDef → ℕ → HeightDef
@@ -147,13 +147,13 @@ module _ (words : List ℕ) (numbers : List Float) where
 
   -- a section's lanes: from its first, the left ones, then the right ones
   unfoldable pub sectionIn : ℕ → Section
-  unfolding table laneIn
+  unfolding tabulate laneIn
   sectionIn i =
       let k = sectionWords + i * sectionStride in
       record {
         start = numberAt (sectionBase + i);
-        left = table (λ j. laneIn (wordAt k + j)) (wordAt (k + 1));
-        right = table (λ j. laneIn (wordAt k + wordAt (k + 1) + j)) (wordAt (k + 2));
+        left = tabulate (λ j. laneIn (wordAt k + j)) (wordAt (k + 1));
+        right = tabulate (λ j. laneIn (wordAt k + wordAt (k + 1) + j)) (wordAt (k + 2));
       }
 
   -- a profile with its range of shapes
@@ -170,26 +170,26 @@ module _ (words : List ℕ) (numbers : List Float) where
 
   -- presence code: 0 absent, 1 there, 2 there and relative
   unfoldable pub stripIn : ℕ → Strip
-  unfolding table columnIn
+  unfolding tabulate columnIn
   stripIn i =
       let k = wordAt (stripWords + i * stripStride) in
-      cond (eqb k 0) absent (present (record { relative = eqb k 2; width = columnIn i 0; terms = table (λ j. columnIn i (j + 1)) 4 }))
+      cond (eqb k 0) absent (present (record { relative = eqb k 2; width = columnIn i 0; terms = tabulate (λ j. columnIn i (j + 1)) 4 }))
 
   -- the road of the two lent lists: its length, and as many lines of each table as its count says
   unfoldable pub roadOf : Road
-  unfolding table cubicsOf geomIn unusedIn sectionIn profileIn stripIn
+  unfolding tabulate cubicsOf geomIn unusedIn sectionIn profileIn stripIn
   roadOf =
       record {
         length = numberAt lengthPlace;
-        geoms = table geomIn (wordAt geomCountAt);
-        unused = table unusedIn (wordAt geomCountAt);
+        geoms = tabulate geomIn (wordAt geomCountAt);
+        unused = tabulate unusedIn (wordAt geomCountAt);
         elevations = cubicsIn elevBase 0 (wordAt elevCountAt);
         superelevations = cubicsIn bankBase 0 (wordAt bankCountAt);
         offsets = cubicsIn offsetBase 0 (wordAt offsetCountAt);
         tshifts = cubicsIn tshiftBase 0 (wordAt tshiftCountAt);
-        sections = table sectionIn (wordAt sectionCountAt);
-        profiles = table profileIn (wordAt profileCountAt);
-        strips = table stripIn 4;
+        sections = tabulate sectionIn (wordAt sectionCountAt);
+        profiles = tabulate profileIn (wordAt profileCountAt);
+        strips = tabulate stripIn 4;
       }
 
 -- ---- the parts of a road by place; past the end NaNs, no lanes, no cubics
@@ -232,9 +232,9 @@ profileAt road i = getD (road .profiles) i noProfile
 abbrev pub stripAt : Road → ℕ → Strip
 stripAt road i = getD (road .strips) i absent
 
-abbrev pub kindOf : Strip → StripKind
-kindOf absent = Absent
-kindOf (present d) = cond (d .relative) Relative Absolute
+abbrev pub stripKindOf : Strip → StripKind
+stripKindOf absent = Absent
+stripKindOf (present d) = cond (d .relative) Relative Absolute
 
 -- column 0 is the width's cubics, column j + 1 those of term j
 abbrev pub columnBy : StripDef → ℕ → List Cubic

@@ -11,23 +11,23 @@ use crate::layout::OFFSET_BASE;
 use crate::layout::OFFSET_COUNT_AT;
 use crate::layout::TSHIFT_BASE;
 use crate::layout::TSHIFT_COUNT_AT;
-use lent::number;
-use lent::part;
-use lent::word;
+use records_lent::number;
+use records_lent::part;
+use records_lent::word;
 ghost use mathlib.Core.Path.{_≡_};
 ghost use lib.ListN.{length};
-ghost use Rattle.cubics.specs.Cubics.{cubicsOf};
-ghost use Rattle.records.specs.Roads.{roadOf};
+ghost use Rattle.records_cubic.specs.Cubics.{cubicsOf};
+ghost use Rattle.records.specs.Roads.{lentRoad};
 
 // ---- the road and its flat tables
 pub fn road_length(words: &[u16], numbers: &[f64]) -> f64
-    ensures { λ r. ⌜ r ≡ roadOf (now (words .entry)) (now (numbers .entry)) .length ⌝ }
+    ensures { λ r. ⌜ r ≡ lentRoad words numbers .length ⌝ }
 {
     number(numbers, LENGTH_PLACE)
 }
 
 pub fn elevations<'a>(words: &[u16], numbers: &'a [f64]) -> &'a [f64]
-    ensures { λ r. ⌜ cubicsOf (now r) ≡ roadOf (now (words .entry)) (now (numbers .entry)) .elevations ⌝ }
+    ensures { λ r. ⌜ cubicsOf (now r) ≡ lentRoad words numbers .elevations ⌝ }
 {
     part(
         numbers,
@@ -37,7 +37,7 @@ pub fn elevations<'a>(words: &[u16], numbers: &'a [f64]) -> &'a [f64]
 }
 
 pub fn superelevations<'a>(words: &[u16], numbers: &'a [f64]) -> &'a [f64]
-    ensures { λ r. ⌜ cubicsOf (now r) ≡ roadOf (now (words .entry)) (now (numbers .entry)) .superelevations ⌝ }
+    ensures { λ r. ⌜ cubicsOf (now r) ≡ lentRoad words numbers .superelevations ⌝ }
 {
     part(
         numbers,
@@ -47,7 +47,7 @@ pub fn superelevations<'a>(words: &[u16], numbers: &'a [f64]) -> &'a [f64]
 }
 
 pub fn offsets<'a>(words: &[u16], numbers: &'a [f64]) -> &'a [f64]
-    ensures { λ r. ⌜ cubicsOf (now r) ≡ roadOf (now (words .entry)) (now (numbers .entry)) .offsets ⌝ }
+    ensures { λ r. ⌜ cubicsOf (now r) ≡ lentRoad words numbers .offsets ⌝ }
 {
     part(
         numbers,
@@ -57,7 +57,7 @@ pub fn offsets<'a>(words: &[u16], numbers: &'a [f64]) -> &'a [f64]
 }
 
 pub fn tshifts<'a>(words: &[u16], numbers: &'a [f64]) -> &'a [f64]
-    ensures { λ r. ⌜ cubicsOf (now r) ≡ roadOf (now (words .entry)) (now (numbers .entry)) .tshifts ⌝ }
+    ensures { λ r. ⌜ cubicsOf (now r) ≡ lentRoad words numbers .tshifts ⌝ }
 {
     part(
         numbers,
@@ -68,7 +68,7 @@ pub fn tshifts<'a>(words: &[u16], numbers: &'a [f64]) -> &'a [f64]
 
 // ---- geometries
 pub fn geom_count(words: &[u16], numbers: &[f64]) -> usize
-    ensures { λ r. ⌜ r ≡ length (roadOf (now (words .entry)) (now (numbers .entry)) .geoms) ⌝ }
+    ensures { λ r. ⌜ r ≡ length (lentRoad words numbers .geoms) ⌝ }
 {
     word(words, GEOM_COUNT_AT)
 }

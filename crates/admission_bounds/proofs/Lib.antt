@@ -1,0 +1,2 @@
+mod Greatest
+mod Parts

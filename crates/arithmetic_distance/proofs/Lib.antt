@@ -1,0 +1,2 @@
+pub mod MissLaws
+pub mod BracketLaws

@@ -1,4 +1,0 @@
-// A section's borders in a lent list.
-mod filling;
-
-pub use filling::list_borders;

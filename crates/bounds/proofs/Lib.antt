@@ -1,3 +1,0 @@
-pub mod LimitTests
-mod Greatest
-mod Parts

@@ -1,4 +1,0 @@
-// A checksum of what a call left in lent memory.
-mod sums;
-
-pub use sums::checksum;

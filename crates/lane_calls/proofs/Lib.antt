@@ -1,2 +1,0 @@
-pub mod CallLaws
-pub mod BorderSizes

@@ -1,2 +1,0 @@
-pub mod LaneCalls
-pub mod BorderSizes

@@ -1,0 +1,3 @@
+pub mod BorderSteps
+pub mod Outward
+pub mod BorderLaws

@@ -1,0 +1,14 @@
+pub mod Fractions
+pub mod StationBounds
+pub mod StripBounds
+pub mod LateralBounds
+pub mod AdmittedRoad
+pub mod LaneSizesKept
+pub mod RoadHeights
+pub mod WholeSizes
+pub mod BorderHeights
+pub mod Quotients
+pub mod LaneHeights
+pub mod HeightsKept
+pub mod HeightSizesKept
+pub mod BorderSizes

@@ -1,0 +1,3 @@
+pub mod LaneSizes
+pub mod HeightSizes
+pub mod BorderSizes

@@ -1,4 +1,0 @@
-pub mod Fractions
-pub mod StationBounds
-pub mod StripBounds
-pub mod LateralBounds

@@ -1,1 +1,0 @@
-// Laws on the sizes of lateral heights.

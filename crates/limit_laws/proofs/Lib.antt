@@ -1,9 +1,0 @@
-pub mod FractionLaws
-pub mod FractionExamples
-pub mod Fitting
-pub mod ActiveRecord
-pub mod LimitParts
-pub mod CubicBounds
-pub mod GreatestBounds
-pub mod RoadBounds
-pub mod Places

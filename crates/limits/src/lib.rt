@@ -1,4 +1,0 @@
-// Row 4: every number of the road within its limit.
-mod checking;
-
-pub use checking::limited;

@@ -1,0 +1,3 @@
+pub mod SampleWriting
+pub mod SampleCalls
+pub mod PoseCalls

@@ -1,0 +1,2 @@
+pub mod SampleCall
+pub mod PoseCall

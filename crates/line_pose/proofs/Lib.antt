@@ -1,0 +1,3 @@
+pub mod PoseLaws
+pub mod BearingLaws
+pub mod LeadLaws

@@ -1,0 +1,2 @@
+pub mod Poses
+pub mod Bearings

@@ -1,0 +1,2 @@
+pub mod SpiralLaws
+pub mod SpiralQuarters

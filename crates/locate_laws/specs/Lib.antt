@@ -1,2 +1,0 @@
-pub mod Distances
-pub mod Positions

@@ -1,9 +1,0 @@
-// The job text, read into lent memory: rows 1 to 5 of document 01.
-mod answers;
-mod clearing;
-mod job;
-mod taking;
-
-pub use answers::Read;
-pub use job::TEXT_MOST;
-pub use job::read;

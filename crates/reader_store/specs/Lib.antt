@@ -1,0 +1,4 @@
+pub mod Layout
+pub mod Progress
+pub mod Parents
+pub mod Keep

@@ -1,9 +1,0 @@
--- What a bearing holds.
-use mathlib.Core.Path.{_≡_, ap}
-use Rattle.trigonometry.specs.Sine.{sineOf, cosineOf}
-use Rattle.spirals.specs.declared.line.Pose.{Pose}
-use Rattle.reference_line.specs.declared.bearings.Bearing.{Bearing}
-use Rattle.reference_line.specs.Bearings.{bearingOf}
-
-pub bearing-parts : {r : Bearing} {p : Pose} → r ≡ bearingOf p → (r .pose ≡ p) × (r .turn .sin ≡ sineOf (r .pose .heading)) × (r .turn .cos ≡ cosineOf (r .pose .heading))
-bearing-parts e = (ap (λ (b : Bearing). b .pose) e, rw e, rw e)

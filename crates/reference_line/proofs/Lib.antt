@@ -1,2 +1,0 @@
-pub mod BearingLaws
-pub mod LeadLaws

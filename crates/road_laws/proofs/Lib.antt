@@ -1,8 +1,0 @@
-pub mod Powers
-pub mod Geometry
-pub mod SpiralFirst
-pub mod SampleBounds
-pub mod SampleRise
-pub mod PoseBounds
-pub mod Admitted
-pub mod RoadSizesKept

@@ -1,4 +1,0 @@
-// The height that profiles give across the road.
-mod profiles;
-
-pub use profiles::shape_at;

@@ -1,3 +1,0 @@
-pub mod SpiralLaws
-pub mod SpiralQuarters
-pub mod PoseLaws

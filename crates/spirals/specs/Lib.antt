@@ -1,3 +1,0 @@
-pub mod Spiral
-pub mod Poses
-pub mod Quarters
