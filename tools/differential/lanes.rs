@@ -173,7 +173,7 @@ pub fn height(rng: &mut Rng, tally: &mut Tally) {
 // ---- lanes
 
 /// Every lane of the section at s, and now and then of another section.
-pub fn lanes_heights(rng: &mut Rng, tally: &mut Tally) {
+pub fn lane_heights(rng: &mut Rng, tally: &mut Tally) {
     let (road, m) = generate::across(rng);
     let (oracle, before) = (Oracle::new(&road), m.clone());
     for s in wide_stations(rng, &road, starts_across(&road), 30) {
