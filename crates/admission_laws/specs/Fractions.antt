@@ -1,5 +1,5 @@
 -- The words of the statements on sizes, here and above, in whole numbers: "all exact", "These sums and bounds are whole-number fractions". No rounding and no unit of measure is in them.
--- A finite f64 or f32 is num / den in size (the kit's): whole numbers, den a power of two and at least 1. With its sign it is (above - below) / den, where above or below is 0 and num is above + below.
+-- A finite f64 or f32 is num / den in size (the kit's): whole numbers, den a power of two and at least 1. With its sign it is (positivePart - negativePart) / den, where one of the two is 0 and num is the other.
 use Prim.Native.Nat.{ℕ, _+_, _*_, _≤_, _<_}
 use mathlib.Core.Bool.{true, false}
 use mathlib.Core.List.{List}

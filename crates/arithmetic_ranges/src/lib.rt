@@ -1,4 +1,4 @@
-// Ranges of numbers.
+// Sizes and ranges of numbers, the lesser of two, and differences that stop at 0.
 mod ranges;
 mod wholes;
 

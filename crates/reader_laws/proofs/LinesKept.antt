@@ -1,4 +1,4 @@
--- A table that is read: its lines are those of specs/Rows, and its numbers are kept as NumbersKept has them. By induction on the lines left.
+-- A table that is read: its lines are those of specs/Lines, and its numbers are kept as NumbersKept has them. By induction on the lines left.
 use Prim.Native.Nat.{ℕ, zero, suc, _+_, _≤_}
 use native.Mathlib.Omega.{arith}
 use mathlib.Core.Path.{_≡_, refl}

@@ -1,4 +1,4 @@
--- What is read is what the text says: two statements over reading (reader, specs/Reading), each for every text of any bytes. `TextSays` is of texts of right form, accepted or not: each is judged by its lines alone. `ReadSays` is of accepted ones.
+-- What is read is what the text says: two statements over reading (reader_calls, specs/Reading), each for every text of any bytes. `TextSays` is of texts of right form, accepted or not: each is judged by its lines alone. `ReadSays` is of accepted ones.
 use Prim.Native.Nat.{ℕ, _≤_}
 use mathlib.Core.Path.{_≡_}
 use mathlib.Core.List.{List}

@@ -1,4 +1,4 @@
-// Replays a list of vectors from standard input against the crates `arithmetic`, `trigonometry` and `arithmetic_counts`. It writes a
+// Replays a list of vectors from standard input against the crates `arithmetic`, `arithmetic_sine` and `arithmetic_counts`. It writes a
 // line for each vector that differs, then for each function how many lines named it and how many of these differ. tools/vectors
 // makes the list.
 mod patterns;

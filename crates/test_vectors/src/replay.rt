@@ -1,4 +1,4 @@
-// Lines of vectors, answered by the crates `arithmetic`, `trigonometry` and `arithmetic_counts`, and counted.
+// Lines of vectors, answered by the crates `arithmetic`, `arithmetic_sine` and `arithmetic_counts`, and counted.
 //
 // A line is 36 bytes: a letter (r root, n narrow, s sine, c cosine, k counts), a space, the argument's 16 digits, a space, the
 // answer's 16 digits, LF. An f32 is its 8 digits after eight zeros. A whole number n is n + 2^63, a refusal its number.
