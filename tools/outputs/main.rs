@@ -5,8 +5,8 @@
 //     tools/outputs/run.sh
 //
 // A job of the list is a line of 36 bytes, `j`, a space, its number, a space, how many bytes its text has, LF, the numbers as 16
-// lowercase hexadecimal digits; then its text as it is. A line `e` of the same form ends the list. `test_outputs` writes a line `job` and the number, then the job's whole
-// output; at the end how many jobs there were and how many lines that break the list's form.
+// lowercase hexadecimal digits; then its text as it is. A line `e` of the same form ends the list. `test_outputs` writes a line `job`
+// and the number, then the job's whole output; at the end how many jobs there were and how many lines that break the list's form.
 //
 // Each job stands with what its output says (`says`): `refused` and the number, or a word of a letter a want, p for a point, 7 or
 // 8 for a refusal. It is written from document 01 and held against the second program's output.
