@@ -1,4 +1,4 @@
--- `RoadSizes` holds: each clause is a law of admission_laws or of PoseBounds at the road that was admitted, its bound turned from an f64 to a whole number or a fraction.
+-- `RoadSizes` holds: each clause is a law of RoadBounds or of PoseBounds at the road that was admitted, its bound turned from an f64 to a whole number or a fraction.
 use Prim.Native.Nat.{ℕ, zero, suc, _+_, _*_, _^_, _≤_, _<_}
 use native.Mathlib.Omega.{arith}
 use mathlib.Core.Path.{_≡_, refl, sym, _∙_, subst}

@@ -1,5 +1,5 @@
--- What admission says of a road's values, samples and poses, as one statement, `RoadSizes`, at the end. Document 01, "Admission": the limits of row 4 and B; "monotone rounding carries admission's bounds to every coordinate".
--- Words from below: `AtMost`, finite and at most so large, `AtMostPart`, the same of a fraction, `Under`, below (admission_laws, Fractions); `valueIn`, `slopeIn`, a list's value and slope at s (records, Active); `onRoad`, `acrossRoad`, the tests of rows 7 and 8, s in 0..length and t in -80..80 (bounds, places).
+-- What admission says of a road's values, samples and poses, as one statement, `RoadSizes`, at the end. Document 01, "Admission": the limits of row 4 and B; "Language forms in the code": "monotone rounding carries admission's bounds to every coordinate".
+-- Words from below: `AtMost`, finite and at most so large, `AtMostPart`, the same of a fraction, `Under`, below (admission_laws, Fractions); `valueIn`, `slopeIn`, a list's value and slope at s (records, Active); `onRoad`, `acrossRoad`, the tests of rows 7 and 8, s in 0..length and t in -80..80 (admission, Limits; admission_arguments, Arguments).
 use Prim.Native.Nat.{ℕ, suc, _*_, _≤_, _<_}
 use mathlib.Core.Path.{_≡_}
 use mathlib.Core.Bool.{true}

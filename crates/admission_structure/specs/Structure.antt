@@ -9,7 +9,7 @@ use lib.Dec.{leb, ltb, eqb}
 use lib.Ieee.{Float}
 use Rattle.records_lent.specs.Lists.{allBelow}
 use Rattle.records.specs.Roads.{wordAt}
-use Rattle.records.specs.Layout.{geomCountAt, elevCountAt, bankCountAt, offsetCountAt, tshiftCountAt, sectionCountAt, profileCountAt, kindBase, sectionWords, sectionStride, laneWords, laneStride, profileWords, profileStride, stripWords, stripStride, wordsNeeded, numbersNeeded}
+use Rattle.records.specs.Layout.{geomCountAt, elevCountAt, bankCountAt, offsetCountAt, tshiftCountAt, sectionCountAt, profileCountAt, kindWords, sectionWords, sectionStride, laneWords, laneStride, profileWords, profileStride, stripWords, stripStride, wordsNeeded, numbersNeeded, mostGeoms, mostElevs, mostBanks, mostOffsets, mostShifts, mostSections, mostLanesASide, mostLanes, mostExtentsALane, mostExtents, mostHeightsALane, mostHeights, mostProfiles, mostShapesAProfile, mostShapes, mostCubicsATerm, mostCubics}
 
 -- "a range past its slice's end, is 3": least to most lines, inside a table of limit lines
 abbrev pub rangeOk : ℕ → ℕ → ℕ → ℕ → ℕ → Bool
@@ -26,33 +26,33 @@ module _ (words : List ℕ) (numbers : List Float) where
 
   -- "geom: .. (1..64)", "elev, bank, offset, tshift: .. (0..64 each)", "section: start (1..16)", "profile: s (0..16)"
   unfoldable pub countsOk : Bool
-  countsOk = leb 1 (w geomCountAt) && leb (w geomCountAt) 64 && leb (w elevCountAt) 64 && leb (w bankCountAt) 64 && leb (w offsetCountAt) 64 && leb (w tshiftCountAt) 64 && leb 1 (w sectionCountAt) && leb (w sectionCountAt) 16 && leb (w profileCountAt) 16
+  countsOk = leb 1 (w geomCountAt) && leb (w geomCountAt) mostGeoms && leb (w elevCountAt) mostElevs && leb (w bankCountAt) mostBanks && leb (w offsetCountAt) mostOffsets && leb (w tshiftCountAt) mostShifts && leb 1 (w sectionCountAt) && leb (w sectionCountAt) mostSections && leb (w profileCountAt) mostProfiles
 
   -- "kind line, arc or spiral"
   unfoldable pub kindsOk : Bool
   unfolding allBelow
-  kindsOk = allBelow (λ i. ltb (w (kindBase + i)) 3) (w geomCountAt)
+  kindsOk = allBelow (λ i. ltb (w (kindWords + i)) 3) (w geomCountAt)
 
   -- "extent width or border, level 0 or 1"; "extent: .. (0..16 a lane)", "height: .. (0..8 a lane)", 512 in all of each
   unfoldable pub laneOk : ℕ → Bool
   laneOk j =
       let k = laneWords + j * laneStride in
-      ltb (w k) 2 && ltb (w (k + 1)) 2 && rangeOk 0 16 512 (w (k + 2)) (w (k + 3)) && rangeOk 0 8 512 (w (k + 4)) (w (k + 5))
+      ltb (w k) 2 && ltb (w (k + 1)) 2 && rangeOk 0 mostExtentsALane mostExtents (w (k + 2)) (w (k + 3)) && rangeOk 0 mostHeightsALane mostHeights (w (k + 4)) (w (k + 5))
 
   -- "at most 6 a side", 192 lanes in all
   unfoldable pub sectionOk : ℕ → Bool
   unfolding allBelow laneOk
   sectionOk i =
       let k = sectionWords + i * sectionStride in
-      leb (w (k + 1)) 6 && leb (w (k + 2)) 6 && leb (w k + (w (k + 1) + w (k + 2))) 192 && allBelow (λ j. laneOk (w k + j)) (w (k + 1) + w (k + 2))
+      leb (w (k + 1)) mostLanesASide && leb (w (k + 2)) mostLanesASide && leb (w k + (w (k + 1) + w (k + 2))) mostLanes && allBelow (λ j. laneOk (w k + j)) (w (k + 1) + w (k + 2))
 
   -- "shape: .. (1..16 a profile; ..)", 256 in all
   unfoldable pub profileOk : ℕ → Bool
-  profileOk i = let k = profileWords + i * profileStride in rangeOk 1 16 256 (w k) (w (k + 1))
+  profileOk i = let k = profileWords + i * profileStride in rangeOk 1 mostShapesAProfile mostShapes (w k) (w (k + 1))
 
   -- "cubic: .. (term width or 0..3, .. 0..8 a term)", 160 in all: column 0 is the width, column c the term c - 1
   unfoldable pub columnOk : ℕ → ℕ → Bool
-  columnOk i c = let k = stripWords + i * stripStride + 1 + c * 2 in rangeOk 0 8 160 (w k) (w (k + 1))
+  columnOk i c = let k = stripWords + i * stripStride + 1 + c * 2 in rangeOk 0 mostCubicsATerm mostCubics (w k) (w (k + 1))
 
   -- presence 0, 1 or 2; the ranges of a strip that is absent are not read
   unfoldable pub stripOk : ℕ → Bool

@@ -2,9 +2,26 @@
 use records::layout::BANK_COUNT_AT;
 use records::layout::ELEV_COUNT_AT;
 use records::layout::GEOM_COUNT_AT;
-use records::layout::KIND_BASE;
+use records::layout::KIND_WORDS;
 use records::layout::LANE_STRIDE;
 use records::layout::LANE_WORDS;
+use records::layout::MOST_BANKS;
+use records::layout::MOST_CUBICS;
+use records::layout::MOST_CUBICS_A_TERM;
+use records::layout::MOST_ELEVS;
+use records::layout::MOST_EXTENTS;
+use records::layout::MOST_EXTENTS_A_LANE;
+use records::layout::MOST_GEOMS;
+use records::layout::MOST_HEIGHTS;
+use records::layout::MOST_HEIGHTS_A_LANE;
+use records::layout::MOST_LANES;
+use records::layout::MOST_LANES_A_SIDE;
+use records::layout::MOST_OFFSETS;
+use records::layout::MOST_PROFILES;
+use records::layout::MOST_SECTIONS;
+use records::layout::MOST_SHAPES;
+use records::layout::MOST_SHAPES_A_PROFILE;
+use records::layout::MOST_SHIFTS;
 use records::layout::NUMBERS_NEEDED;
 use records::layout::OFFSET_COUNT_AT;
 use records::layout::PROFILE_COUNT_AT;
@@ -38,13 +55,16 @@ fn counts_ok(words: &[u16], numbers: &[f64]) -> bool
 {
     let geoms = word(words, GEOM_COUNT_AT);
     let sections = word(words, SECTION_COUNT_AT);
-    let bounded = (1 <= geoms) & (geoms <= 64);
+    let bounded = (1 <= geoms) & (geoms <= MOST_GEOMS);
     let flat = bounded
-        & (word(words, ELEV_COUNT_AT) <= 64)
-        & (word(words, BANK_COUNT_AT) <= 64)
-        & (word(words, OFFSET_COUNT_AT) <= 64)
-        & (word(words, TSHIFT_COUNT_AT) <= 64);
-    flat & (1 <= sections) & (sections <= 16) & (word(words, PROFILE_COUNT_AT) <= 16)
+        & (word(words, ELEV_COUNT_AT) <= MOST_ELEVS)
+        & (word(words, BANK_COUNT_AT) <= MOST_BANKS)
+        & (word(words, OFFSET_COUNT_AT) <= MOST_OFFSETS)
+        & (word(words, TSHIFT_COUNT_AT) <= MOST_SHIFTS);
+    flat
+        & (1 <= sections)
+        & (sections <= MOST_SECTIONS)
+        & (word(words, PROFILE_COUNT_AT) <= MOST_PROFILES)
 }
 
 fn kinds_ok(words: &[u16], numbers: &[f64]) -> bool
@@ -54,7 +74,7 @@ fn kinds_ok(words: &[u16], numbers: &[f64]) -> bool
     let mut ok = true;
     let mut i = 0;
     while i < n {
-        ok = ok & (word(words, KIND_BASE + i) < 3);
+        ok = ok & (word(words, KIND_WORDS + i) < 3);
         i += 1;
     }
     ok
@@ -67,8 +87,20 @@ fn lane_ok(words: &[u16], numbers: &[f64], j: usize) -> bool
 {
     let k = LANE_WORDS + j * LANE_STRIDE;
     let codes = (word(words, k) < 2) & (word(words, k + 1) < 2);
-    let extents = range_ok(0, 16, 512, word(words, k + 2), word(words, k + 3));
-    let heights = range_ok(0, 8, 512, word(words, k + 4), word(words, k + 5));
+    let extents = range_ok(
+        0,
+        MOST_EXTENTS_A_LANE,
+        MOST_EXTENTS,
+        word(words, k + 2),
+        word(words, k + 3),
+    );
+    let heights = range_ok(
+        0,
+        MOST_HEIGHTS_A_LANE,
+        MOST_HEIGHTS,
+        word(words, k + 4),
+        word(words, k + 5),
+    );
     codes & extents & heights
 }
 
@@ -94,7 +126,10 @@ fn section_ok(words: &[u16], numbers: &[f64], i: usize) -> bool
     let first = word(words, k);
     let left = word(words, k + 1);
     let right = word(words, k + 2);
-    if (left <= 6) & (right <= 6) & (first + (left + right) <= 192) {
+    if (left <= MOST_LANES_A_SIDE)
+        & (right <= MOST_LANES_A_SIDE)
+        & (first + (left + right) <= MOST_LANES)
+    {
         lanes_ok(words, numbers, first, left + right)
     } else {
         false
@@ -119,7 +154,13 @@ fn profile_ok(words: &[u16], numbers: &[f64], i: usize) -> bool
     ensures { λ r. ⌜ r ≡ profileOk (now (words .entry)) (now (numbers .entry)) i ⌝ }
 {
     let k = PROFILE_WORDS + i * PROFILE_STRIDE;
-    range_ok(1, 16, 256, word(words, k), word(words, k + 1))
+    range_ok(
+        1,
+        MOST_SHAPES_A_PROFILE,
+        MOST_SHAPES,
+        word(words, k),
+        word(words, k + 1),
+    )
 }
 
 fn profiles_ok(words: &[u16], numbers: &[f64]) -> bool
@@ -140,7 +181,13 @@ fn column_ok(words: &[u16], numbers: &[f64], i: usize, column: usize) -> bool
     ensures { λ r. ⌜ r ≡ columnOk (now (words .entry)) (now (numbers .entry)) i column ⌝ }
 {
     let k = STRIP_WORDS + i * STRIP_STRIDE + 1 + column * 2;
-    range_ok(0, 8, 160, word(words, k), word(words, k + 1))
+    range_ok(
+        0,
+        MOST_CUBICS_A_TERM,
+        MOST_CUBICS,
+        word(words, k),
+        word(words, k + 1),
+    )
 }
 
 fn strip_ok(words: &[u16], numbers: &[f64], i: usize) -> bool

@@ -1,5 +1,5 @@
 -- The words of demand 3 on borders, and the statement `BorderSizes`, at the end. "The borders are the inners and outers of the list written at s; read outward, a side has the inner and outer of its first lane, then of the next; its first lane has none before it."
--- The list has three numbers a lane, inner, outer and width, the left lanes outward, then the right ones. Words from below: `AtMost`, finite and at most so large, `NotOver` (admission_laws, Fractions); `onRoad`, the test of row 7 (bounds).
+-- The list has three numbers a lane, inner, outer and width, the left lanes outward, then the right ones. Words from below: `AtMost`, finite and at most so large, `NotOver` (admission_laws, Fractions); `onRoad`, the test of row 7 (admission, Limits).
 use Prim.Native.Nat.{ℕ, suc, _+_, _*_, _≤_, _<_}
 use mathlib.Core.Path.{_≡_}
 use mathlib.Core.Bool.{Bool, true, false, cond}

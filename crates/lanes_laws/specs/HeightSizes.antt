@@ -1,5 +1,5 @@
 -- What admission says of heights, as one statement, `HeightSizes`, at the end: what a surface point is raised by, at a place of the road, at a lane's borders and across the lane. Document 01, "Values": `shape_at`, the cross section, `height_at`, `side_heights`, and the fraction across a lane.
--- Words from below: `AtMost`, finite and at most so large, `AtMostPart`, the same of a fraction, `Between` (admission_laws, Fractions); `shapeOf`, `crossHeight`, `heightToward`, the heights at t by profiles, by the cross section, and both, `heightOf`, a lane's own (lateral); `heightsAt`, `acrossAt`, a lane's at its borders, with the tangent of the bank (lanes_heights); `heightWithin`, `heightAcross`, those across it, with the fraction kept to 0..1 and as it is (lanes_heights).
+-- Words from below: `AtMost`, finite and at most so large, `AtMostPart`, the same of a fraction, `Between` (admission_laws, Fractions); `shapeOf`, `crossHeight`, `heightToward`, the heights at t by profiles, by the cross section, and both, `heightOf`, a lane's own (lanes, Lateral); `heightsAt`, `acrossAt`, a lane's at its borders, with the tangent of the bank (lanes_heights); `heightWithin`, `heightAcross`, those across it, with the fraction kept to 0..1 and as it is (lanes_heights).
 use Prim.Native.Nat.{ℕ, _<_}
 use mathlib.Core.Path.{_≡_}
 use mathlib.Core.Bool.{Bool, true}

@@ -1,5 +1,5 @@
 -- What admission says of the lanes at a station, as one statement, `LaneSizes`, at the end. Document 01, "Admission": "B at most: .. width lanes 8; border lanes 36"; "Lane heights: size ≤ 2"; "at most 6 a side".
--- Words from below: `AtMost`, finite and at most so large (admission_laws, Fractions); `sectionIndex`, the section at s (records, Roads); `onRoad`, the test of row 7 (bounds).
+-- Words from below: `AtMost`, finite and at most so large (admission_laws, Fractions); `sectionIndex`, the section at s (records, Roads); `onRoad`, the test of row 7 (admission, Limits).
 use Prim.Native.Nat.{ℕ, _≤_, _<_}
 use mathlib.Core.Path.{_≡_}
 use mathlib.Core.Bool.{Bool, true, false}

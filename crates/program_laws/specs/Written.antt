@@ -1,5 +1,5 @@
 -- Document 01, "The program `surface`", of an accepted job, by its text alone and with no word on memory: what is written, and demand 3 on the points. Read the two statements, `WrittenSays` and `WrittenKept`, at the end.
--- Words from below: `outputOf`, the bytes that the program writes (program_output, Output); `linesOf text wantTable`, the lines of want, and `roadSaid (linesOf text)`, the road that a text says (reader_laws, Lines; reader_text_laws, Said); `onRoad`, s in 0..length, and `acrossRoad`, t in -80..80 (bounds, places); `narrowedPoint (surfaceAt ..)`, the f32 point of `surface` (surface_points, Surfaces); `SizedPoint`, finite, x and y at most 2,000,000 in size, z at most 20,000 (surface_laws, Sizes).
+-- Words from below: `outputOf`, the bytes that the program writes (program_output, Output); `linesOf text wantTable`, the lines of want, and `roadSaid (linesOf text)`, the road that a text says (reader_laws, Lines; reader_text_laws, Said); `onRoad`, s in 0..length, and `acrossRoad`, t in -80..80 (admission, Limits; admission_arguments, Arguments); `narrowedPoint (surfaceAt ..)`, the f32 point of `surface` (surface_points, Surfaces); `SizedPoint`, finite, x and y at most 2,000,000 in size, z at most 20,000 (surface_laws, Sizes).
 use Prim.Native.Nat.{ℕ}
 use mathlib.Core.Path.{_≡_}
 use mathlib.Core.Bool.{true, cond}

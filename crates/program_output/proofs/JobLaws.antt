@@ -22,7 +22,7 @@ use Rattle.reader_calls.specs.Reading.{Outcome, done, stop, readingOf, verdictO
 use Rattle.reader_laws.proofs.ReadTables.{accepted}
 use Rattle.reader_hex.specs.Digits.{bytesOf}
 use Rattle.program_output.specs.Lines.{namesLine, numberLine, refusedLine}
-use Rattle.program_output.specs.Output.{wantLines, wantsText, writtenFor, outputOf, answeredIn, wantsRead}
+use Rattle.program_output.specs.Output.{wantLines, wantsText, writtenFor, outputOf, answeredIn, bytesWritten}
 use Rattle.program_output.proofs.Writing.{after}
 use Rattle.program_output.proofs.LineLaws.{length-number}
 use Rattle.program_output.proofs.OutputLaws.{lines-few}
@@ -130,13 +130,13 @@ module _ (text : List ℕ) where
 
   -- ---- the contract of `answer`
 
-  pub answered-short : (out : List ℕ) → length out < 986 → (0 ≡ wantsRead text out) × (out ≡ answeredIn text out)
+  pub answered-short : (out : List ℕ) → length out < 986 → (0 ≡ bytesWritten text out) × (out ≡ answeredIn text out)
   answered-short out h = rw (lt-leb 986 (length out) h) (refl, refl)
 
   put-is : (out vs : List ℕ) → length vs ≤ length out → sets out 0 vs ≡ vs ++ drop (length vs) out
   put-is out vs h = let l : 0 + length vs ≤ length out = omega arith in sets-eq vs out 0 l ∙ ap (λ (k : ℕ). vs ++ drop k out) (zero-add (length vs))
 
-  pub answered : (out : List ℕ) {r : ℕ} {t ys : List ℕ} → 986 ≤ length out → t ≡ writtenFor (readingOf text 1347 7937 32) → r ≡ length t → ys ≡ sets out 0 t → (r ≡ wantsRead text out) × (ys ≡ answeredIn text out)
+  pub answered : (out : List ℕ) {r : ℕ} {t ys : List ℕ} → 986 ≤ length out → t ≡ writtenFor (readingOf text 1347 7937 32) → r ≡ length t → ys ≡ sets out 0 t → (r ≡ bytesWritten text out) × (ys ≡ answeredIn text out)
   unfolding outputOf
   answered out {r} {t} {ys} h e f g =
       let k = few-by (readingOf text 1347 7937 32) refl in
@@ -145,7 +145,7 @@ module _ (text : List ℕ) where
       rw (le-leb 986 (length out) h) (f ∙ ap length e, w)
 
   -- what was written lies within out
-  pub count-fits : (out : List ℕ) → wantsRead text out ≤ length out
+  pub count-fits : (out : List ℕ) → bytesWritten text out ≤ length out
   unfolding outputOf
   count-fits out = go (leb 986 (length out)) refl
     where

@@ -40,10 +40,10 @@ outputOf text = writtenFor (readingOf text wordsNeeded numbersNeeded wantsNeeded
 abbrev pub outputNeeded : ℕ
 outputNeeded = 986
 
--- out afterwards: the text at its start, the rest as it was. A slice of fewer bytes than that is left alone.
+-- out afterwards: the text at its start, the rest as it was. A slice of fewer than outputNeeded bytes is left alone.
 abbrev pub answeredIn : List ℕ → List ℕ → List ℕ
 answeredIn text out = cond (leb outputNeeded (length out)) (outputOf text ++ drop (length (outputOf text)) out) out
 
 -- how many bytes were written
-abbrev pub wantsRead : List ℕ → List ℕ → ℕ
-wantsRead text out = cond (leb outputNeeded (length out)) (length (outputOf text)) 0
+abbrev pub bytesWritten : List ℕ → List ℕ → ℕ
+bytesWritten text out = cond (leb outputNeeded (length out)) (length (outputOf text)) 0

@@ -20,7 +20,7 @@ ghost use Rattle.records.specs.Roads.{roadOf};
 ghost use Rattle.line_samples.specs.Samples.{samplesOf};
 ghost use Rattle.admission.specs.Admission.{admitted};
 ghost use Rattle.program_output.specs.Lines.{refusedLine};
-ghost use Rattle.program_output.specs.Output.{outputNeeded, wantLines, wantsText, wantsRead, answeredIn};
+ghost use Rattle.program_output.specs.Output.{outputNeeded, wantLines, wantsText, bytesWritten, answeredIn};
 
 // The most bytes that are written: the names' 10, and 61 for each of 16 wants.
 pub const OUTPUT_NEEDED: usize = 986;
@@ -94,7 +94,7 @@ fn answer_wants(words: &[u16], numbers: &[f64], wants: &[u64], n: usize, out: &m
 // The text that the program writes for a job text, put at the start of out, and its length. Nothing is written and the answer is 0 where out has
 // fewer bytes than the longest takes.
 pub fn answer(text: &[u8], out: &mut [u8]) -> usize
-    ensures { λ r. ⌜ r ≡ wantsRead (now (text .entry)) (now (out .entry)) ⌝ }
+    ensures { λ r. ⌜ r ≡ bytesWritten (now (text .entry)) (now (out .entry)) ⌝ }
     ensures { λ _. ⌜ now (out .exit) ≡ answeredIn (now (text .entry)) (now (out .entry)) ⌝ }
 {
     if out.len() < OUTPUT_NEEDED {

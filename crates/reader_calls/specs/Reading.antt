@@ -1,4 +1,4 @@
--- Document 01, "What a call gives back" and "The job text": a whole text, read. "Reading checks 1 to 5"; "Values 2's slice and length tests precede all lines;
+-- Document 01, "What a call gives back" and "The job text": a whole text, read. "Reading checks 1 to 5"; "Row 2's slice and length tests precede all lines;
 -- then a line is tested for 1 before 2. A refused reading leaves zeros in all road slices, an accepted one zeros past the last line". Read `readingOf` first.
 use Prim.Native.Nat.{ℕ, zero, suc, _+_}
 use mathlib.Core.Bool.{_&&_, cond}
@@ -88,7 +88,7 @@ judge (stop m) = stop m
 abbrev pub textMost : ℕ
 textMost = 65536
 
--- A reading into slices that hold zeros. "Values 2's slice and length tests precede all lines": "a lent road slice is shorter than the limits need, or the text is over 65,536 bytes".
+-- A reading into slices that hold zeros. "Row 2's slice and length tests precede all lines": "a lent road slice is shorter than the limits need, or the text is over 65,536 bytes".
 unfoldable pub readingBy : List ℕ → List ℕ → List Float → List ℕ → Outcome
 readingBy text ws ns vs =
     cond ((leb wordsNeeded (length ws) && leb numbersNeeded (length ns)) && leb wantsNeeded (length vs))

@@ -6,7 +6,7 @@ use mathlib.Core.List.{List}
 use native.Mathlib.Omega.{arith}
 use borrow.Author.Tests.{lt-ltb, le-ltb, eq-eqb, ne-eqb}
 use lib.Ieee.{Float, nan, inf, fin, isNan}
-use Rattle.reader_schema.specs.Schema.{columnCount, placeOf}
+use Rattle.reader_schema.specs.Schema.{wordCount, placeOf}
 use Rattle.reader_cells.specs.Cells.{byteAt, nameSpan, naturalAt, hexAt, wholeAt, listedAt, cellAt}
 use Rattle.reader_cells.specs.declared.names.Span.{Span}
 use Rattle.reader_cells.specs.declared.values.Cell.{Cell}
@@ -42,7 +42,7 @@ module _ (text : List ℕ) (at : ℕ) {b : ℕ} (e : b ≡ byteAt text at) {n : 
     unfolding wholeAt
     plus-some g = rw (← e, ne-eqb b 45 h, ← f, ne-eqb (n .next) at g)
 
-module _ (text : List ℕ) (at list : ℕ) {w : Span} {i n : ℕ} (e : w ≡ nameSpan text at) (f : i ≡ placeOf list (w .value)) (g : n ≡ columnCount list) where
+module _ (text : List ℕ) (at list : ℕ) {w : Span} {i n : ℕ} (e : w ≡ nameSpan text at) (f : i ≡ placeOf list (w .value)) (g : n ≡ wordCount list) where
   pub listed-found : i < n → Value i (w .next) ≡ listedAt text at list
   unfolding listedAt
   listed-found h = rw (← e, ← f, ← g, lt-ltb i n h)

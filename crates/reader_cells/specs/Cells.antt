@@ -8,7 +8,7 @@ use lib.ListN.{getD}
 use lib.Dec.{leb, ltb, eqb}
 pub use Rattle.reader_hex.specs.Hex.{byteAt}
 unfoldable pub use Rattle.reader_hex.specs.Hex.{digitOf}
-use Rattle.reader_schema.specs.Schema.{anF64, aWhole, kindBy, columnCount, placeOf}
+use Rattle.reader_schema.specs.Schema.{anF64, aWhole, kindBy, wordCount, placeOf}
 use Rattle.reader_cells.specs.declared.names.Span.{Span}
 use Rattle.reader_cells.specs.declared.values.Cell.{Cell}
 use Rattle.reader_cells.specs.declared.values.Cell.the-variants.{Value, Broken}
@@ -62,7 +62,7 @@ hexAt text at = hexFrom 16 text at 0
 
 -- "A word outside a column's listed ones is 1": one of the list's words, kept as its place there, else broken
 abbrev pub listedIn : ℕ → Span → Cell
-listedIn list w = cond (ltb (placeOf list (w .value)) (columnCount list)) (Value (placeOf list (w .value)) (w .next)) Broken
+listedIn list w = cond (ltb (placeOf list (w .value)) (wordCount list)) (Value (placeOf list (w .value)) (w .next)) Broken
 
 unfoldable pub listedAt : List ℕ → ℕ → ℕ → Cell
 listedAt text at list = listedIn list (nameSpan text at)

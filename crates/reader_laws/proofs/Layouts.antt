@@ -13,7 +13,7 @@ use Rattle.records_cubic.specs.declared.cubics.Cubic.{Cubic}
 use Rattle.records_cubic.specs.Cubics.{cubicAt}
 use Rattle.records_cubic.proofs.CubicTables.{cubic-count, cubic-in}
 use Rattle.records.specs.declared.points.HeightDef.{HeightDef}
-use Rattle.records.specs.Layout.{lengthPlace, profileCountAt, geomBase, geomStride, elevBase, bankBase, offsetBase, tshiftBase, sectionBase, extentBase, heightBase, profileBase, shapeBase, cubicBase, numbersNeeded, cubicStride, heightStride, kindBase, sectionWords, sectionStride, laneWords, laneStride, profileWords, profileStride, stripWords, stripStride, wordsNeeded, wantStride, wantsNeeded}
+use Rattle.records.specs.Layout.{lengthPlace, profileCountAt, geomBase, geomStride, elevBase, bankBase, offsetBase, tshiftBase, sectionBase, extentBase, heightBase, profileBase, shapeBase, cubicBase, numbersNeeded, cubicStride, heightStride, kindWords, sectionWords, sectionStride, laneWords, laneStride, profileWords, profileStride, stripWords, stripStride, wordsNeeded, wantStride, wantsNeeded}
 use Rattle.records.specs.Roads.{Lane, roadOf, geomShapeOf, geomIn, unusedIn, unusedOf, laneIn, sectionIn, profileIn, cubicsIn, heightsIn, heightDefAt, columnIn}
 use Rattle.records.proofs.CubicLaws.{height-count, height-in}
 use Rattle.reader_schema.specs.Tables.{geomTable, elevTable, bankTable, offsetTable, tshiftTable, sectionTable, laneTable, extentTable, heightTable, profileTable, shapeTable, stripTable, cubicTable, wantTable}
@@ -35,8 +35,8 @@ unfolding limits limitOf
 limits-join = refl
 
 pub word-limits-join :
-    ((profileCountAt + 1) ∷ (kindBase + limitOf geomTable) ∷ (sectionWords + limitOf sectionTable * sectionStride) ∷ (laneWords + limitOf laneTable * laneStride) ∷ (profileWords + limitOf profileTable * profileStride) ∷ (stripWords + limitOf stripTable * stripStride) ∷ [])
-    ≡ kindBase ∷ sectionWords ∷ laneWords ∷ profileWords ∷ stripWords ∷ wordsNeeded ∷ []
+    ((profileCountAt + 1) ∷ (kindWords + limitOf geomTable) ∷ (sectionWords + limitOf sectionTable * sectionStride) ∷ (laneWords + limitOf laneTable * laneStride) ∷ (profileWords + limitOf profileTable * profileStride) ∷ (stripWords + limitOf stripTable * stripStride) ∷ [])
+    ≡ kindWords ∷ sectionWords ∷ laneWords ∷ profileWords ∷ stripWords ∷ wordsNeeded ∷ []
 unfolding limits limitOf
 word-limits-join = refl
 
@@ -120,18 +120,18 @@ column-place i column = omega arith
 module _ (ws : List ℕ) (ns : List Float) where
   -- the number and the word that a reader keeps for a column of line k, and how many lines it keeps count of
   abbrev pub numberOf : ℕ → ℕ → ℕ → Float
-  numberOf tabulate k column = getD ns (placeAt tabulate 0 + k * placeAt tabulate 1 + (numberPlace tabulate column - 1)) nan
+  numberOf table k column = getD ns (placeAt table 0 + k * placeAt table 1 + (numberPlace table column - 1)) nan
 
   abbrev pub codeOf : ℕ → ℕ → ℕ → ℕ
-  codeOf tabulate k column = getD ws (placeAt tabulate 2 + k * placeAt tabulate 3 + (wordPlace tabulate column - 1)) 0
+  codeOf table k column = getD ws (placeAt table 2 + k * placeAt table 3 + (wordPlace table column - 1)) 0
 
   abbrev pub linesOf : ℕ → ℕ
-  linesOf tabulate = getD ws (countPlace tabulate - 1) 0
+  linesOf table = getD ws (countPlace table - 1) 0
 
   -- five columns from a column on: start a b c d
   abbrev pub cubicOf : ℕ → ℕ → ℕ → Cubic
-  cubicOf tabulate column k =
-      record { start = numberOf tabulate k column; a = numberOf tabulate k (column + 1); b = numberOf tabulate k (column + 2); c = numberOf tabulate k (column + 3); d = numberOf tabulate k (column + 4) }
+  cubicOf table column k =
+      record { start = numberOf table k column; a = numberOf table k (column + 1); b = numberOf table k (column + 2); c = numberOf table k (column + 3); d = numberOf table k (column + 4) }
 
   -- geom: s x y hdg length kind k0 k1
   pub geom-join : (i : ℕ)
@@ -236,7 +236,7 @@ module _ (ws : List ℕ) (ns : List Float) where
   unfolding profileIn placeAt places numberPlace numbers baseOf bases strideOf strides
   profile-join i = rw (one-more 5841 i)
 
-  -- the cubics of a strip's width or of a term: the range that `termOf` counts up, see term-join
+  -- the cubics of a strip's width or of a term: the range that `termOf` counts up
   pub column-join : (i column : ℕ) → columnIn ws ns i column ≡ cubicsIn ws ns (placeAt 13 0) (firstOf 5 (i * 11 + column * 2)) (countOf 5 (i * 11 + column * 2))
   unfolding columnIn placeAt places baseOf bases strideOf strides
   column-join i column = ap (λ (p : ℕ). cubicsIn ws ns 7137 (getD ws p 0) (getD ws (p + 1) 0)) (column-place i column)

@@ -51,7 +51,7 @@ abbrev progress : Progress
 progress = record { sound = true; last = 0; strips = stripsOf 2 3 4 1 }
 
 strips-taken : taken stripsLines ≡ done 1086 0 progress memoryWords memoryNumbers memoryWants
-unfolding cells-schema.names cells-schema.nameOf cells-schema.limits cells-schema.limitOf cells-schema.words cells-schema.wordOf cells-schema.firsts cells-schema.counts cells-schema.firstOf cells-schema.columnCount cells-schema.kinds cells-schema.columnKind cells-schema.seek cells-schema.placeOf cells-cells.digitOf cells-cells.nameFrom cells-cells.nameSpan cells-cells.decimalFrom cells-cells.naturalAt cells-cells.wholeAt cells-cells.hexFrom cells-cells.hexAt cells-cells.listedAt cells-cells.cellAt rows-namesline.columnAt rows-namesline.namesFrom rows-namesline.headAt rows-valuesline.stopOf rows-valuesline.valuesRead rows-valuesline.valuesAt store-layout.places store-layout.placeAt store-layout.numbers store-layout.numberPlace store-layout.words store-layout.wordPlace store-layout.counts store-layout.countPlace store-layout.rules store-layout.ruleOf store-layout.bases store-layout.baseOf store-layout.strides store-layout.strideOf store-layout.codeOf store-layout.oneMore store-layout.numberPut store-layout.wordPut store-layout.numbersBelow store-layout.wordsBelow store-layout.wantsKept store-layout.countKept store-tracks.stripLine store-tracks.listedAs store-parents.counted store-parents.sideOf store-parents.laneTurn store-parents.laneAmong store-parents.laneIndex store-parents.termOf store-parents.indexOf store-parents.rangeOf store-parents.parentOf store-keep.firstLine store-keep.added store-keep.inOrder store-keep.underWords store-keep.underProgress store-keep.stripsKept store-keep.stripProgress store-keep.ruledWords store-keep.ruledProgress store-keep.keptWords store-keep.keptProgress linesFrom tableAt countedProgress tablesFrom zeros zeroNumbers
+unfolding cells-schema.names cells-schema.nameOf cells-schema.limits cells-schema.limitOf cells-schema.words cells-schema.wordOf cells-schema.firsts cells-schema.counts cells-schema.firstOf cells-schema.wordCount cells-schema.kinds cells-schema.columnKind cells-schema.seek cells-schema.placeOf cells-cells.digitOf cells-cells.nameFrom cells-cells.nameSpan cells-cells.decimalFrom cells-cells.naturalAt cells-cells.wholeAt cells-cells.hexFrom cells-cells.hexAt cells-cells.listedAt cells-cells.cellAt rows-namesline.columnAt rows-namesline.namesFrom rows-namesline.headAt rows-valuesline.stopOf rows-valuesline.valuesRead rows-valuesline.valuesAt store-layout.places store-layout.placeAt store-layout.numbers store-layout.numberPlace store-layout.words store-layout.wordPlace store-layout.counts store-layout.countPlace store-layout.rules store-layout.ruleOf store-layout.bases store-layout.baseOf store-layout.strides store-layout.strideOf store-layout.codeOf store-layout.oneMore store-layout.numberPut store-layout.wordPut store-layout.numbersBelow store-layout.wordsBelow store-layout.wantsKept store-layout.countKept store-tracks.stripLine store-tracks.listedAs store-parents.counted store-parents.sideOf store-parents.laneTurn store-parents.laneAmong store-parents.laneIndex store-parents.termOf store-parents.indexOf store-parents.rangeOf store-parents.parentOf store-keep.firstLine store-keep.added store-keep.inOrder store-keep.underWords store-keep.underProgress store-keep.stripsKept store-keep.stripProgress store-keep.ruledWords store-keep.ruledProgress store-keep.keptWords store-keep.keptProgress linesFrom tableAt countedProgress tablesFrom zeros zeroNumbers
 strips-taken = refl
 
 strips-stands : records-roads.roadOf memoryWords memoryNumbers ≡ stripsRoad

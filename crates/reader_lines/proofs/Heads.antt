@@ -5,7 +5,7 @@ use mathlib.Core.Bool.{Bool, true, false}
 use mathlib.Core.List.{List}
 use native.Mathlib.Omega.{arith}
 use borrow.Author.Tests.{eq-eqb, ne-eqb}
-use Rattle.reader_schema.specs.Schema.{columnCount, placeOf}
+use Rattle.reader_schema.specs.Schema.{wordCount, placeOf}
 use Rattle.reader_cells.specs.Cells.{byteAt, nameSpan}
 use Rattle.reader_cells.specs.declared.names.Span.{Span}
 use Rattle.reader_lines.specs.Columns.{noOrder, allDue, isDue, metIn, orderedBy}
@@ -24,7 +24,7 @@ module _ (text : List ℕ) (at table : ℕ) {b : ℕ} (e : b ≡ byteAt text at)
   unfolding columnAt
   column-some {w} h f g = rw (← e, eq-eqb b 32 h, g, f)
 
-pub head-is : (text : List ℕ) (at table : ℕ) {n : ℕ} {due : Due} {order : Order} → n ≡ columnCount table → due ≡ allDue n → order ≡ noOrder
+pub head-is : (text : List ℕ) (at table : ℕ) {n : ℕ} {due : Due} {order : Order} → n ≡ wordCount table → due ≡ allDue n → order ≡ noOrder
     → headAt text at table ≡ namesFrom (n - 0) text at table 0 due order
 unfolding headAt
 head-is text at table {n} e f g = let z : n - 0 ≡ n = omega arith in rw (z, f, g, e)

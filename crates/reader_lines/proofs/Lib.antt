@@ -1,3 +1,3 @@
 pub mod Past
 pub mod Heads
-pub mod Rows
+pub mod Lines

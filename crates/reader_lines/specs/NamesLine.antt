@@ -4,7 +4,7 @@ use Prim.Native.Nat.{ℕ, zero, suc, _+_}
 use mathlib.Core.Bool.{true, false, cond}
 use mathlib.Core.List.{List}
 use lib.Dec.{eqb}
-use Rattle.reader_schema.specs.Schema.{columnCount, placeOf}
+use Rattle.reader_schema.specs.Schema.{wordCount, placeOf}
 use Rattle.reader_cells.specs.Cells.{byteAt, nameSpan}
 use Rattle.reader_cells.specs.declared.names.Span.{Span}
 use Rattle.reader_lines.specs.Columns.{noOrder, allDue, isDue, metIn, orderedBy}
@@ -41,4 +41,4 @@ namesFrom (suc n) text at table i due order =
 
 -- the line of names of a table, from the place after the table's own name on
 unfoldable pub headAt : List ℕ → ℕ → ℕ → Head
-headAt text at table = namesFrom (columnCount table) text at table 0 (allDue (columnCount table)) noOrder
+headAt text at table = namesFrom (wordCount table) text at table 0 (allDue (wordCount table)) noOrder

@@ -3,7 +3,7 @@ use Prim.Native.Nat.{ℕ, zero, suc, _+_}
 use mathlib.Core.Bool.{true, false, cond}
 use mathlib.Core.List.{List}
 use lib.Dec.{eqb}
-use Rattle.reader_schema.specs.Schema.{columnCount, columnKind}
+use Rattle.reader_schema.specs.Schema.{wordCount, columnKind}
 use Rattle.reader_cells.specs.Cells.{byteAt, cellAt}
 use Rattle.reader_cells.specs.declared.values.Cell.{Cell}
 use Rattle.reader_cells.specs.declared.values.Cell.the-variants.{Value, Broken}
@@ -36,4 +36,4 @@ valuesRead (suc n) text at table order i cells =
 
 -- the line of values at a place, with the columns in the order of the line of names
 unfoldable pub valuesAt : List ℕ → ℕ → ℕ → Order → Values
-valuesAt text at table order = valuesRead (columnCount table) text at table order 0 noCells
+valuesAt text at table order = valuesRead (wordCount table) text at table order 0 noCells

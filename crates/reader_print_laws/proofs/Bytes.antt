@@ -9,7 +9,7 @@ use lib.Dec.{ltb}
 use borrow.Author.Tests.{ltb-true, ltb-false}
 use Rattle.records_lent.specs.Lists.{allBelow}
 use Rattle.admission_structure.proofs.TestLaws.{all-at}
-use Rattle.reader_schema.specs.Schema.{columnCount, columnKind}
+use Rattle.reader_schema.specs.Schema.{wordCount, columnKind}
 use Rattle.reader_cells.specs.Cells.{byteAt}
 use Rattle.reader_lines.specs.Columns.{noCells, cellOf}
 use Rattle.reader_lines.specs.declared.columns.Cells.{Cells}
@@ -48,10 +48,10 @@ module _ (t : ℕ) (small : t < 15) where
       go false e = omega (arith, List·getD-eq-default (columnsLine t) 0 (ltb-false i (length (columnsLine t)) e))
 
   module _ (cells : Cells) (h : LineFits t cells) where
-    word-bytes : (i : ℕ) → i < columnCount t → Bytes (printedWord (columnKind t i) (cellOf cells i))
+    word-bytes : (i : ℕ) → i < wordCount t → Bytes (printedWord (columnKind t i) (cellOf cells i))
     word-bytes i l = dark-bytes (printedWord (columnKind t i) (cellOf cells i)) (cell-word (columnKind t i) (cellOf cells i) (h .cell i l) .darkness)
 
-    values-bytes : (n i : ℕ) → i + n ≤ columnCount t → Bytes (printedLine (valuesFrom n t i cells))
+    values-bytes : (n i : ℕ) → i + n ≤ wordCount t → Bytes (printedLine (valuesFrom n t i cells))
     unfolding printedLine valuesFrom
     values-bytes zero i l = more 10 [] (omega arith) none
     values-bytes (suc zero) i l = joined (printedWord (columnKind t i) (cellOf cells i)) (10 ∷ []) (word-bytes i (omega arith)) (more 10 [] (omega arith) none)
@@ -61,7 +61,7 @@ module _ (t : ℕ) (small : t < 15) where
 
     line-bytes : Bytes (valuesLine t cells)
     unfolding valuesLine
-    line-bytes = values-bytes (columnCount t) 0 (omega arith)
+    line-bytes = values-bytes (wordCount t) 0 (omega arith)
 
   lines-bytes : (rows : List Cells) → ((k : ℕ) → k < length rows → LineFits t (getD rows k noCells)) → Bytes (valuesLines t rows)
   unfolding valuesLines

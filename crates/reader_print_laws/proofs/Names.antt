@@ -8,7 +8,7 @@ use mathlib.Core.List.{List, [], _∷_, _++_}
 use lib.ListN.{length, drop}
 use lib.Dec.{ltb, eqb}
 use Rattle.reader_schema.specs.Schema as schema
-use Rattle.reader_schema.specs.Schema.{nameOf, columnCount}
+use Rattle.reader_schema.specs.Schema.{nameOf, wordCount}
 use Rattle.reader_cells.specs.Cells.{byteAt, spanOf, nameFrom, nameSpan}
 use Rattle.reader_cells.specs.declared.names.Span.{Span}
 use Rattle.reader_lines.specs.NamesLine.{headAt, columnAt, namesFrom, noHead, namedBy}
@@ -31,10 +31,10 @@ good at order = record { good = true; next = at; order = order }
 
 -- a name that stands, and the columns' names after it
 abbrev NamesRead : ℕ → List ℕ → ℕ → Type 0
-NamesRead table text at = (nameSpan text 0 .value ≡ nameOf table) × (headAt text (nameSpan text 0 .next) table ≡ good at (inOrder (columnCount table)))
+NamesRead table text at = (nameSpan text 0 .value ≡ nameOf table) × (headAt text (nameSpan text 0 .next) table ≡ good at (inOrder (wordCount table)))
 
 names-start : (table : ℕ) → table < 15 → (rest : List ℕ) → NamesRead table (columnsLine table ++ rest) (length (columnsLine table))
-unfolding schema.names schema.nameOf schema.words schema.wordOf schema.firsts schema.counts schema.firstOf schema.columnCount schema.seek schema.placeOf nameFrom nameSpan columnAt namesFrom headAt printedLine wordsOf titleOf columnsLine
+unfolding schema.names schema.nameOf schema.words schema.wordOf schema.firsts schema.counts schema.firstOf schema.wordCount schema.seek schema.placeOf nameFrom nameSpan columnAt namesFrom headAt printedLine wordsOf titleOf columnsLine
 names-start zero h rest = (refl, refl)
 names-start (suc zero) h rest = (refl, refl)
 names-start (suc (suc zero)) h rest = (refl, refl)
@@ -89,8 +89,8 @@ module _ (text : List ℕ) (at : ℕ) where
 
   -- the line of names of a table, read where it stands
   pub names-read : (table : ℕ) → table < 15 → (rest : List ℕ) → drop at text ≡ columnsLine table ++ rest
-      → (nameSpan text at .value ≡ nameOf table) × (headAt text (nameSpan text at .next) table ≡ good (at + length (columnsLine table)) (inOrder (columnCount table)))
+      → (nameSpan text at .value ≡ nameOf table) × (headAt text (nameSpan text at .next) table ≡ good (at + length (columnsLine table)) (inOrder (wordCount table)))
   unfolding headAt
   names-read table h rest e =
       let s : NamesRead table (drop at text) (length (columnsLine table)) = subst (λ (xs : List ℕ). NamesRead table xs (length (columnsLine table))) (sym e) (names-start table h rest) in
-      rw (name-here text at) (s .0, head-moved (columnCount table) (nameSpan (drop at text) 0 .next) table 0 (allDue (columnCount table)) noOrder (length (columnsLine table)) (inOrder (columnCount table)) (s .1))
+      rw (name-here text at) (s .0, head-moved (wordCount table) (nameSpan (drop at text) 0 .next) table 0 (allDue (wordCount table)) noOrder (length (columnsLine table)) (inOrder (wordCount table)) (s .1))

@@ -6,5 +6,5 @@ use Rattle.reader_print_laws.specs.Printing.{printedLine, wordsOf, title
 use Rattle.reader_print_laws.specs.Sample.{SamplePrinted}
 
 pub sample-printed : SamplePrinted
-unfolding schema.columnCount schema.counts schema.columnKind schema.kinds glyphOf hexOf printedLine wordsOf titleOf columnsLine decimalsOf wholeOf printedWord valuesFrom valuesLine valuesLines tableOf tablesOf printed
+unfolding schema.wordCount schema.counts schema.columnKind schema.kinds glyphOf hexOf printedLine wordsOf titleOf columnsLine decimalsOf wholeOf printedWord valuesFrom valuesLine valuesLines tableOf tablesOf printed
 sample-printed = refl

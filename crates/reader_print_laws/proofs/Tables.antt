@@ -7,7 +7,7 @@ use mathlib.Core.List.{List, [], _∷_, _++_, append-assoc}
 use lib.ListN.{length, getD, drop, length-append, length-drop}
 use lib.Ieee.{Float}
 use borrow.Author.Tests.{eq-eqb, le-ltb}
-use Rattle.reader_schema.specs.Schema.{nameOf, limitOf, columnCount}
+use Rattle.reader_schema.specs.Schema.{nameOf, limitOf, wordCount}
 use Rattle.reader_lines.specs.Columns.{noCells}
 use Rattle.reader_lines.specs.declared.columns.Order.{Order}
 use Rattle.reader_lines.specs.declared.columns.Cells.{Cells}
@@ -29,7 +29,7 @@ DoneAt q (stop m) = ⊥
 
 module _ (text : List ℕ) (t : ℕ) (small : t < 15) where
   abbrev order : Order
-  order = inOrder (columnCount t)
+  order = inOrder (wordCount t)
 
   abbrev AllFit : List Cells → Type 0
   AllFit rows = (k : ℕ) → k < length rows → LineFits t (getD rows k noCells)

@@ -11,7 +11,7 @@ use borrow.Author.Tests.{eqb-true, eqb-false, ltb-true}
 use Rattle.records_lent.specs.Lists.{allBelow}
 use Rattle.admission_structure.proofs.TestLaws.{all-at}
 use Rattle.reader_schema.specs.Schema as schema
-use Rattle.reader_schema.specs.Schema.{columnCount}
+use Rattle.reader_schema.specs.Schema.{wordCount}
 use Rattle.reader_cells.specs.Cells.{byteAt}
 use Rattle.reader_lines.specs.Columns.{noOrder, allDue, isDue, metIn, orderedColumn, orderedBy}
 use Rattle.reader_lines.specs.NamesLine.{noHead, columnAt, namesFrom, headAt}
@@ -61,12 +61,12 @@ due-below n (suc (suc (suc (suc (suc (suc zero)))))) e = ltb-true 6 n e
 due-below n (suc (suc (suc (suc (suc (suc (suc zero))))))) e = ltb-true 7 n e
 due-below n (suc (suc (suc (suc (suc (suc (suc (suc c)))))))) e = no-good e
 
-all-test : allBelow (λ t. allBelow (λ c. isDue (allDue (columnCount t)) c) (columnCount t)) 15 ≡ true
-unfolding allBelow schema.columnCount schema.counts
+all-test : allBelow (λ t. allBelow (λ c. isDue (allDue (wordCount t)) c) (wordCount t)) 15 ≡ true
+unfolding allBelow schema.wordCount schema.counts
 all-test = refl
 
-trues-test : allBelow (λ t. eqb (trues (allDue (columnCount t) .of)) (columnCount t)) 15 ≡ true
-unfolding allBelow trues schema.columnCount schema.counts
+trues-test : allBelow (λ t. eqb (trues (allDue (wordCount t) .of)) (wordCount t)) 15 ≡ true
+unfolding allBelow trues schema.wordCount schema.counts
 trues-test = refl
 
 -- ---- the names
@@ -79,28 +79,28 @@ pub record Named (order : Order) (i c : ℕ) : Type 0 where
 
 -- every word names a column of the table, every column is named
 pub record Full (t : ℕ) (order : Order) : Type 0 where
-  pub columns : (j : ℕ) → j < columnCount t → orderedColumn order j < columnCount t
-  pub named : (c : ℕ) → c < columnCount t → Named order (columnCount t) c
+  pub columns : (j : ℕ) → j < wordCount t → orderedColumn order j < wordCount t
+  pub named : (c : ℕ) → c < wordCount t → Named order (wordCount t) c
 
 module _ (t : ℕ) (small : t < 15) where
   record Naming (i : ℕ) (due : Due) (order : Order) : Type 0 where
     long : length (order .of) ≡ 8
-    left : trues (due .of) + i ≡ columnCount t
-    inside : (c : ℕ) → isDue due c ≡ true → c < columnCount t
-    columns : (j : ℕ) → j < i → orderedColumn order j < columnCount t
-    named : (c : ℕ) → c < columnCount t → isDue due c ≡ false → Named order i c
+    left : trues (due .of) + i ≡ wordCount t
+    inside : (c : ℕ) → isDue due c ≡ true → c < wordCount t
+    columns : (j : ℕ) → j < i → orderedColumn order j < wordCount t
+    named : (c : ℕ) → c < wordCount t → isDue due c ≡ false → Named order i c
 
-  naming-start : Naming 0 (allDue (columnCount t)) noOrder
+  naming-start : Naming 0 (allDue (wordCount t)) noOrder
   naming-start =
       record {
         long = refl;
-        left = let e = eqb-true (trues (allDue (columnCount t) .of)) (columnCount t) (all-at (λ t. eqb (trues (allDue (columnCount t) .of)) (columnCount t)) 15 trues-test t small) in omega arith;
-        inside = due-below (columnCount t);
+        left = let e = eqb-true (trues (allDue (wordCount t) .of)) (wordCount t) (all-at (λ t. eqb (trues (allDue (wordCount t) .of)) (wordCount t)) 15 trues-test t small) in omega arith;
+        inside = due-below (wordCount t);
         columns = λ j l. absurd (omega arith);
-        named = λ c l e. let f : isDue (allDue (columnCount t)) c ≡ true = all-at (λ c. isDue (allDue (columnCount t)) c) (columnCount t) (all-at (λ t. allBelow (λ c. isDue (allDue (columnCount t)) c) (columnCount t)) 15 all-test t small) c l in no-good (sym e ∙ f);
+        named = λ c l e. let f : isDue (allDue (wordCount t)) c ≡ true = all-at (λ c. isDue (allDue (wordCount t)) c) (wordCount t) (all-at (λ t. allBelow (λ c. isDue (allDue (wordCount t)) c) (wordCount t)) 15 all-test t small) c l in no-good (sym e ∙ f);
       }
 
-  naming-next : (i : ℕ) (due : Due) (order : Order) (d : ℕ) → i < columnCount t → isDue due d ≡ true → Naming i due order → Naming (i + 1) (metIn due d) (orderedBy order i d)
+  naming-next : (i : ℕ) (due : Due) (order : Order) (d : ℕ) → i < wordCount t → isDue due d ≡ true → Naming i due order → Naming (i + 1) (metIn due d) (orderedBy order i d)
   naming-next i due order d l e a =
       record {
         long = length-set (order .of) i d ∙ a .long;
@@ -113,14 +113,14 @@ module _ (t : ℕ) (small : t < 15) where
       here : orderedColumn (orderedBy order i d) i ≡ d
       here = getD-set-same (order .of) i d 0 (omega (arith, a .long, columns-few t small))
 
-      columns : (j : ℕ) → j < i + 1 → orderedColumn (orderedBy order i d) j < columnCount t
+      columns : (j : ℕ) → j < i + 1 → orderedColumn (orderedBy order i d) j < wordCount t
       columns j m = go (eqb j i) refl
         where
-          go : (b : Bool) → eqb j i ≡ b → orderedColumn (orderedBy order i d) j < columnCount t
+          go : (b : Bool) → eqb j i ≡ b → orderedColumn (orderedBy order i d) j < wordCount t
           go true f = rw (eqb-true j i f, here) (a .inside d e)
           go false f = let z = eqb-false j i f in rw (getD-set-other (order .of) i j d 0 z) (a .columns j (omega (arith, z)))
 
-      named : (c : ℕ) → c < columnCount t → isDue (metIn due d) c ≡ false → Named (orderedBy order i d) (i + 1) c
+      named : (c : ℕ) → c < wordCount t → isDue (metIn due d) c ≡ false → Named (orderedBy order i d) (i + 1) c
       named c m f = go (eqb c d) refl
         where
           go : (b : Bool) → eqb c d ≡ b → Named (orderedBy order i d) (i + 1) c
@@ -129,13 +129,13 @@ module _ (t : ℕ) (small : t < 15) where
               let n = a .named c m (sym (getD-set-other (due .of) d c false false (eqb-false c d g)) ∙ f) in
               record { word = n .word; below = omega (arith, n .below); is = getD-set-other (order .of) i (n .word) d 0 (λ z. omega (arith, n .below)) ∙ n .is }
 
-  names-full : (n : ℕ) (text : List ℕ) (at i : ℕ) (due : Due) (order : Order) → n + i ≡ columnCount t → Naming i due order → namesFrom n text at t i due order .good ≡ true → Full t (namesFrom n text at t i due order .order)
+  names-full : (n : ℕ) (text : List ℕ) (at i : ℕ) (due : Due) (order : Order) → n + i ≡ wordCount t → Naming i due order → namesFrom n text at t i due order .good ≡ true → Full t (namesFrom n text at t i due order .order)
   unfolding namesFrom
   names-full zero text at i due order c a = go (eqb (byteAt text at) 10)
     where
       full : Full t order
       full =
-          let z : i ≡ columnCount t = omega arith in
+          let z : i ≡ wordCount t = omega arith in
           record { columns = λ j l. a .columns j (omega arith); named = λ d l. subst (λ (m : ℕ). Named order m d) z (a .named d l (none-left (due .of) d (omega (arith, a .left)))) }
 
       go : (b : Bool) → cond b (let h : Head = record { good = true; next = at + 1; order = order } in h) noHead .good ≡ true → Full t (cond b (let h : Head = record { good = true; next = at + 1; order = order } in h) noHead .order)
@@ -152,4 +152,4 @@ module _ (t : ℕ) (small : t < 15) where
 
   pub head-full : (text : List ℕ) (at : ℕ) → headAt text at t .good ≡ true → Full t (headAt text at t .order)
   unfolding headAt
-  head-full text at = names-full (columnCount t) text at 0 (allDue (columnCount t)) noOrder (omega arith) naming-start
+  head-full text at = names-full (wordCount t) text at 0 (allDue (wordCount t)) noOrder (omega arith) naming-start

@@ -9,7 +9,7 @@ use lib.ListN.{length, getD, length-set}
 use lib.Seq.{getD-set-same, getD-set-other}
 use lib.Dec.{eqb}
 use borrow.Author.Tests.{eqb-true, eqb-false}
-use Rattle.reader_schema.specs.Schema.{nameOf, limitOf, columnCount, columnKind}
+use Rattle.reader_schema.specs.Schema.{nameOf, limitOf, wordCount, columnKind}
 use Rattle.reader_cells.specs.Cells.{byteAt, nameSpan, cellAt}
 use Rattle.reader_cells.specs.declared.values.Cell.{Cell}
 use Rattle.reader_cells.specs.declared.values.Cell.the-variants.{Value, Broken}
@@ -31,8 +31,8 @@ use Rattle.reader_print_laws.proofs.TextNames.{Full, head-full}
 
 record LineSized (t : ℕ) (cells : Cells) : Type 0 where
   places : length (cells .of) ≡ 8
-  sized : (c : ℕ) → c < columnCount t → Sized (columnKind t c) (cellOf cells c)
-  rest : (c : ℕ) → columnCount t ≤ c → cellOf cells c ≡ 0
+  sized : (c : ℕ) → c < wordCount t → Sized (columnKind t c) (cellOf cells c)
+  rest : (c : ℕ) → wordCount t ≤ c → cellOf cells c ≡ 0
 
 module _ (t : ℕ) (small : t < 15) where
   module _ (order : Order) (full : Full t order) where
@@ -40,12 +40,12 @@ module _ (t : ℕ) (small : t < 15) where
     record Kept (i : ℕ) (acc : Cells) : Type 0 where
       places : length (acc .of) ≡ 8
       sized : (j : ℕ) → j < i → Sized (columnKind t (orderedColumn order j)) (cellOf acc (orderedColumn order j))
-      rest : (c : ℕ) → columnCount t ≤ c → cellOf acc c ≡ 0
+      rest : (c : ℕ) → wordCount t ≤ c → cellOf acc c ≡ 0
 
     kept-start : Kept 0 noCells
     kept-start = record { places = refl; sized = λ j l. absurd (omega arith); rest = λ c l. no-cells c }
 
-    kept-next : (i : ℕ) (acc : Cells) (v : ℕ) → i < columnCount t → Sized (columnKind t (orderedColumn order i)) v → Kept i acc → Kept (i + 1) (valuedBy acc (orderedColumn order i) v)
+    kept-next : (i : ℕ) (acc : Cells) (v : ℕ) → i < wordCount t → Sized (columnKind t (orderedColumn order i)) v → Kept i acc → Kept (i + 1) (valuedBy acc (orderedColumn order i) v)
     kept-next i acc v l s a =
         record {
           places = length-set (acc .of) (orderedColumn order i) v ∙ a .places;
@@ -66,7 +66,7 @@ module _ (t : ℕ) (small : t < 15) where
                 go′ true f z = absurd (z (ap (orderedColumn order) (eqb-true j i f)))
                 go′ false f z = let y = eqb-false j i f in omega (arith, y)
 
-    kept-all : (cells : Cells) → Kept (columnCount t) cells → LineSized t cells
+    kept-all : (cells : Cells) → Kept (wordCount t) cells → LineSized t cells
     kept-all cells a =
         record {
           places = a .places;
@@ -74,9 +74,9 @@ module _ (t : ℕ) (small : t < 15) where
           rest = a .rest;
         }
 
-    row-from : (n : ℕ) (text : List ℕ) (at i : ℕ) (acc : Cells) → n + i ≡ columnCount t → Kept i acc → valuesRead n text at t order i acc .good ≡ true → LineSized t (valuesRead n text at t order i acc .cells)
+    row-from : (n : ℕ) (text : List ℕ) (at i : ℕ) (acc : Cells) → n + i ≡ wordCount t → Kept i acc → valuesRead n text at t order i acc .good ≡ true → LineSized t (valuesRead n text at t order i acc .cells)
     unfolding valuesRead
-    row-from zero text at i acc c a = let z : i ≡ columnCount t = omega arith in λ g. kept-all acc (subst (λ (m : ℕ). Kept m acc) z a)
+    row-from zero text at i acc c a = let z : i ≡ wordCount t = omega arith in λ g. kept-all acc (subst (λ (m : ℕ). Kept m acc) z a)
     row-from (suc n) text at i acc c a =
         go (cellAt text at (columnKind t (orderedColumn order i))) refl
         (λ v q e. row-from n text (q + 1) (i + 1) (valuedBy acc (orderedColumn order i) v) (omega arith) (kept-next i acc v (omega arith) (cell-sized text at (columnKind t (orderedColumn order i)) v q e) a))
@@ -94,7 +94,7 @@ module _ (t : ℕ) (small : t < 15) where
 
     row-sized : (text : List ℕ) (at : ℕ) → valuesAt text at t order .good ≡ true → LineSized t (valuesAt text at t order .cells)
     unfolding valuesAt
-    row-sized text at = row-from (columnCount t) text at 0 noCells (omega arith) kept-start
+    row-sized text at = row-from (wordCount t) text at 0 noCells (omega arith) kept-start
 
   -- ---- lines, at most fuel
 

@@ -10,7 +10,7 @@ use borrow.Author.Tests.{eqb-true, ltb-true, ltb-false, lt-ltb, ne-eqb}
 use Rattle.records_lent.specs.Lists.{allBelow}
 use Rattle.admission_structure.proofs.TestLaws.{all-at, chain-at}
 use Rattle.reader_schema.specs.Schema as schema
-use Rattle.reader_schema.specs.Schema.{columnCount, placeOf}
+use Rattle.reader_schema.specs.Schema.{wordCount, placeOf}
 use Rattle.reader_cells.specs.Cells.{byteAt, nameFrom, nameSpan, listedAt, cellAt}
 use Rattle.reader_cells.specs.declared.values.Cell.the-variants.{Value}
 use Rattle.reader_lines.specs.ValuesLine.{stopOf}
@@ -86,8 +86,8 @@ whole-word cell = go (ltb cell 10000)
 -- ---- the listed words
 
 -- a list has words
-list-below : (list i : ℕ) → i < columnCount list → list < 20
-unfolding schema.columnCount schema.counts
+list-below : (list i : ℕ) → i < wordCount list → list < 20
+unfolding schema.wordCount schema.counts
 list-below list i h = go (ltb list 20) refl
   where
     go : (t : Bool) → ltb list 20 ≡ t → list < 20
@@ -95,17 +95,17 @@ list-below list i h = go (ltb list 20) refl
     go false t = absurd (omega (arith, List·getD-eq-default schema.counts 0 (ltb-false list 20 t)))
 
 -- a test of every word of every list
-all-listed : (p : ℕ → ℕ → Bool) → allBelow (λ list. allBelow (p list) (columnCount list)) 20 ≡ true → (list i : ℕ) → i < columnCount list → p list i ≡ true
-all-listed p e list i h = all-at (p list) (columnCount list) (all-at (λ list. allBelow (p list) (columnCount list)) 20 e list (list-below list i h)) i h
+all-listed : (p : ℕ → ℕ → Bool) → allBelow (λ list. allBelow (p list) (wordCount list)) 20 ≡ true → (list i : ℕ) → i < wordCount list → p list i ≡ true
+all-listed p e list i h = all-at (p list) (wordCount list) (all-at (λ list. allBelow (p list) (wordCount list)) 20 e list (list-below list i h)) i h
 
 abbrev isWord : ℕ → ℕ → Bool
 isWord list i = ltb 0 (length (getD (wordsOf list) i [])) && dark (getD (wordsOf list) i [])
 
-word-test : allBelow (λ list. allBelow (isWord list) (columnCount list)) 20 ≡ true
-unfolding allBelow dark schema.columnCount schema.counts wordsOf
+word-test : allBelow (λ list. allBelow (isWord list) (wordCount list)) 20 ≡ true
+unfolding allBelow dark schema.wordCount schema.counts wordsOf
 word-test = refl
 
-listed-word : (list i : ℕ) → i < columnCount list → Word (getD (wordsOf list) i [])
+listed-word : (list i : ℕ) → i < wordCount list → Word (getD (wordsOf list) i [])
 listed-word list i h =
     let t = chain-at (ltb 0 (length (getD (wordsOf list) i []))) (dark (getD (wordsOf list) i []) ∷ []) (all-listed isWord word-test list i h) in
     record { some = ltb-true 0 (length (getD (wordsOf list) i [])) (t 0); darkness = t 1 }
@@ -115,17 +115,17 @@ abbrev isRead : List ℕ → ℕ → ℕ → Bool
 isRead after list i =
     eqb (placeOf list (nameSpan (getD (wordsOf list) i [] ++ after) 0 .value)) i && eqb (nameSpan (getD (wordsOf list) i [] ++ after) 0 .next) (length (getD (wordsOf list) i []))
 
-read-test : (r : ℕ) (rest : List ℕ) → allBelow (λ list. allBelow (isRead (stopOf r ∷ rest) list) (columnCount list)) 20 ≡ true
-unfolding allBelow schema.columnCount schema.counts schema.words schema.wordOf schema.firsts schema.firstOf schema.seek schema.placeOf wordsOf nameSpan nameFrom stopOf
+read-test : (r : ℕ) (rest : List ℕ) → allBelow (λ list. allBelow (isRead (stopOf r ∷ rest) list) (wordCount list)) 20 ≡ true
+unfolding allBelow schema.wordCount schema.counts schema.words schema.wordOf schema.firsts schema.firstOf schema.seek schema.placeOf wordsOf nameSpan nameFrom stopOf
 read-test zero rest = refl
 read-test (suc r) rest = refl
 
-listed-read : (list i : ℕ) (text : List ℕ) (at r : ℕ) (rest : List ℕ) → i < columnCount list → drop at text ≡ getD (wordsOf list) i [] ++ (stopOf r ∷ rest) → listedAt text at list ≡ Value i (at + length (getD (wordsOf list) i []))
+listed-read : (list i : ℕ) (text : List ℕ) (at r : ℕ) (rest : List ℕ) → i < wordCount list → drop at text ≡ getD (wordsOf list) i [] ++ (stopOf r ∷ rest) → listedAt text at list ≡ Value i (at + length (getD (wordsOf list) i []))
 unfolding listedAt
 listed-read list i text at r rest h e =
     let w = getD (wordsOf list) i [] ++ (stopOf r ∷ rest) in
     let t = chain-at (eqb (placeOf list (nameSpan w 0 .value)) i) (eqb (nameSpan w 0 .next) (length (getD (wordsOf list) i [])) ∷ []) (all-listed (isRead (stopOf r ∷ rest)) (read-test r rest) list i h) in
-    rw (name-here text at, e, eqb-true (placeOf list (nameSpan w 0 .value)) i (t 0), eqb-true (nameSpan w 0 .next) (length (getD (wordsOf list) i [])) (t 1), lt-ltb i (columnCount list) h)
+    rw (name-here text at, e, eqb-true (placeOf list (nameSpan w 0 .value)) i (t 0), eqb-true (nameSpan w 0 .next) (length (getD (wordsOf list) i [])) (t 1), lt-ltb i (wordCount list) h)
 
 -- ---- any cell
 

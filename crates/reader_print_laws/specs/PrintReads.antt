@@ -7,7 +7,7 @@ use mathlib.Core.List.{List}
 use lib.ListN.{length, getD}
 use lib.Ieee.{Float}
 use Rattle.reader_schema.specs.Tables.{roadTable, tableCount, columnsMost}
-use Rattle.reader_schema.specs.Schema.{anF64, aWhole, kindBy, limitOf, columnCount, columnKind}
+use Rattle.reader_schema.specs.Schema.{anF64, aWhole, kindBy, limitOf, wordCount, columnKind}
 use Rattle.reader_cells.specs.Cells.{wholeBias, byteAt}
 use Rattle.reader_lines.specs.Columns.{noCells, cellOf}
 use Rattle.reader_lines.specs.declared.columns.Cells.{Cells}
@@ -20,13 +20,13 @@ use Rattle.reader_print_laws.specs.Printing.{printed}
 pub record CellFits (kind cell : ℕ) : Type 0 where
   pub number : kind ≡ kindBy anF64 → cell < 2 ^ 64
   pub whole : kind ≡ kindBy aWhole → (1 ≤ cell) × (cell ≤ wholeBias + 9999)
-  pub listed : 1 < kind → cell < columnCount kind
+  pub listed : 1 < kind → cell < wordCount kind
 
 -- A line of a table, its cells by column in 01's order: a cell for each column. A line has eight places, and those past the table's columns hold 0.
 pub record LineFits (table : ℕ) (cells : Cells) : Type 0 where
   pub places : length (cells .of) ≡ columnsMost
-  pub cell : (i : ℕ) → i < columnCount table → CellFits (columnKind table i) (cellOf cells i)
-  pub rest : (i : ℕ) → columnCount table ≤ i → cellOf cells i ≡ 0
+  pub cell : (i : ℕ) → i < wordCount table → CellFits (columnKind table i) (cellOf cells i)
+  pub rest : (i : ℕ) → wordCount table ≤ i → cellOf cells i ≡ 0
 
 -- "Line limits for 2 are the counts given": the lines T n of each table n
 pub record Within (T : ℕ → List Cells) : Type 0 where

@@ -7,7 +7,7 @@ use mathlib.Core.List.{List, [], _∷_, _++_, map}
 use lib.ListN.{getD}
 use lib.Dec.{eqb, ltb}
 use Rattle.reader_schema.specs.Tables.{roadTable, tableCount}
-use Rattle.reader_schema.specs.Schema.{anF64, aWhole, kindBy, Table, tables, lists, columnCount, columnKind}
+use Rattle.reader_schema.specs.Schema.{anF64, aWhole, kindBy, Table, tables, lists, wordCount, columnKind}
 use Rattle.reader_cells.specs.Cells.{wholeBias}
 use Rattle.reader_lines.specs.Columns.{cellOf}
 use Rattle.reader_lines.specs.declared.columns.Cells.{Cells}
@@ -50,7 +50,7 @@ valuesFrom zero table i cells = []
 valuesFrom (suc n) table i cells = printedWord (columnKind table i) (cellOf cells i) ∷ valuesFrom n table (i + 1) cells
 
 unfoldable pub valuesLine : ℕ → Cells → List ℕ
-valuesLine table cells = printedLine (valuesFrom (columnCount table) table 0 cells)
+valuesLine table cells = printedLine (valuesFrom (wordCount table) table 0 cells)
 
 unfoldable pub valuesLines : ℕ → List Cells → List ℕ
 valuesLines table [] = []

@@ -3,7 +3,7 @@ use Prim.Native.Nat.{ℕ, suc, _+_, _-_, _<_, _≤_}
 use mathlib.Core.Path.{_≡_}
 use native.Mathlib.Omega.{arith}
 use borrow.Author.Tests.{eq-eqb, ne-eqb}
-use Rattle.reader_schema.specs.Schema.{wordOf, seek, firstOf, columnCount, placeOf}
+use Rattle.reader_schema.specs.Schema.{wordOf, seek, firstOf, wordCount, placeOf}
 
 -- word i of the list, for i below its count
 module _ (first word : ℕ) (limit i : ℕ) {w : ℕ} (e : w ≡ wordOf (first + i)) (l : i < limit) where
@@ -25,6 +25,6 @@ seek-none first word limit i h k =
     let q : i ≡ limit = omega arith in
     rw (z, q)
 
-pub place-is : (list word : ℕ) {first n : ℕ} → first ≡ firstOf list → n ≡ columnCount list → placeOf list word ≡ seek (n - 0) first word 0
+pub place-is : (list word : ℕ) {first n : ℕ} → first ≡ firstOf list → n ≡ wordCount list → placeOf list word ≡ seek (n - 0) first word 0
 unfolding placeOf
 place-is list word {first} {n} e f = let z : n - 0 ≡ n = omega arith in rw (z, ← e, ← f)

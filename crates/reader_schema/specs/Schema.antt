@@ -8,6 +8,7 @@ use mathlib.Core.Bool.{cond}
 use mathlib.Core.List.{List, [], _∷_, _++_, map}
 use lib.ListN.{length, getD}
 use lib.Dec.{eqb, ltb}
+use Rattle.records.specs.Layout.{mostGeoms, mostElevs, mostBanks, mostOffsets, mostShifts, mostSections, mostLanes, mostExtents, mostHeights, mostProfiles, mostShapes, mostCubics, mostWants}
 use Rattle.reader_schema.specs.Tables.{tableCount, columnsMost}
 
 -- What a column holds: an f64, a whole number, or one of a list's words: a geometry's kind; an extent's; the words 0 and 1; a side; a term.
@@ -73,20 +74,20 @@ table s n cs = record { name = s; limit = n; columns = cs }
 abbrev pub tables : List Table
 tables =
     table "road" 1 (number "length" ∷ []) ∷
-    table "geom" 64 (number "s" ∷ number "x" ∷ number "y" ∷ number "hdg" ∷ number "length" ∷ shapeKind "kind" ∷ number "k0" ∷ number "k1" ∷ []) ∷
-    table "elev" 64 (number "start" ∷ abcd) ∷
-    table "bank" 64 (number "start" ∷ abcd) ∷
-    table "offset" 64 (number "start" ∷ abcd) ∷
-    table "tshift" 64 (number "start" ∷ abcd) ∷
-    table "section" 16 (number "start" ∷ []) ∷
-    table "lane" 192 (whole "section" ∷ whole "id" ∷ extentKind "extent" ∷ bit "level" ∷ []) ∷
-    table "extent" 512 (whole "section" ∷ whole "id" ∷ number "start" ∷ abcd) ∷
-    table "height" 512 (whole "section" ∷ whole "id" ∷ number "start" ∷ number "inner" ∷ number "outer" ∷ []) ∷
-    table "profile" 16 (number "s" ∷ []) ∷
-    table "shape" 256 (whole "profile" ∷ number "t" ∷ abcd) ∷
+    table "geom" mostGeoms (number "s" ∷ number "x" ∷ number "y" ∷ number "hdg" ∷ number "length" ∷ shapeKind "kind" ∷ number "k0" ∷ number "k1" ∷ []) ∷
+    table "elev" mostElevs (number "start" ∷ abcd) ∷
+    table "bank" mostBanks (number "start" ∷ abcd) ∷
+    table "offset" mostOffsets (number "start" ∷ abcd) ∷
+    table "tshift" mostShifts (number "start" ∷ abcd) ∷
+    table "section" mostSections (number "start" ∷ []) ∷
+    table "lane" mostLanes (whole "section" ∷ whole "id" ∷ extentKind "extent" ∷ bit "level" ∷ []) ∷
+    table "extent" mostExtents (whole "section" ∷ whole "id" ∷ number "start" ∷ abcd) ∷
+    table "height" mostHeights (whole "section" ∷ whole "id" ∷ number "start" ∷ number "inner" ∷ number "outer" ∷ []) ∷
+    table "profile" mostProfiles (number "s" ∷ []) ∷
+    table "shape" mostShapes (whole "profile" ∷ number "t" ∷ abcd) ∷
     table "strip" 4 (side "side" ∷ bit "place" ∷ bit "relative" ∷ []) ∷
-    table "cubic" 160 (side "side" ∷ bit "place" ∷ term "term" ∷ number "start" ∷ abcd) ∷
-    table "want" 16 (number "s" ∷ number "t" ∷ []) ∷
+    table "cubic" mostCubics (side "side" ∷ bit "place" ∷ term "term" ∷ number "start" ∷ abcd) ∷
+    table "want" mostWants (number "s" ∷ number "t" ∷ []) ∷
     []
 
 -- A word as one number: its bytes, base 256. No word above has more than eight bytes.
@@ -94,12 +95,12 @@ abbrev pub codeFrom : ℕ → String → ℕ
 codeFrom v text.[] = v
 codeFrom v (text._∷_ c s) = codeFrom (v * 256 + code c) s
 
-abbrev pub tableNumber : String → ℕ
-tableNumber s = codeFrom 0 s
+abbrev pub wordNumber : String → ℕ
+wordNumber s = codeFrom 0 s
 
 -- the tables' names, as numbers
 unfoldable pub names : List ℕ
-names = map (λ (t : Table). tableNumber (t .name)) tables
+names = map (λ (t : Table). wordNumber (t .name)) tables
 
 -- the name of a table, as a number
 unfoldable pub nameOf : ℕ → ℕ
@@ -122,7 +123,7 @@ joined (xs ∷ xss) = xs ++ joined xss
 
 -- all words of all lists, one list after another
 unfoldable pub words : List ℕ
-words = map tableNumber (joined lists)
+words = map wordNumber (joined lists)
 
 unfoldable pub wordOf : ℕ → ℕ
 wordOf i = getD words i 0
@@ -141,8 +142,8 @@ counts = map (λ (xs : List String). length xs) lists
 unfoldable pub firstOf : ℕ → ℕ
 firstOf list = getD firsts list 0
 
-unfoldable pub columnCount : ℕ → ℕ
-columnCount list = getD counts list 0
+unfoldable pub wordCount : ℕ → ℕ
+wordCount list = getD counts list 0
 
 -- what a column holds, as one number: 0 an f64, 1 a whole number, else the number of its list of words, the keywords' lists being those after the tables'
 abbrev pub kindBy : Content → ℕ
@@ -173,4 +174,4 @@ seek (suc n) first word i = cond (eqb (wordOf (first + i)) word) i (seek n first
 
 -- the place of a word in a list, the list's count where it is not there
 unfoldable pub placeOf : ℕ → ℕ → ℕ
-placeOf list word = seek (columnCount list) (firstOf list) word 0
+placeOf list word = seek (wordCount list) (firstOf list) word 0

@@ -17,7 +17,7 @@ use crate::tables::TERMS;
 use crate::tables::WHOLE;
 ghost use mathlib.Core.Path.{_≡_};
 ghost use Prim.Native.Nat.{_<_};
-ghost use Rattle.reader_schema.specs.Schema.{firstOf, columnCount, columnKind, wordOf, placeOf, nameOf, limitOf};
+ghost use Rattle.reader_schema.specs.Schema.{firstOf, wordCount, columnKind, wordOf, placeOf, nameOf, limitOf};
 
 // The tables' names, in their order.
 const NAMES: [u64; TABLE_COUNT] = [
@@ -272,7 +272,7 @@ fn first_of(list: usize) -> u8
 
 // How many words a list has: for a table's number, how many columns. 0 past the last list.
 pub fn count_of(list: usize) -> u8
-    ensures { λ r. ⌜ r ≡ columnCount list ⌝ }
+    ensures { λ r. ⌜ r ≡ wordCount list ⌝ }
 {
     if list < LIST_COUNT { COUNTS[list] } else { 0 }
 }

@@ -10,7 +10,7 @@ use mathlib.Core.List.{List, [], _∷_}
 use lib.ListN.{getD, set}
 use lib.Dec.{eqb, ltb}
 use lib.Ieee.{Float, binary64, ofBits}
-use Rattle.records.specs.Layout.{lengthPlace, geomBase, geomStride, elevBase, bankBase, offsetBase, tshiftBase, sectionBase, extentBase, heightBase, profileBase, shapeBase, cubicBase, cubicStride, heightStride, geomCountAt, elevCountAt, bankCountAt, offsetCountAt, tshiftCountAt, sectionCountAt, profileCountAt, kindBase, laneWords, laneStride, profileWords, profileStride, stripWords, wantStride}
+use Rattle.records.specs.Layout.{lengthPlace, geomBase, geomStride, elevBase, bankBase, offsetBase, tshiftBase, sectionBase, extentBase, heightBase, profileBase, shapeBase, cubicBase, cubicStride, heightStride, geomCountAt, elevCountAt, bankCountAt, offsetCountAt, tshiftCountAt, sectionCountAt, profileCountAt, kindWords, laneWords, laneStride, profileWords, profileStride, stripWords, wantStride}
 use Rattle.reader_schema.specs.Tables.{wantTable, columnsMost}
 use Rattle.reader_lines.specs.Columns.{cellOf}
 use Rattle.reader_lines.specs.declared.columns.Cells.{Cells}
@@ -19,7 +19,7 @@ use Rattle.reader_lines.specs.declared.columns.Cells.{Cells}
 unfoldable pub places : List (List ℕ)
 places =
     (lengthPlace ∷ 1 ∷ 0 ∷ 0 ∷ []) ∷  -- road
-    (geomBase ∷ geomStride ∷ kindBase ∷ 1 ∷ []) ∷  -- geom
+    (geomBase ∷ geomStride ∷ kindWords ∷ 1 ∷ []) ∷  -- geom
     (elevBase ∷ cubicStride ∷ 0 ∷ 0 ∷ []) ∷  -- elev
     (bankBase ∷ cubicStride ∷ 0 ∷ 0 ∷ []) ∷  -- bank
     (offsetBase ∷ cubicStride ∷ 0 ∷ 0 ∷ []) ∷  -- offset

@@ -26,7 +26,7 @@ use records::layout::GEOM_COUNT_AT;
 use records::layout::GEOM_STRIDE;
 use records::layout::HEIGHT_BASE;
 use records::layout::HEIGHT_STRIDE;
-use records::layout::KIND_BASE;
+use records::layout::KIND_WORDS;
 use records::layout::LANE_STRIDE;
 use records::layout::LANE_WORDS;
 use records::layout::LENGTH_PLACE;
@@ -95,7 +95,7 @@ const NUMBER_STRIDES: [u16; TABLE_COUNT] = [
 // A geometry has a word, its kind; a lane's words are those of the layout; the words of the other tables have rules of their own.
 const FIRST_WORDS: [u16; TABLE_COUNT] = [
     0,
-    KIND_BASE as u16,
+    KIND_WORDS as u16,
     0,
     0,
     0,

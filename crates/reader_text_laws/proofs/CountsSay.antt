@@ -34,7 +34,7 @@ use Rattle.reader_text_laws.specs.Counts.{within, every, laneCounts, sec
 use Rattle.reader_text_laws.proofs.Those.{Part, part-same, part-count, numbered-count}
 use Rattle.reader_text_laws.proofs.Every.{all-same, all-pass, all-split, every-table, every-part, every-numbered}
 use Rattle.reader_text_laws.proofs.Lanes.{firstAt, leftsAt, rightsAt}
-use Rattle.reader_text_laws.proofs.LaneRows.{LaneRows, left-part, right-part}
+use Rattle.reader_text_laws.proofs.LaneLines.{LaneRows, left-part, right-part}
 use Rattle.reader_text_laws.proofs.Listed.{geom-cell, lane-cells}
 use Rattle.reader_text_laws.proofs.RoadSays.{words-kept, lane-rows, lane-extent, lane-level, extent-part, height-part, shape-part, column-part, strip-cases, road-says}
 

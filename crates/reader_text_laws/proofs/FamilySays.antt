@@ -27,11 +27,11 @@ use Rattle.reader_text_laws.proofs.Folds.{trackAfter, after-sound, plai
 use Rattle.reader_text_laws.proofs.States.{Reading, state, state-step, state-first, state-end, reading, sound-reading, state-last, state-long, blank}
 use Rattle.reader_text_laws.proofs.Ranges.{extent-ranged, height-ranged, shape-ranged, cubic-ranged, ranges-right}
 use Rattle.reader_text_laws.proofs.Lanes.{sectionIn, lanes-right}
-use Rattle.reader_text_laws.proofs.LaneRows.{and-both, both}
+use Rattle.reader_text_laws.proofs.LaneLines.{and-both, both}
 use Rattle.reader_text_laws.proofs.LaneIds.{ids-kept, id-turn}
 use Rattle.reader_text_laws.proofs.Listed.{strip-cells, cubic-cells}
-use Rattle.reader_text_laws.proofs.ChildRows.{sections-few, lanes-few, profiles-few, lanes, rows-8, counts-8, rows-9, counts-9, extents, heights, shapes, laneAs, extent-parents, height-parents, shape-parents, profile-named, lane-follow, follow-there, follow-order, strips-12}
-use Rattle.reader_text_laws.proofs.StripRows.{stripAt, strips-few, blank-12, seen-13, noted-13, I, cubics, cubic-parents, Term, termAs, term-rank, term-there, two-bits, mods, compared, strips-right}
+use Rattle.reader_text_laws.proofs.ChildLines.{sections-few, lanes-few, profiles-few, lanes, rows-8, counts-8, rows-9, counts-9, extents, heights, shapes, laneAs, extent-parents, height-parents, shape-parents, profile-named, lane-follow, follow-there, follow-order, strips-12}
+use Rattle.reader_text_laws.proofs.StripLines.{stripAt, strips-few, blank-12, seen-13, noted-13, I, cubics, cubic-parents, Term, termAs, term-rank, term-there, two-bits, mods, compared, strips-right}
 
 -- ---- strips by their pairs
 

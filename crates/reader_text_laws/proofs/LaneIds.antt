@@ -22,7 +22,7 @@ use Rattle.reader_text_laws.specs.Said.{those, under, leftUnder, rightUn
 use Rattle.reader_text_laws.specs.Family.{idsOf, idSaid}
 use Rattle.reader_text_laws.proofs.Those.{Part, those-part, part-length}
 use Rattle.reader_text_laws.proofs.Lanes.{firstAt, leftsAt, rightsAt, sectionIn, idIn, Lanes}
-use Rattle.reader_text_laws.proofs.LaneRows.{both, LaneRows, left-part, right-part}
+use Rattle.reader_text_laws.proofs.LaneLines.{both, LaneRows, left-part, right-part}
 
 -- ---- lists
 

@@ -10,7 +10,7 @@ use lib.Dec.{eqb, ltb, leb}
 use borrow.Author.Tests.{ltb-true, lt-leb, ne-eqb}
 use Rattle.records_lent.specs.Lists.{allBelow}
 use Rattle.admission_structure.proofs.TestLaws.{all-at}
-use Rattle.reader_schema.specs.Schema.{nameOf, limitOf, counts, columnCount, kinds, columnKind, placeOf}
+use Rattle.reader_schema.specs.Schema.{nameOf, limitOf, counts, wordCount, kinds, columnKind, placeOf}
 use Rattle.reader_cells.specs.Cells.{byteAt, nameSpan, hexAt, wholeAt, listedAt, cellAt}
 use Rattle.reader_cells.specs.declared.values.Cell.{Cell}
 use Rattle.reader_cells.specs.declared.values.Cell.the-variants.{Value, Broken}
@@ -24,13 +24,13 @@ use Rattle.reader_calls.specs.Reading.{zeros}
 use Rattle.reader_laws.proofs.LowWords.{or-else}
 use Rattle.reader_laws.proofs.CountsKept.{zeros-blank}
 
-some-test : allBelow (λ t. allBelow (λ c. leb (columnKind t c) 1 || ltb 0 (columnCount (columnKind t c))) 8) 15 ≡ true
-unfolding allBelow columnKind kinds columnCount counts
+some-test : allBelow (λ t. allBelow (λ c. leb (columnKind t c) 1 || ltb 0 (wordCount (columnKind t c))) 8) 15 ≡ true
+unfolding allBelow columnKind kinds wordCount counts
 some-test = refl
 
 -- every cell of a column of words is one of them
 abbrev pub Listed : ℕ → Cells → Type 0
-Listed t cells = (c : ℕ) → 1 < columnKind t c → cellOf cells c < columnCount (columnKind t c)
+Listed t cells = (c : ℕ) → 1 < columnKind t c → cellOf cells c < wordCount (columnKind t c)
 
 column-below : (t c : ℕ) → 1 < columnKind t c → c < 8
 unfolding columnKind
@@ -44,15 +44,15 @@ pub no-cells : (c : ℕ) → cellOf noCells c ≡ 0
 unfolding zeros
 no-cells c = zeros-blank 8 c
 
-cell-listed : (text : List ℕ) (at kind v q : ℕ) → 1 < kind → cellAt text at kind ≡ Value v q → v < columnCount kind
+cell-listed : (text : List ℕ) (at kind v q : ℕ) → 1 < kind → cellAt text at kind ≡ Value v q → v < wordCount kind
 unfolding cellAt listedAt
-cell-listed text at kind v q h e = go (ltb (placeOf kind (nameSpan text at .value)) (columnCount kind)) refl (subst (λ (b : Bool). cond b (hexAt text at) (cond (eqb kind 1) (wholeAt text at) (listedAt text at kind)) ≡ Value v q) (ne-eqb kind 0 (λ z. omega arith)) e)
+cell-listed text at kind v q h e = go (ltb (placeOf kind (nameSpan text at .value)) (wordCount kind)) refl (subst (λ (b : Bool). cond b (hexAt text at) (cond (eqb kind 1) (wholeAt text at) (listedAt text at kind)) ≡ Value v q) (ne-eqb kind 0 (λ z. omega arith)) e)
   where
-    go : (b : Bool) → ltb (placeOf kind (nameSpan text at .value)) (columnCount kind) ≡ b → cond (eqb kind 1) (wholeAt text at) (cond b (Value (placeOf kind (nameSpan text at .value)) (nameSpan text at .next)) Broken) ≡ Value v q → v < columnCount kind
+    go : (b : Bool) → ltb (placeOf kind (nameSpan text at .value)) (wordCount kind) ≡ b → cond (eqb kind 1) (wholeAt text at) (cond b (Value (placeOf kind (nameSpan text at .value)) (nameSpan text at .next)) Broken) ≡ Value v q → v < wordCount kind
     go b f = λ g. by b f (subst (λ (x : Bool). cond x (wholeAt text at) (cond b (Value (placeOf kind (nameSpan text at .value)) (nameSpan text at .next)) Broken) ≡ Value v q) (ne-eqb kind 1 (λ z. omega arith)) g)
       where
-        by : (b : Bool) → ltb (placeOf kind (nameSpan text at .value)) (columnCount kind) ≡ b → cond b (Value (placeOf kind (nameSpan text at .value)) (nameSpan text at .next)) Broken ≡ Value v q → v < columnCount kind
-        by true f g = let z : placeOf kind (nameSpan text at .value) ≡ v = cc in subst (λ (n : ℕ). n < columnCount kind) z (ltb-true (placeOf kind (nameSpan text at .value)) (columnCount kind) f)
+        by : (b : Bool) → ltb (placeOf kind (nameSpan text at .value)) (wordCount kind) ≡ b → cond b (Value (placeOf kind (nameSpan text at .value)) (nameSpan text at .next)) Broken ≡ Value v q → v < wordCount kind
+        by true f g = let z : placeOf kind (nameSpan text at .value) ≡ v = cc in subst (λ (n : ℕ). n < wordCount kind) z (ltb-true (placeOf kind (nameSpan text at .value)) (wordCount kind) f)
         by false f g = let z : _≡_ {A = ℕ} 0 1 = cc in absurd (omega arith)
 
 set-either : (xs : List ℕ) (d v c : ℕ) (P : ℕ → Type 0) → (c ≡ d → P v) → P (getD xs c 0) → P (getD (set xs d v) c 0)
@@ -65,8 +65,8 @@ set-either (x ∷ xs) (suc d) v (suc c) P f p = set-either xs d v c P (λ e. f (
 module _ (t : ℕ) (small : t < 15) where
   none-listed : Listed t noCells
   none-listed c h =
-      let b = or-else (leb (columnKind t c) 1) (ltb 0 (columnCount (columnKind t c))) (all-at (λ c. leb (columnKind t c) 1 || ltb 0 (columnCount (columnKind t c))) 8 (all-at (λ t. allBelow (λ c. leb (columnKind t c) 1 || ltb 0 (columnCount (columnKind t c))) 8) 15 some-test t small) c (column-below t c h)) (lt-leb (columnKind t c) 1 h) in
-      subst (λ (n : ℕ). n < columnCount (columnKind t c)) (sym (no-cells c)) (ltb-true 0 (columnCount (columnKind t c)) b)
+      let b = or-else (leb (columnKind t c) 1) (ltb 0 (wordCount (columnKind t c))) (all-at (λ c. leb (columnKind t c) 1 || ltb 0 (wordCount (columnKind t c))) 8 (all-at (λ t. allBelow (λ c. leb (columnKind t c) 1 || ltb 0 (wordCount (columnKind t c))) 8) 15 some-test t small) c (column-below t c h)) (lt-leb (columnKind t c) 1 h) in
+      subst (λ (n : ℕ). n < wordCount (columnKind t c)) (sym (no-cells c)) (ltb-true 0 (wordCount (columnKind t c)) b)
 
   row-from : (n : ℕ) (text : List ℕ) (at : ℕ) (order : Order) (i : ℕ) (cells : Cells) → Listed t cells → Listed t (valuesRead n text at t order i cells .cells)
   unfolding valuesRead
@@ -81,8 +81,8 @@ module _ (t : ℕ) (small : t < 15) where
         where
           listed : Listed t (valuedBy cells (orderedColumn order i) v)
           listed c l =
-              set-either (cells .of) (orderedColumn order i) v c (λ (w : ℕ). w < columnCount (columnKind t c))
-              (λ d. subst (λ (k : ℕ). v < columnCount (columnKind t k)) (sym d) (cell-listed text at (columnKind t (orderedColumn order i)) v q (subst (λ (k : ℕ). 1 < columnKind t k) d l) e)) (h c l)
+              set-either (cells .of) (orderedColumn order i) v c (λ (w : ℕ). w < wordCount (columnKind t c))
+              (λ d. subst (λ (k : ℕ). v < wordCount (columnKind t k)) (sym d) (cell-listed text at (columnKind t (orderedColumn order i)) v q (subst (λ (k : ℕ). 1 < columnKind t k) d l) e)) (h c l)
 
           by : (b : Bool) → Listed t (valuesRead n text (q + 1) t order (i + 1) (valuedBy cells (orderedColumn order i) v) .cells) → Listed t (cond b (valuesRead n text (q + 1) t order (i + 1) (valuedBy cells (orderedColumn order i) v)) noValues .cells)
           by true f = f
@@ -90,7 +90,7 @@ module _ (t : ℕ) (small : t < 15) where
 
   row-listed : (text : List ℕ) (at : ℕ) (order : Order) → Listed t (valuesAt text at t order .cells)
   unfolding valuesAt
-  row-listed text at order = row-from (columnCount t) text at order 0 noCells none-listed
+  row-listed text at order = row-from (wordCount t) text at order 0 noCells none-listed
 
   abbrev LinesListed : Lines → Type 0
   LinesListed (lines rows next) = (k : ℕ) → Listed t (getD rows k noCells)
@@ -144,12 +144,12 @@ pub rows-listed : (text : List ℕ) (t : ℕ) → t < 15 → (k : ℕ) → Liste
 unfolding linesOf
 rows-listed text t h k = tables-listed 15 0 text 0 (omega arith) t t (sym (zero-add t)) h k
 
-list-counts : (columnKind 12 0 ≡ 18) × (columnKind 12 1 ≡ 17) × (columnKind 12 2 ≡ 17) × (columnKind 13 0 ≡ 18) × (columnKind 13 1 ≡ 17) × (columnKind 13 2 ≡ 19) × (columnCount 18 ≡ 2) × (columnCount 17 ≡ 2) × (columnCount 19 ≡ 5) × (columnKind 1 5 ≡ 15) × (columnKind 7 2 ≡ 16) × (columnKind 7 3 ≡ 17) × (columnCount 15 ≡ 3) × (columnCount 16 ≡ 2)
-unfolding columnKind kinds columnCount counts
+list-counts : (columnKind 12 0 ≡ 18) × (columnKind 12 1 ≡ 17) × (columnKind 12 2 ≡ 17) × (columnKind 13 0 ≡ 18) × (columnKind 13 1 ≡ 17) × (columnKind 13 2 ≡ 19) × (wordCount 18 ≡ 2) × (wordCount 17 ≡ 2) × (wordCount 19 ≡ 5) × (columnKind 1 5 ≡ 15) × (columnKind 7 2 ≡ 16) × (columnKind 7 3 ≡ 17) × (wordCount 15 ≡ 3) × (wordCount 16 ≡ 2)
+unfolding columnKind kinds wordCount counts
 list-counts = (refl, refl, refl, refl, refl, refl, refl, refl, refl, refl, refl, refl, refl, refl)
 
-below : (t kind c n : ℕ) (cells : Cells) → columnKind t c ≡ kind → columnCount kind ≡ n → 1 < kind → Listed t cells → cellOf cells c < n
-below t kind c n cells e f h g = let a = g c (omega arith) in subst (λ (m : ℕ). cellOf cells c < m) (ap columnCount e ∙ f) a
+below : (t kind c n : ℕ) (cells : Cells) → columnKind t c ≡ kind → wordCount kind ≡ n → 1 < kind → Listed t cells → cellOf cells c < n
+below t kind c n cells e f h g = let a = g c (omega arith) in subst (λ (m : ℕ). cellOf cells c < m) (ap wordCount e ∙ f) a
 
 pub geom-cell : (text : List ℕ) (k : ℕ) → cellOf (getD (linesOf text 1) k noCells) 5 < 3
 geom-cell text k = below 1 15 5 3 (getD (linesOf text 1) k noCells) (list-counts .9) (list-counts .12) (omega arith) (rows-listed text 1 (omega arith) k)

@@ -37,10 +37,10 @@ use Rattle.reader_text_laws.proofs.Folds.{State}
 use Rattle.reader_text_laws.proofs.States.{state, state-end, state-size, Reading, sound-reading}
 use Rattle.reader_text_laws.proofs.Ranges.{Outside}
 use Rattle.reader_text_laws.proofs.Lanes.{firstAt, leftsAt, rightsAt}
-use Rattle.reader_text_laws.proofs.LaneRows.{LaneRows, left-part, right-part}
+use Rattle.reader_text_laws.proofs.LaneLines.{LaneRows, left-part, right-part}
 use Rattle.reader_text_laws.proofs.Listed.{strip-cells}
-use Rattle.reader_text_laws.proofs.ChildRows.{lanes-few, profiles-few, lanes, lanes-after, frame-8, frame-9, frame-10, frame-11, extent-part-9, height-part-10, shape-part-12}
-use Rattle.reader_text_laws.proofs.StripRows.{end-12, strip-none, strip-one, term-part}
+use Rattle.reader_text_laws.proofs.ChildLines.{lanes-few, profiles-few, lanes, lanes-after, frame-8, frame-9, frame-10, frame-11, extent-part-9, height-part-10, shape-part-12}
+use Rattle.reader_text_laws.proofs.StripLines.{end-12, strip-none, strip-one, term-part}
 
 -- a code that is kept as a word is 1 where the cell is
 code-one : (v : ℕ) → eqb (codeOf v) 1 ≡ eqb v 1

@@ -1,4 +1,4 @@
--- The two statements of specs/TextSays hold. The progress is sound exactly where references and order are right (FamilySays); a sound text leaves what it says (RoadSays, WantRows), and reading's last step asks the progress, then admission, which judges the road that is said (CountsSay).
+-- The two statements of specs/TextSays hold. The progress is sound exactly where references and order are right (FamilySays); a sound text leaves what it says (RoadSays, WantLines), and reading's last step asks the progress, then admission, which judges the road that is said (CountsSay).
 use Prim.Native.Nat.{ℕ, _<_, _≤_}
 use native.Mathlib.Omega.{arith}
 use mathlib.Core.Path.{_≡_, refl, sym, _∙_, ap}
@@ -20,7 +20,7 @@ use Rattle.reader_text_laws.specs.Counts.{saidRows}
 use Rattle.reader_text_laws.specs.TextSays.{Formed, AsSaid, TextSays, ReadSays}
 use Rattle.reader_text_laws.proofs.RoadSays.{road-says}
 use Rattle.reader_text_laws.proofs.CountsSay.{admission-says}
-use Rattle.reader_text_laws.proofs.WantRows.{wants-say, count-says}
+use Rattle.reader_text_laws.proofs.WantLines.{wants-say, count-says}
 use Rattle.reader_text_laws.proofs.FamilySays.{sound-is-family}
 
 module _ (text : List ℕ) (l m n at count : ℕ) (progress : Progress) (ws : List ℕ) (ns : List Float) (vs : List ℕ) where

@@ -78,8 +78,8 @@ abbrev pub profileCountAt : ℕ
 profileCountAt = 6
 
 -- the kind of each geometry
-abbrev pub kindBase : ℕ
-kindBase = 7
+abbrev pub kindWords : ℕ
+kindWords = 7
 
 -- a section: first lane, left lanes, right lanes
 abbrev pub sectionWords : ℕ
@@ -120,3 +120,66 @@ wantStride = 2
 
 abbrev pub wantsNeeded : ℕ
 wantsNeeded = 32
+
+-- ---- how many lines each table has at most, and a parent under it: "in all: lane 192, extent 512, height 512, shape 256, strip 4, cubic 160"
+
+-- "geom: .. (1..64)"
+abbrev pub mostGeoms : ℕ
+mostGeoms = 64
+
+-- "elev, bank, offset, tshift: .. (0..64 each)"
+abbrev pub mostElevs : ℕ
+mostElevs = 64
+
+abbrev pub mostBanks : ℕ
+mostBanks = 64
+
+abbrev pub mostOffsets : ℕ
+mostOffsets = 64
+
+abbrev pub mostShifts : ℕ
+mostShifts = 64
+
+-- "section: start (1..16)"; lanes "at most 6 a side"
+abbrev pub mostSections : ℕ
+mostSections = 16
+
+abbrev pub mostLanesASide : ℕ
+mostLanesASide = 6
+
+abbrev pub mostLanes : ℕ
+mostLanes = 192
+
+-- "extent: .. (0..16 a lane). height: .. (0..8 a lane)"
+abbrev pub mostExtentsALane : ℕ
+mostExtentsALane = 16
+
+abbrev pub mostExtents : ℕ
+mostExtents = 512
+
+abbrev pub mostHeightsALane : ℕ
+mostHeightsALane = 8
+
+abbrev pub mostHeights : ℕ
+mostHeights = 512
+
+-- "profile: s (0..16). shape: .. (1..16 a profile; ..)"
+abbrev pub mostProfiles : ℕ
+mostProfiles = 16
+
+abbrev pub mostShapesAProfile : ℕ
+mostShapesAProfile = 16
+
+abbrev pub mostShapes : ℕ
+mostShapes = 256
+
+-- "cubic: .. 0..8 a term"
+abbrev pub mostCubicsATerm : ℕ
+mostCubicsATerm = 8
+
+abbrev pub mostCubics : ℕ
+mostCubics = 160
+
+-- "want: s t (0..16)"
+abbrev pub mostWants : ℕ
+mostWants = 16

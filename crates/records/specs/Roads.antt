@@ -1,4 +1,4 @@
--- A road as the Rust's `Road` has it, a record of nested lists, and the road that two lent lists stand for. Every definition above this crate speaks of `Road`, never of places.
+-- A road as the Rust's `Road` has it, a record of nested lists, and the road that two lent lists stand for. Definitions above this crate speak of `Road`, never of places, but for row 3's counts and ranges, a side's lines, and reading.
 -- Decoding is total. A code that stands for no listed word, a count over its limit or a range past its table's end is refused by admission (row 3), so what they decode to does not matter.
 use denote.Triple.Both.{Both}
 use denote.Ref.{RefT}
@@ -21,7 +21,7 @@ use Rattle.records.specs.declared.points.Found.the-variants.{At, Nothing
 use Rattle.records_lent.specs.Lists.{tabulate, span}
 use Rattle.records_cubic.specs.Cubics.{cubicsOf}
 use Rattle.records.specs.Active.{lastStart, orFirst, activeUpTo}
-use Rattle.records.specs.Layout.{lengthPlace, geomBase, geomStride, elevBase, bankBase, offsetBase, tshiftBase, sectionBase, extentBase, heightBase, profileBase, shapeBase, cubicBase, cubicStride, heightStride, geomCountAt, elevCountAt, bankCountAt, offsetCountAt, tshiftCountAt, sectionCountAt, profileCountAt, kindBase, sectionWords, sectionStride, laneWords, laneStride, profileWords, profileStride, stripWords, stripStride}
+use Rattle.records.specs.Layout.{lengthPlace, geomBase, geomStride, elevBase, bankBase, offsetBase, tshiftBase, sectionBase, extentBase, heightBase, profileBase, shapeBase, cubicBase, cubicStride, heightStride, geomCountAt, elevCountAt, bankCountAt, offsetCountAt, tshiftCountAt, sectionCountAt, profileCountAt, kindWords, sectionWords, sectionStride, laneWords, laneStride, profileWords, profileStride, stripWords, stripStride}
 
 -- ---- the road
 
@@ -124,10 +124,10 @@ module _ (words : List ℕ) (numbers : List Float) where
 
   -- the i-th geometry, and its unused columns
   unfoldable pub geomIn : ℕ → GeomRec
-  geomIn i = geomFrom (span numbers (geomBase + i * geomStride) geomStride) (wordAt (kindBase + i))
+  geomIn i = geomFrom (span numbers (geomBase + i * geomStride) geomStride) (wordAt (kindWords + i))
 
   unfoldable pub unusedIn : ℕ → List Float
-  unusedIn i = unusedOf (wordAt (kindBase + i)) (numberAt (geomBase + i * geomStride + 5)) (numberAt (geomBase + i * geomStride + 6))
+  unusedIn i = unusedOf (wordAt (kindWords + i)) (numberAt (geomBase + i * geomStride + 5)) (numberAt (geomBase + i * geomStride + 6))
 
   -- count heights, from the first on
   abbrev pub heightsIn : ℕ → ℕ → List HeightDef

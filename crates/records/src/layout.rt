@@ -49,7 +49,7 @@ pub const SECTION_COUNT_AT: usize = 5;
 
 pub const PROFILE_COUNT_AT: usize = 6;
 
-pub const KIND_BASE: usize = 7;
+pub const KIND_WORDS: usize = 7;
 
 // a section: first lane, left lanes, right lanes
 pub const SECTION_WORDS: usize = 71;
@@ -81,3 +81,38 @@ pub const WORDS_NEEDED: usize = 1347;
 pub const WANT_STRIDE: usize = 2;
 
 pub const WANTS_NEEDED: usize = 32;
+
+// ---- how many lines each table has at most, and a parent under it
+pub const MOST_GEOMS: usize = 64;
+
+pub const MOST_ELEVS: usize = 64;
+
+pub const MOST_BANKS: usize = 64;
+
+pub const MOST_OFFSETS: usize = 64;
+
+pub const MOST_SHIFTS: usize = 64;
+
+pub const MOST_SECTIONS: usize = 16;
+
+pub const MOST_LANES_A_SIDE: usize = 6;
+
+pub const MOST_LANES: usize = 192;
+
+pub const MOST_EXTENTS_A_LANE: usize = 16;
+
+pub const MOST_EXTENTS: usize = 512;
+
+pub const MOST_HEIGHTS_A_LANE: usize = 8;
+
+pub const MOST_HEIGHTS: usize = 512;
+
+pub const MOST_PROFILES: usize = 16;
+
+pub const MOST_SHAPES_A_PROFILE: usize = 16;
+
+pub const MOST_SHAPES: usize = 256;
+
+pub const MOST_CUBICS_A_TERM: usize = 8;
+
+pub const MOST_CUBICS: usize = 160;

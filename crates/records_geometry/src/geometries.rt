@@ -4,7 +4,7 @@ use records::GeomShape;
 use records::layout::GEOM_BASE;
 use records::layout::GEOM_COUNT_AT;
 use records::layout::GEOM_STRIDE;
-use records::layout::KIND_BASE;
+use records::layout::KIND_WORDS;
 use records_lent::number;
 use records_lent::part;
 use records_lent::word;
@@ -50,7 +50,7 @@ pub fn geom(words: &[u16], numbers: &[f64], i: usize) -> GeomRec
     if i < word(words, GEOM_COUNT_AT) {
         geom_from(
             part(numbers, GEOM_BASE + i * GEOM_STRIDE, GEOM_STRIDE),
-            word(words, KIND_BASE + i),
+            word(words, KIND_WORDS + i),
         )
     } else {
         geom_from(part(numbers, 0, 0), 0)
@@ -62,7 +62,7 @@ pub fn unused_zero(words: &[u16], numbers: &[f64], i: usize) -> bool
     ensures { λ r. ⌜ r ≡ unusedZero (lentRoad words numbers) i ⌝ }
 {
     if i < word(words, GEOM_COUNT_AT) {
-        let kind = word(words, KIND_BASE + i);
+        let kind = word(words, KIND_WORDS + i);
         let k0 = number(numbers, K0_BASE + i * GEOM_STRIDE) == 0.0;
         let k1 = number(numbers, K1_BASE + i * GEOM_STRIDE) == 0.0;
         unused_of(kind, k0, k1)

@@ -1,5 +1,5 @@
 -- Demand 3 as one statement, `Demand3`: read it last, at the end. Its clauses are the fields of `Kept`. A call's definition gives an `Answer`: a value, or the number of a refusal.
--- Words from below: `IsF64`, `AtMost`, finite and at most so large, and `Between` (admission_laws, Fractions); `MadeFrom`, the samples made from a road (admission_laws, RoadSizes); `SideKept`, the borders of a side (lanes_laws, BorderSizes); `MetKept`, a met position (surface_laws, Positions); `squaresOf`, an axis's squares summed as a fraction (surface_laws, Squares); `onRoad`, `acrossRoad`, the tests of rows 7 and 8, s in 0..length and t in -80..80 (bounds, places).
+-- Words from below: `IsF64`, `AtMost`, finite and at most so large, and `Between` (admission_laws, Fractions); `MadeFrom`, the samples made from a road (admission_laws, RoadSizes); `SideKept`, the borders of a side (lanes_laws, BorderSizes); `MetKept`, a met position (surface_laws, Positions); `squaresOf`, an axis's squares summed as a fraction (surface_laws, Squares); `onRoad`, `acrossRoad`, the tests of rows 7 and 8, s in 0..length and t in -80..80 (admission, Limits; admission_arguments, Arguments).
 use Prim.Native.Nat.{ℕ, suc, _+_, _*_, _≤_, _<_}
 use mathlib.Core.Path.{_≡_}
 use mathlib.Core.Bool.{Bool, true, false}

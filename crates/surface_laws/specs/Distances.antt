@@ -1,5 +1,5 @@
 -- The words of demand 3 on the distance left, in whole numbers: "the root of the sum of the squares of target x less x and target y less y, all exact"; "it is under a bound when that sum is under the bound's square".
--- A finite f64 is (above - below) / den (admission_laws, Fractions); `Ratio`, a fraction of whole numbers, and `plus`, their sum (surface_laws, Squares).
+-- A finite f64 is (positivePart - negativePart) / den (admission_laws, Fractions); `Ratio`, a fraction of whole numbers, and `plus`, their sum (surface_laws, Squares).
 use Prim.Native.Nat.{ℕ, _+_, _-_, _*_, _<_}
 use lib.Ieee.{Float}
 use lib.Ieee.Positive.{den}

@@ -1,6 +1,6 @@
 -- One law for the last cell, one for any other.
 use Prim.Native.Nat.{_-_}
-use Rattle.reader_lines.proofs.Rows.{stop-more, stop-last}
+use Rattle.reader_lines.proofs.Lines.{stop-more, stop-last}
 use Rattle.reader_lines.proofs.values_line.stop_of.Statement.{statement}
 use Rattle.reader_lines.proofs.values_line.stop_of.Tie as tie
 

@@ -5,7 +5,7 @@ use Prim.Native.Nat.{_≤_, _-_}
 use native.Mathlib.Omega.{arith}
 use Rattle.reader_lines.specs.ValuesLine.{valuesRead, valuesAt}
 use lib.ListN.{length}
-use Rattle.reader_lines.proofs.Rows.{valued-past, row-is, row-end, row-broken, row-stop, row-next, stop-inside}
+use Rattle.reader_lines.proofs.Lines.{valued-past, row-is, row-end, row-broken, row-stop, row-next, stop-inside}
 use borrow.Author.Needs.{needs}
 use Rattle.reader_lines.proofs.values_line.values_at.Statement.{statement}
 use Rattle.reader_lines.proofs.values_line.values_at.Tie as tie

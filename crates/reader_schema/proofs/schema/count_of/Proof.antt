@@ -2,7 +2,7 @@
 use mathlib.Core.Path.{sym}
 use Prim.Native.Nat.{_≤_, _-_}
 use lib.ListN.{List·getD-eq-default}
-use Rattle.reader_schema.specs.Schema.{counts, columnCount}
+use Rattle.reader_schema.specs.Schema.{counts, wordCount}
 use borrow.Author.Needs.{needs}
 use Rattle.reader_schema.proofs.schema.count_of.Statement.{statement}
 use Rattle.reader_schema.proofs.schema.count_of.Tie as tie
@@ -11,11 +11,11 @@ array-read-result : tie.Need-array-read-result
 array-read-result c = search needs
 
 returns : tie.Need-returns
-unfolding columnCount counts
+unfolding wordCount counts
 returns c = search needs
 
 returns-2 : tie.Need-returns-2
-unfolding columnCount counts
+unfolding wordCount counts
 returns-2 c = let h : 20 ≤ c .before .args .list = c .if1 .left in sym (List·getD-eq-default counts 0 h)
 
 pub count-of-spec : {M : Type 1} → statement M

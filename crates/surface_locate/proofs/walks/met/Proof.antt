@@ -7,19 +7,15 @@ use Rattle.surface_locate.proofs.misses.near.Reads as near-reads
 use Rattle.admission_arguments.proofs.across.Reads as across-reads
 use Rattle.admission_arguments.proofs.on_road.Reads as on-road-reads
 
--- src/walking.rt:81:5
 on-road-requires : tie.Need-on-road-requires
 on-road-requires c κs = search needs
 
--- src/walking.rt:81:45
 across-requires : tie.Need-across-requires
 across-requires c κs = search needs
 
--- src/walking.rt:81:68
 near-requires : tie.Need-near-requires
 near-requires c κs = search needs
 
--- src/walking.rt:78:1
 returns : tie.Need-returns
 returns c = rw (c .near .ensures, c .before .across .ensures, c .before .before .on-road .ensures)
 

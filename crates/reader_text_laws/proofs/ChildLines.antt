@@ -23,7 +23,7 @@ use Rattle.reader_text_laws.proofs.Folds.{trackAfter, wordsAfter, State
 use Rattle.reader_text_laws.proofs.States.{Reading, state-long, blank, blank-strips, still-10}
 use Rattle.reader_text_laws.proofs.Ranges.{Outside, Parents, Kept, extent-ranged, height-ranged, shape-ranged, ranges-kept}
 use Rattle.reader_text_laws.proofs.Lanes.{counted-there, Lanes, lanes-kept}
-use Rattle.reader_text_laws.proofs.LaneRows.{and-both, both, LaneRows, lane-rows, lane-one, Named, lane-named, lane-found}
+use Rattle.reader_text_laws.proofs.LaneLines.{and-both, both, LaneRows, lane-rows, lane-one, Named, lane-named, lane-found}
 
 -- a parent's range is the lines that a test picks, where the test picks the lines that name it
 pub kept-part : (base stride : ℕ) (Good : ℕ → Type 0) (all : List Cells) (strips : Strips) (ws : List ℕ) (I : Cells → Index) (progress : Progress) (us : List ℕ) → Kept base stride Good all strips ws I (length all) progress us

@@ -6,7 +6,7 @@ use mathlib.Core.List.{List}
 use native.Mathlib.Omega.{arith}
 use borrow.Author.Tests.{eq-eqb, ne-eqb}
 use lib.ListN.{length}
-use Rattle.reader_schema.specs.Schema.{columnCount, columnKind}
+use Rattle.reader_schema.specs.Schema.{wordCount, columnKind}
 use Rattle.reader_cells.specs.Cells.{byteAt, cellAt}
 use Rattle.reader_cells.specs.declared.values.Cell.{Cell}
 use Rattle.reader_cells.specs.declared.values.Cell.the-variants.{Value, Broken}
@@ -30,7 +30,7 @@ pub stop-last : (i n : ℕ) → n ≤ i → 10 ≡ stopOf (n - i)
 unfolding stopOf
 stop-last i n h = let z : n - i ≡ 0 = omega arith in rw z
 
-pub row-is : (text : List ℕ) (at table : ℕ) (order : Order) {n : ℕ} {cells : Cells} → n ≡ columnCount table → cells ≡ noCells
+pub row-is : (text : List ℕ) (at table : ℕ) (order : Order) {n : ℕ} {cells : Cells} → n ≡ wordCount table → cells ≡ noCells
     → valuesAt text at table order ≡ valuesRead (n - 0) text at table order 0 cells
 unfolding valuesAt
 row-is text at table order {n} e f = let z : n - 0 ≡ n = omega arith in rw (z, f, e)

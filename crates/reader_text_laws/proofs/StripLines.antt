@@ -27,9 +27,9 @@ use Rattle.reader_text_laws.proofs.Those.{Part, part-same}
 use Rattle.reader_text_laws.proofs.Folds.{trackAfter, wordsAfter, after-lines, right-lines, State, Step}
 use Rattle.reader_text_laws.proofs.States.{Reading, state-long, still-14}
 use Rattle.reader_text_laws.proofs.Ranges.{Outside, Parents, Kept, cubic-ranged, ranges-kept, one-more}
-use Rattle.reader_text_laws.proofs.LaneRows.{and-both, both}
+use Rattle.reader_text_laws.proofs.LaneLines.{and-both, both}
 use Rattle.reader_text_laws.proofs.Listed.{strip-cells, cubic-cells}
-use Rattle.reader_text_laws.proofs.ChildRows.{kept-part, strips-12, frame-11, blank-11}
+use Rattle.reader_text_laws.proofs.ChildLines.{kept-part, strips-12, frame-11, blank-11}
 
 never : {A : Type 0} → false ≡ true → A
 never e = let z : _≡_ {A = ℕ} 0 1 = cc in absurd (omega arith)
