@@ -1,6 +1,6 @@
 -- From units of the least value to the words of specs/Fractions: num / den is the size over 2^low, above / den the plus part, below / den the minus part; so sizes and orders in units are those of the fractions.
 use Prim.Native.Nat.{ℕ, _+_, _*_, _^_, _≤_, _<_}
-use native.Mathlib.Nat.{zero-mul, mul-pos, le-trans, mul-le-mul-right, mul-lt-mul-of-pos-right, le-of-mul-le-mul-right, lt-of-mul-lt-mul-right}
+use native.Mathlib.Nat.{zero-mul, mul-pos, le-trans, le-of-eq, mul-le-mul-right, mul-lt-mul-of-pos-right, le-of-mul-le-mul-right, lt-of-mul-lt-mul-right}
 use native.Mathlib.Omega.{arith}
 use mathlib.Core.Path.{_≡_, sym, ap, _∙_}
 use mathlib.Core.Bool.{true, false}
@@ -10,7 +10,7 @@ use lib.Ieee.{Float, Format, nan, inf, fin, binary64, low, le, lt}
 use lib.Ieee.Positive.{num, den, den-pos}
 use Rattle.float_laws.proofs.Value.{mag, pl, mi, Real, units-of, le→units, lt→units}
 use Rattle.float_laws.proofs.Size.{Within}
-use Rattle.admission_laws.specs.Fractions.{AtMost, AtMostPart, positivePart, negativePart, NotOver, Under}
+use Rattle.admission_laws.specs.Fractions.{IsF64, AtMost, AtMostPart, positivePart, negativePart, NotOver, Under}
 
 -- ---- sizes
 
@@ -44,6 +44,12 @@ module _ (x bound : Float) (w : Within binary64 x bound) where
 
   pub within-at-most-part : (n d : ℕ) → pl binary64 bound * d ≤ n * 2 ^ low binary64 → AtMostPart n d x
   within-at-most-part n d h = at-most-part binary64 x (w .value) n d (le-trans (mul-le-mul-right d (w .le)) h)
+
+-- and back, to an f64 that is k
+pub at-most-within : (x bound : Float) → IsF64 x → (k : ℕ) → Real binary64 bound × (pl binary64 bound ≡ k * 2 ^ low binary64) × (mi binary64 bound ≡ 0) → AtMost k x → Within binary64 x bound
+at-most-within x bound f k b a =
+    let r : Real binary64 x = record { finite = a .number; fits = f } in
+    record { value = r; bound = b .0; plus = b .2; le = le-trans (at-most-units binary64 x r k a) (le-of-eq (sym (b .1))) }
 
 -- ---- plus and minus parts
 

@@ -172,6 +172,10 @@ pub record Across (t : Float) : Type 0 where
   pub above : T (le (neg halfWidth) t)
   pub below : T (le t halfWidth)
 
+in-the-middle : Across zero64
+unfolding ofBits fits le neg
+in-the-middle = record { fits = tt; above = tt; below = tt }
+
 straight-below : T (le straightCurvature greatestArcCurvature)
 unfolding ofBits le
 straight-below = tt
@@ -401,9 +405,9 @@ module _ (road : Road) (fit : RoadFits road) (ok : limited road ≡ true) where
     shape-within t a =
         value-within (profileAt road i .shapes) (neg greatestShapeStart) greatestShapeStart shapesEnd greatestShape t (shapes-ready t a)
 
-    pub shape-constant-within : (t : Float) → Across t → (j : ℕ) → j < length (profileAt road i .shapes) → Within binary64 (cubicAt (profileAt road i .shapes) j .a) greatestShape
-    shape-constant-within t a j l =
-        constant-within (profileAt road i .shapes) (neg greatestShapeStart) greatestShapeStart shapesEnd greatestShape t (shapes-ready t a) j l
+    pub shape-constant-within : (j : ℕ) → j < length (profileAt road i .shapes) → Within binary64 (cubicAt (profileAt road i .shapes) j .a) greatestShape
+    shape-constant-within j l =
+        constant-within (profileAt road i .shapes) (neg greatestShapeStart) greatestShapeStart shapesEnd greatestShape zero64 (shapes-ready zero64 in-the-middle) j l
 
   -- ---- strips: a width is at most 100, each term at most its greatest bound, the height across at most 88 at most 40
   module _ (i : ℕ) (h : i < 4) (s : Float) (o : OnRoad road s) where

@@ -5,23 +5,24 @@ use mathlib.Core.Path.{_≡_, refl, sym, _∙_, subst}
 use mathlib.Core.Bool.{true}
 use mathlib.Core.List.{List, _++_}
 use lib.Dec.{lit≤}
-use lib.Ieee.{Float, binary64, low, ofBits}
+use lib.Ieee.{Float, binary64, low, ofBits, fits}
 use lib.ListN.{length, drop}
 use Rattle.float_laws.specs.Binary64.{f64, zero64}
-use Rattle.float_laws.proofs.Value.{mag, pl, mi, mag-is}
+use Rattle.float_laws.proofs.Value.{mag, pl, mi, Real, mag-is}
 use Rattle.float_laws.proofs.Interval.{In, le→parts}
 use Rattle.float_laws.proofs.Size.{Within}
 use Rattle.arithmetic_sine.specs.Sine.{sineRange}
+use Rattle.records_cubic.specs.Cubics.{cubicAt}
 use Rattle.records.specs.declared.points.GeomShape.{GeomShape}
 use Rattle.records.specs.declared.points.GeomShape.the-variants.{Line, Arc, Spiral}
 use Rattle.records.specs.Active.{valueIn, slopeIn}
 use Rattle.records.specs.Roads.{Road, roadOf, geomAt, geomIndex, profileAt, stripAt, columnOf}
-use Rattle.admission.specs.Limits.{limited}
+use Rattle.admission.specs.Limits.{farthestAcross, limited}
 use Rattle.admission_laws.specs.Fractions.{IsF64, AllF64, AtMost}
-use Rattle.admission_laws.proofs.FractionLaws.{at-most-part, within-at-most, within-at-most-part, lt-under, below-none}
+use Rattle.admission_laws.proofs.FractionLaws.{at-most-part, within-at-most, within-at-most-part, at-most-within, lt-under, below-none}
 use Rattle.admission_laws.proofs.Fitting.{RoadFits, ShapeFits, road-fits}
 use Rattle.admission_laws.proofs.Places.{on-road, across-of}
-use Rattle.admission_laws.proofs.RoadBounds.{OnRoad, Across, length-within, elevation-within, grade-within, superelevation-within, offset-within, tshift-within, shape-within, strip-width-within}
+use Rattle.admission_laws.proofs.RoadBounds.{OnRoad, Across, length-within, elevation-within, grade-within, superelevation-within, offset-within, tshift-within, shape-within, shape-constant-within, strip-width-within, strip-height-within}
 use Rattle.admission.specs.Admission.{admitted}
 use Rattle.admission.proofs.AdmissionLaws.{admitted-limited, admitted-samples}
 use Rattle.line_calls.proofs.SampleCalls.{samples-written}
@@ -30,7 +31,7 @@ use Rattle.line_samples.specs.declared.points.Pose.{Pose}
 use Rattle.line_samples.specs.Samples.{sampleCount, samplesBefore, samplesNeeded, samplesOf, sampleAt}
 use Rattle.line_pose.specs.Poses.{poseOf}
 use Rattle.line_samples.proofs.SpiralLaws.{count-arc, count-line}
-use Rattle.admission_laws.specs.RoadSizes.{AlongKept, SampleKept, SamplesKept, PoseKept, RoadKept, RoadSizes}
+use Rattle.admission_laws.specs.RoadSizes.{termsAcross, AlongKept, SampleKept, SamplesKept, PoseKept, RoadKept, RoadSizes}
 use Rattle.admission_laws.proofs.Geometry.{PoseWithin}
 use Rattle.admission_laws.proofs.SampleBounds.{SampleWithin, sample-end, sample-turn, sample-far, not-below-zero}
 use Rattle.admission_laws.proofs.PoseBounds.{pose-far, held-within, first-zero, held-rise}
@@ -57,6 +58,10 @@ eight-units = lit≤ tt
 forty-units : pl binary64 (f64 0x4044_0000_0000_0000) ≤ 40 * 2 ^ low binary64
 unfolding ofBits pl
 forty-units = lit≤ tt
+
+farthest-is : Real binary64 farthestAcross × (pl binary64 farthestAcross ≡ 88 * 2 ^ low binary64) × (mi binary64 farthestAcross ≡ 0)
+unfolding ofBits fits pl mi
+farthest-is = (record { finite = tt; fits = tt }, refl, refl)
 
 hundred-units : pl binary64 (f64 0x4059_0000_0000_0000) ≤ 100 * 2 ^ low binary64
 unfolding ofBits pl
@@ -133,6 +138,7 @@ module _ (words : List ℕ) (numbers : List Float) (fitting : AllF64 numbers) (o
         offset = within-at-most (valueIn (road .offsets) s) (f64 0x4020_0000_0000_0000) (offset-within road fit limits s o) 8 eight-units;
         shift = within-at-most (valueIn (road .tshifts) s) (f64 0x4020_0000_0000_0000) (tshift-within road fit limits s o) 8 eight-units;
         strip-width = λ i l. within-at-most (valueIn (columnOf (stripAt road i) 0) s) (f64 0x4059_0000_0000_0000) (strip-width-within road fit limits i l s o) 100 hundred-units;
+        strip-height = λ i l u f m. within-at-most (termsAcross (stripAt road i) s u) (f64 0x4044_0000_0000_0000) (strip-height-within road fit limits i l s o u (at-most-within u farthestAcross f 88 farthest-is m)) 40 forty-units;
       }
 
   shape-kept : (i : ℕ) → i < length (road .profiles) → (t : Float) → Across t → AtMost 40 (valueIn (profileAt road i .shapes) t)
@@ -175,6 +181,7 @@ module _ (words : List ℕ) (numbers : List Float) (fitting : AllF64 numbers) (o
         length-size = within-at-most (road .length) (f64 0x40c3_8800_0000_0000) (length-within road fit limits) 10000 ten-thousand-units;
         along = λ s f on. along-kept s (on-road road s f on);
         shapes = λ i l t f in-t. shape-kept i l t (across-of t f in-t);
+        constants = λ i l j b. within-at-most (cubicAt (profileAt road i .shapes) j .a) (f64 0x4044_0000_0000_0000) (shape-constant-within road fit limits i l j b) 40 forty-units;
         sampled = λ i l. by-shape rest i l (geomAt road i .shape) refl (fit .geoms i .shape);
         pose = λ s f on. pose-of (poseOf road (samplesOf road ++ rest) (geomIndex road s) s) (pose-kept words numbers fitting ok rest s (on-road road s f on));
       }

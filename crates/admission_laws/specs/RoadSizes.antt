@@ -6,9 +6,10 @@ use mathlib.Core.Bool.{true}
 use mathlib.Core.List.{List}
 use lib.Ieee.{Float}
 use lib.ListN.{length}
-use Rattle.float_laws.specs.Binary64.{zero64}
+use Rattle.float_laws.specs.Binary64.{_⊕_, _⊗_, zero64}
+use Rattle.records_cubic.specs.Cubics.{cubicAt}
 use Rattle.records.specs.Active.{valueIn, slopeIn}
-use Rattle.records.specs.Roads.{Road, roadOf, geomAt, geomIndex, profileAt, stripAt, columnOf}
+use Rattle.records.specs.Roads.{Road, Strip, roadOf, geomAt, geomIndex, profileAt, stripAt, columnOf}
 use Rattle.admission.specs.Limits.{onRoad}
 use Rattle.admission_arguments.specs.Arguments.{acrossRoad}
 use Rattle.admission_laws.specs.Fractions.{IsF64, AllF64, AtMost, AtMostPart, negativePart, Under}
@@ -25,6 +26,10 @@ pub record MadeFrom (words : List ℕ) (numbers samples : List Float) : Type 0 w
   pub room : 4 * samplesNeeded (roadOf words numbers) ≤ length lent
   pub written : samples ≡ samplesList words numbers lent
 
+-- "A strip's four terms, .. by Horner": those at s, u across, as the strip's height is worked out; 0 for none
+abbrev pub termsAcross : Strip → Float → Float → Float
+termsAcross strip s u = (((zero64 ⊗ u ⊕ valueIn (columnOf strip 4) s) ⊗ u ⊕ valueIn (columnOf strip 3) s) ⊗ u ⊕ valueIn (columnOf strip 2) s) ⊗ u ⊕ valueIn (columnOf strip 1) s
+
 -- ---- values along the road: "B at most: elev 10,000; bank 0.75; offset, tshift .. 8; .. strip width 100. Elev also [slope] ≤ 1"
 pub record AlongKept (road : Road) (s : Float) : Type 0 where
   pub elevation : AtMost 10000 (valueIn (road .elevations) s)
@@ -33,6 +38,8 @@ pub record AlongKept (road : Road) (s : Float) : Type 0 where
   pub offset : AtMost 8 (valueIn (road .offsets) s)
   pub shift : AtMost 8 (valueIn (road .tshifts) s)
   pub strip-width : (i : ℕ) → i < 4 → AtMost 100 (valueIn (columnOf (stripAt road i) 0) s)
+  -- "at 88: ≤ 40", and nearer
+  pub strip-height : (i : ℕ) → i < 4 → (u : Float) → IsF64 u → AtMost 88 u → AtMost 40 (termsAcross (stripAt road i) s u)
 
 -- ---- samples: distance from 0 to 499.75, x and y at most 1,000,500 in size, the heading at most 3,500
 pub record SampleKept (p : Sample) : Type 0 where
@@ -62,6 +69,8 @@ pub record RoadKept (road : Road) (samples : List Float) : Type 0 where
   pub along : (s : Float) → IsF64 s → onRoad road s ≡ true → AlongKept road s
   -- "shapes 40", of each profile at every t
   pub shapes : (i : ℕ) → i < length (road .profiles) → (t : Float) → IsF64 t → acrossRoad t ≡ true → AtMost 40 (valueIn (profileAt road i .shapes) t)
+  -- "before a profile's first shape its a counts": 40 too, of every shape
+  pub constants : (i : ℕ) → i < length (road .profiles) → (j : ℕ) → j < length (profileAt road i .shapes) → AtMost 40 (cubicAt (profileAt road i .shapes) j .a)
   pub sampled : (i : ℕ) → i < length (road .geoms) → SamplesKept road samples i
   -- of the geometry in use at s
   pub pose : (s : Float) → IsF64 s → onRoad road s ≡ true → PoseKept (poseOf road samples (geomIndex road s) s)

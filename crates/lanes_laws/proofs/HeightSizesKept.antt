@@ -1,7 +1,7 @@
 -- `HeightSizes` holds: the laws of HeightsKept, their bounds turned from f64 to whole numbers and fractions.
 use Prim.Native.Nat.{ℕ, _*_, _^_, _≤_, _<_}
-use native.Mathlib.Nat.{le-trans, le-of-eq}
-use mathlib.Core.Path.{_≡_, refl, sym}
+use native.Mathlib.Nat.{le-of-eq}
+use mathlib.Core.Path.{_≡_, refl}
 use mathlib.Core.Bool.{Bool, true, false}
 use mathlib.Core.List.{List}
 use mathlib.Core.Logic.{inl, inr}
@@ -17,7 +17,7 @@ use Rattle.records.specs.Roads.{Road, roadOf, noLane, sectionOf, sectionIndex}
 use Rattle.admission.specs.Limits.{onRoad}
 use Rattle.admission_arguments.specs.Arguments.{acrossRoad}
 use Rattle.admission_laws.specs.Fractions.{IsF64, AllF64, AtMost, Between}
-use Rattle.admission_laws.proofs.FractionLaws.{at-most-units, within-at-most, within-at-most-part}
+use Rattle.admission_laws.proofs.FractionLaws.{at-most-within, within-at-most, within-at-most-part}
 use Rattle.admission.specs.Admission.{admitted}
 use Rattle.lanes.specs.Lateral.{shapeOf, crossHeight, heightToward, heightOf}
 use Rattle.lanes_laws.proofs.LateralBounds.{two-wide, forty-wide, height-most}
@@ -63,9 +63,7 @@ across-units = lit≤ tt
 
 -- a tangent of size 1 at most
 tangent-within : (x : Float) → IsF64 x → AtMost 1 x → Within binary64 x one
-tangent-within x f a =
-    let r : Real binary64 x = record { finite = a .number; fits = f } in
-    record { value = r; bound = one-is .0; plus = one-is .2; le = le-trans (at-most-units binary64 x r 1 a) (le-of-eq (sym (one-is .1))) }
+tangent-within x f a = at-most-within x one f 1 one-is a
 
 -- ---- an admitted road at s
 
@@ -115,4 +113,5 @@ height-sizes words numbers fitting ok s f on =
       own = own-kept words numbers fitting ok s f on;
       lanes = λ tangent g a right k l. lane-heights-kept words numbers fitting ok s f on tangent (tangent-within tangent g a) right k l;
       bank = within-at-most (tanOf (valueIn (roadOf words numbers .superelevations) s)) one (bank-tangent-kept words numbers fitting ok s f on) 1 (le-of-eq (one-is .1));
+      bank-f64 = bank-tangent-kept words numbers fitting ok s f on .value .fits;
     }

@@ -64,7 +64,7 @@ module _ (road : Road) (a : Admits road) (s : Float) (o : OnRoad road s) where
           values = λ i l.
               profile-within road i t greatestShape
               (λ k e. subst (λ (v : Float). Within binary64 v greatestShape) (value-at (profileAt road i .shapes) t k e) (shape-within road (a .fit) (a .limits) i l t c))
-              (λ e. shape-constant-within road (a .fit) (a .limits) i l t c 0 (a .shapes i l));
+              (λ e. shape-constant-within road (a .fit) (a .limits) i l 0 (a .shapes i l));
           apart = a .order .profiles;
         }
 

@@ -52,6 +52,7 @@ pub record HeightsKept (road : Road) (s : Float) : Type 0 where
       → LaneHeightsKept (heightsAt road (sectionIndex road s) s tangent right k) (acrossAt road (sectionIndex road s) s tangent right k)
   -- as that of the road's bank is
   pub bank : AtMost 1 (tanOf (valueIn (road .superelevations) s))
+  pub bank-f64 : IsF64 (tanOf (valueIn (road .superelevations) s))
 
 -- for every admitted road, at whatever s from 0 to its length
 abbrev pub HeightSizes : Type 0
