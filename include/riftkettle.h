@@ -1,5 +1,8 @@
 /* Riftkettle: road surface points and poses for marking carts. Metres and radians.
  *
+ * What the words mean (s, t, heading, curvature, base, lanes, heights), each number's unit and limit, and a worked example:
+ * docs/ROAD.md.
+ *
  * Every function answers for every argument, allocates nothing, keeps nothing between calls, and reads and writes only what is
  * lent to it. A lent slice is a pointer and then the number of its elements; the pointer is not null, aligned to its element and
  * valid for that many elements (an empty slice needs any such pointer), and what is written through one pointer overlaps nothing
@@ -29,7 +32,7 @@ extern "C" {
 #define RIFTKETTLE_VERSION_MINOR 0
 #define RIFTKETTLE_VERSION_PATCH 0
 
-/* ---- refusals: the numbers of document 01 */
+/* ---- refusals: the numbers of document 01. Which call answers which: docs/ROAD.md, "Refusals" */
 
 #define RIFTKETTLE_REFUSED_FORM 1          /* a line of the job text breaks its form */
 #define RIFTKETTLE_REFUSED_CAPACITY 2      /* the text, or a table of it, is too long, or a slice to read it into is too short */
@@ -48,7 +51,8 @@ extern "C" {
  *
  * Two slices: `words`, at least RIFTKETTLE_WORDS elements (counts, codes and ranges), and `numbers`, at least RIFTKETTLE_NUMBERS
  * elements (all that is an f64). A table's lines stand one after another from its place on, each with the columns listed. Longer
- * slices are allowed; what no count or range names is not read.
+ * slices are allowed; what no count or range names is not read. What each column means, from where its start counts and its limit:
+ * docs/ROAD.md, "Columns".
  *
  * A range (first, count) names lines of a table. first + count is at most the table's lines. Ranges may overlap: two lanes may
  * share their records. */
@@ -64,7 +68,8 @@ extern "C" {
 #define RIFTKETTLE_OFFSET 1089  /*  64: start a b c d */
 #define RIFTKETTLE_TSHIFT 1409  /*  64: start a b c d */
 #define RIFTKETTLE_SECTION 1729 /*  16: start */
-#define RIFTKETTLE_EXTENT 1745  /* 512: start a b c d; start counts from the section's start */
+#define RIFTKETTLE_EXTENT 1745  /* 512: start a b c d; start counts from the section's start; of a border lane the
+                                      t of its outer border, from the reference line */
 #define RIFTKETTLE_HEIGHT 4305  /* 512: start inner outer; start likewise */
 #define RIFTKETTLE_PROFILE 5841 /*  16: s */
 #define RIFTKETTLE_SHAPE 5857   /* 256: t a b c d */
@@ -170,9 +175,9 @@ uint32_t riftkettle_station(const uint16_t *words, size_t n, const double *numbe
 uint32_t riftkettle_axes(const uint16_t *words, size_t n, const double *numbers, size_t m, const double *samples, size_t k, double s,
                          double axes[9]);
 
-/* The surface at s and t, t to the left of the reference line. Writes x, y and z, narrowed, to point, and the reference line's heading
- * at s to *heading. Where lanes, profiles or a cross section stand off the road's plane the point does; past the outermost lane its
- * outer height holds. Refusals: 3, 4, 5, 6, 7, 8. */
+/* The surface at s and t, t in the banked plane, positive to the left; a positive bank raises the left. Writes x, y and z, narrowed, to
+ * point, and the reference line's heading at s to *heading. Where lanes, profiles or a cross section stand off the road's plane the
+ * point does; past the outermost lane its outer height holds. Refusals: 3, 4, 5, 6, 7, 8. */
 uint32_t riftkettle_surface(const uint16_t *words, size_t n, const double *numbers, size_t m, const double *samples, size_t k,
                             double s, double t, float point[3], double *heading);
 

@@ -1,11 +1,10 @@
-/* A road of a line and a spiral in lent memory: its samples, the reference line, the surface, where a point lies on it, and a value in
- * axis counts. Then a road with two lanes, read from a job text: its borders, the lanes named at its want and at other offsets, and a
- * lane's surface. It begins with a test of the floating-point environment.
+/* Reads a job text and asks the library what a controller asks: the surface at each want, lane borders and names, a lane's surface,
+ * where a point of the plan lies on the road. Every answer is either there or a numbered refusal.
  *
- *     rt staticlib riftkettle
- *     gcc -Iinclude examples/c/example.c target/staticlib/libriftkettle.a -o example && ./example
+ *     example [JOB]
  *
- * It writes what examples/c/stdout holds. */
+ * JOB is a job text (docs/JOB-TEXT.md); examples/jobs/lanes_width.job, from the repository's root, if none is named. examples/run.sh
+ * builds and runs this, and the same in C++ and Rust; all write what examples/stdout holds. by_hand.c lays a road itself. */
 #include <inttypes.h>
 #include <stdio.h>
 #include <string.h>
@@ -13,7 +12,8 @@
 
 #include "riftkettle.h"
 
-/* Lent memory is the caller's: static here, so nothing is allocated. Zero is a fine start for what a road does not use. */
+/* Lent memory is the caller's: static here, so nothing is allocated. */
+static uint8_t text[RIFTKETTLE_TEXT + 1]; /* one byte more than a job may have, so that too long a file is refused */
 static uint16_t words[RIFTKETTLE_WORDS];
 static double numbers[RIFTKETTLE_NUMBERS];
 static double samples[RIFTKETTLE_SAMPLES];
@@ -23,29 +23,6 @@ static uint64_t wants[RIFTKETTLE_WANTS];
 #define ROAD words, RIFTKETTLE_WORDS, numbers, RIFTKETTLE_NUMBERS
 #define SAMPLES samples, RIFTKETTLE_SAMPLES
 
-#define ZERO "0000000000000000"
-static const char job[] =
-    "road length\n"
-    "4024000000000000\n"
-    "\n"
-    "geom s x y hdg length kind k0 k1\n"
-    ZERO " " ZERO " " ZERO " " ZERO " 4024000000000000 line " ZERO " " ZERO "\n"
-    "\n"
-    "section start\n"
-    ZERO "\n"
-    "\n"
-    "lane section id extent level\n"
-    "0 1 width 0\n"
-    "0 -1 width 0\n"
-    "\n"
-    "extent section id start a b c d\n"
-    "0 1 " ZERO " 400c000000000000 " ZERO " " ZERO " " ZERO "\n"
-    "0 -1 " ZERO " 4008000000000000 " ZERO " " ZERO " " ZERO "\n"
-    "\n"
-    "want s t\n"
-    "3ff0000000000000 4000000000000000\n"
-    "\n";
-
 /* Exceptions masked, rounding to nearest, neither flush-to-zero nor denormals-are-zero: the state in which a program starts, unless it
  * is linked with -ffast-math. */
 static int usual_environment(void) {
@@ -53,116 +30,106 @@ static int usual_environment(void) {
   return (_mm_getcsr() & (masks | rounding | flush)) == masks;
 }
 
-static void geometry(int i, uint16_t kind, const double columns[RIFTKETTLE_GEOM_STRIDE]) {
-  for (int k = 0; k < RIFTKETTLE_GEOM_STRIDE; k++) {
-    numbers[RIFTKETTLE_GEOM + RIFTKETTLE_GEOM_STRIDE * i + k] = columns[k];
+/* Ends the line if the call refused. */
+static int refused(uint32_t refusal) {
+  static const char *const names[] = {"Form",   "Capacity", "Structure", "Range", "SampleBudget", "SampleSpace", "Station",
+                                      "Offset", "Target",   "Lane",      "BorderSpace",           "CountRange"};
+  if (refusal == 0) {
+    return 0;
   }
-  words[RIFTKETTLE_KIND + i] = kind;
+  printf("refused %" PRIu32 " (%s)\n", refusal, refusal <= 12 ? names[refusal - 1] : "unknown");
+  return 1;
 }
 
-/* A line of 10 m, then a spiral of 2 m. */
-static void lay_road(void) {
-  const double line[RIFTKETTLE_GEOM_STRIDE] = {0, 0, 0, 0, 10, 0, 0};
-  const double spiral[RIFTKETTLE_GEOM_STRIDE] = {10, 10, 0, 0, 2, 0, 0.5};
-  numbers[RIFTKETTLE_LENGTH] = 12;
-  geometry(0, 0, line);
-  geometry(1, 2, spiral);
-  words[RIFTKETTLE_GEOMS] = 2;
-  words[RIFTKETTLE_SECTIONS] = 1;
-}
-
-static void along_road(void) {
-  const double at[3] = {4, 11.5, 13};
-  for (int i = 0; i < 3; i++) {
-    double station[8] = {0};
-    uint32_t refusal = riftkettle_station(ROAD, SAMPLES, at[i], station);
-    printf("station %g: %" PRIu32 ", x %.6f y %.6f heading %.6f\n", at[i], refusal, station[1], station[2], station[3]);
+/* The job into the road and its wants, then the samples of the road's spirals. Writes the number of wants to *count. */
+static int read_job(const char *path, size_t *count) {
+  FILE *file = fopen(path, "rb");
+  if (file == NULL) {
+    perror(path);
+    return 0;
   }
-  double axes[9] = {0};
-  uint32_t refusal = riftkettle_axes(ROAD, SAMPLES, 4, axes);
-  printf("axes at 4: %" PRIu32 ", along %g %g %g, up %g %g %g\n", refusal, axes[0], axes[1], axes[2], axes[6], axes[7], axes[8]);
-  double pose[3] = {0};
-  refusal = riftkettle_pose(ROAD, SAMPLES, 0, 11.5, pose);
-  printf("the line at 11.5: %" PRIu32 ", x %.6f y %.6f heading %.6f\n", refusal, pose[0], pose[1], pose[2]);
+  size_t length = fread(text, 1, sizeof text, file);
+  fclose(file);
+  size_t made = 0;
+  printf("job: ");
+  if (refused(riftkettle_read(text, length, ROAD, wants, RIFTKETTLE_WANTS, count)) || refused(riftkettle_samples(ROAD, SAMPLES, &made))) {
+    return 0;
+  }
+  printf("length %.4f, %zu wants, %zu samples\n", numbers[RIFTKETTLE_LENGTH], *count, made);
+  return 1;
 }
 
-static void surface_and_back(void) {
-  float point[3] = {0};
-  double heading = 0, pair[2] = {0};
-  uint32_t moves = 0, met = 0;
-  uint32_t refusal = riftkettle_surface(ROAD, SAMPLES, 11.5, 2, point, &heading);
-  printf("surface at 11.5, 2: %" PRIu32 ", x %.6f y %.6f z %.6f heading %.6f\n", refusal, point[0], point[1], point[2], heading);
-  refusal = riftkettle_locate(ROAD, SAMPLES, point[0], point[1], 10, pair, &moves, &met);
-  printf("located from 10: %" PRIu32 ", s %.6f t %.6f, %" PRIu32 " moves, met %" PRIu32 "\n", refusal, pair[0], pair[1], moves, met);
+static void surface(double s, double t) {
+  float point[3];
+  double heading;
+  printf("surface at s %.4f t %.4f: ", s, t);
+  if (!refused(riftkettle_surface(ROAD, SAMPLES, s, t, point, &heading))) {
+    printf("x %.4f y %.4f z %.4f heading %.4f\n", point[0], point[1], point[2], heading);
+  }
 }
 
-/* The first l bytes of the job text. */
-static uint32_t read_job(size_t l, size_t *count) {
-  return riftkettle_read((const uint8_t *)job, l, ROAD, wants, RIFTKETTLE_WANTS, count);
+static void lane_surface(int32_t id, double s, double t) {
+  float point[3];
+  double heading;
+  printf("surface of lane %" PRId32 " at s %.4f t %.4f: ", id, s, t);
+  if (!refused(riftkettle_lane_surface(ROAD, SAMPLES, id, s, t, point, &heading))) {
+    printf("x %.4f y %.4f z %.4f heading %.4f\n", point[0], point[1], point[2], heading);
+  }
 }
 
-static void borders_and_names(double s, double t) {
+static void borders(double s) {
   double list[RIFTKETTLE_BORDERS];
-  size_t lanes = 0;
-  uint32_t refusal = riftkettle_borders(ROAD, s, list, RIFTKETTLE_BORDERS, &lanes);
-  printf("borders %" PRIu32 ", %zu lanes\n", refusal, lanes);
+  size_t lanes;
+  printf("borders at s %.4f: ", s);
+  if (refused(riftkettle_borders(ROAD, s, list, RIFTKETTLE_BORDERS, &lanes))) {
+    return;
+  }
+  printf("%zu lanes\n", lanes);
   for (size_t i = 0; i < lanes; i++) {
     const double *lane = list + RIFTKETTLE_BORDER_STRIDE * i;
-    printf("  inner %g outer %g width %g\n", lane[0], lane[1], lane[2]);
-  }
-  const double offsets[4] = {t, -70, 0, 81};
-  for (int i = 0; i < 4; i++) {
-    int32_t id = 99; /* a refusal leaves it */
-    refusal = riftkettle_lane_named(ROAD, s, offsets[i], &id);
-    printf("lane at t %g: %" PRIu32 ", id %" PRId32 "\n", offsets[i], refusal, id);
+    printf("  inner %.4f outer %.4f width %.4f\n", lane[0], lane[1], lane[2]);
   }
 }
 
-static void lane_surfaces(double s) {
-  for (int32_t id = -1; id <= 1; id++) {
-    float point[3] = {0};
-    double heading = 0;
-    uint32_t refusal = riftkettle_lane_surface(ROAD, SAMPLES, id, s, 1.5 * id, point, &heading);
-    printf("surface of lane %" PRId32 ": %" PRIu32 ", x %g y %g z %g\n", id, refusal, point[0], point[1], point[2]);
+static void lane_named(double s, double t) {
+  int32_t id;
+  printf("lane at s %.4f t %.4f: ", s, t);
+  if (!refused(riftkettle_lane_named(ROAD, s, t, &id))) {
+    printf("%" PRId32 "\n", id); /* 0 where there is none */
   }
 }
 
-static void lanes_of_job(void) {
-  size_t count = 0;
-  uint32_t refusal = read_job(sizeof job - 1, &count);
-  double want[2];
-  memcpy(want, wants, sizeof want);
-  printf("read %" PRIu32 ", %zu want: s %g t %g\n", refusal, count, want[0], want[1]);
-  borders_and_names(want[0], want[1]);
-  lane_surfaces(want[0]);
-
-  refusal = read_job(sizeof job - 2, &count); /* without the last empty line */
-  printf("refused %" PRIu32 ", bad form: %d, the road's length is now %g\n", refusal, refusal == RIFTKETTLE_REFUSED_FORM,
-         numbers[RIFTKETTLE_LENGTH]);
+static void locate(double x, double y, double guess) {
+  double pair[2];
+  uint32_t moves, met;
+  printf("x %.4f y %.4f from s %.4f: ", x, y, guess);
+  if (!refused(riftkettle_locate(ROAD, SAMPLES, x, y, guess, pair, &moves, &met))) {
+    printf("s %.4f t %.4f, %" PRIu32 " moves, %s\n", pair[0], pair[1], moves, met ? "met" : "not met");
+  }
 }
 
-int main(void) {
+int main(int argc, char **argv) {
   if (!usual_environment()) {
-    puts("the floating-point environment is not the usual one: no answer would be sure");
+    fputs("the floating-point environment is not the usual one: no answer would be sure\n", stderr);
     return 1;
   }
   printf("riftkettle %s\n", RIFTKETTLE_VERSION);
-  lay_road();
-  printf("admitted %" PRIu32 "\n", riftkettle_admit(ROAD));
-  size_t made = 0;
-  uint32_t refusal = riftkettle_samples(ROAD, SAMPLES, &made);
-  printf("samples %" PRIu32 ", %zu made\n", refusal, made);
-  along_road();
-  surface_and_back();
-
-  int64_t count = 0;
-  refusal = riftkettle_counts(1.0 / 32.0, &count);
-  printf("counts %" PRIu32 ", %" PRId64 "\n", refusal, count);
-
-  numbers[RIFTKETTLE_GEOM + RIFTKETTLE_GEOM_STRIDE + 6] = 1.5; /* the spiral's end: over its limit */
-  refusal = riftkettle_admit(ROAD);
-  printf("refused %" PRIu32 ", out of range: %d\n", refusal, refusal == RIFTKETTLE_REFUSED_RANGE);
-
-  lanes_of_job();
+  size_t count;
+  if (!read_job(argc > 1 ? argv[1] : "examples/jobs/lanes_width.job", &count)) {
+    return 1;
+  }
+  for (size_t i = 0; i < count; i++) {
+    double want[2]; /* s and t, kept as bits */
+    memcpy(want, wants + 2 * i, sizeof want);
+    surface(want[0], want[1]);
+  }
+  const double length = numbers[RIFTKETTLE_LENGTH], middle = length / 2;
+  borders(middle);
+  lane_named(middle, 5);
+  lane_named(middle, -1);
+  lane_named(middle, 0.25);
+  lane_surface(-2, middle, -4);
+  locate(30, 2, 0);
+  surface(length + 1, 0); /* off the road */
   return 0;
 }

@@ -2,11 +2,11 @@
 # Runs the program `surface` on every job of examples/jobs and compares what it writes with the file beside it. One command, from any
 # folder, after `rt check surface` or `rt ci`:
 #
-#     tools/examples/run.sh [PROGRAM]
+#     examples/jobs/run.sh [PROGRAM]
 #
 #   PROGRAM   the program to run (default target/bin/surface)
 #
-# NAME.job and NAME.out are made by tools/outputs/run.sh, NAME.out by a second program. The last line says how many examples there are
+# NAME.job and NAME.out are made by tools/lists/run.sh outputs, NAME.out by a second program. The last line says how many examples there are
 # and how many differ. Status 0: none differ.
 set -euo pipefail
 cd "$(dirname "$0")/../.."
