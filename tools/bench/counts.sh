@@ -1,11 +1,11 @@
 #!/usr/bin/env bash
-# Instructions a call of each case of tools/bench/surface.rs, by valgrind: unlike times they come out the same on a machine at work.
+# Instructions a call of each case of tools/bench/src/surface.rs, by valgrind: unlike times they come out the same on a machine at work.
 # Run after tools/bench/run.sh, which builds the program.
 #
 #     tools/bench/counts.sh [CASE ..]
 set -euo pipefail
 cd "$(dirname "$0")/../.."
-bench=target/differential/bench
+bench=tools/target/release/bench
 
 # The instructions of a run that makes the calls of a side so many times.
 instructions() {

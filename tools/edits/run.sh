@@ -1,12 +1,14 @@
 #!/usr/bin/env bash
-# Tries the must-fail edits that the gate leaves out: crates/NAME/must-fail/long/*.edit. One command, from any folder:
+# The longer list, before a landing: the whole self test of the comparison, where the published Rust is at hand, and the must-fail
+# edits that the gate leaves out, crates/NAME/must-fail/long/*.edit. One command, from any folder:
 #
 #     tools/edits/run.sh
 #
-# It works on a copy of what is committed, in which these edits take the place of the gate's. The last line says how many were refused.
+# The edits are tried on a copy of what is committed, in which these edits take the place of the gate's. The last line says how many were refused.
 # Status 0: all of them, each for a fact.
 set -euo pipefail
 cd "$(dirname "$0")/../.."
+if [ -f ../shared/docs/src/src/road.rs ]; then tools/comparison/self_test.sh; fi
 copy=$(mktemp -d)
 trap 'rm -rf "$copy"' EXIT
 git archive HEAD | tar -x -C "$copy"

@@ -1,11 +1,7 @@
-// Puts document 01's stand-ins into a copy of the published road.rs.
-//
-//     patch ROAD.RS > PATCHED
+// Puts document 01's stand-ins into a copy of the published road.rs. Part of build.rs.
 //
 // Each entry below is a whole line of the published file, how often it must stand there, and what takes its place. A line that
 // is not found that often is an error, and so is a call of a library function that is left over.
-use std::process::exit;
-
 struct Change {
     line: &'static str,
     times: usize,
@@ -96,25 +92,20 @@ const CHANGES: &[Change] = &[
 // What 01 replaces and may not be left. atan2 is called by ParamPoly3 alone, which is no part of the base.
 const LEFT_OUT: [&str; 6] = [".sin()", ".cos()", ".sin_cos()", ".tan()", ".sqrt()", ".hypot("];
 
-fn fail(why: String) -> ! {
-    eprintln!("patch: {why}");
-    exit(1)
-}
-
-fn main() {
-    let Some(path) = std::env::args().nth(1) else { fail("usage: patch ROAD.RS > PATCHED".into()) };
-    let source = std::fs::read_to_string(&path).unwrap_or_else(|e| fail(format!("{path}: {e}")));
+/// The published text with the stand-ins in it, or why they could not be put in.
+pub fn patched(source: &str) -> Result<String, String> {
     for c in CHANGES {
         let found = source.lines().filter(|line| *line == c.line).count();
         if found != c.times {
-            fail(format!("{path}: {} of this line expected, {found} found:\n{}", c.times, c.line));
+            return Err(format!("{} of this line expected, {found} found:\n{}", c.times, c.line));
         }
     }
-    let patched: Vec<&str> = source.lines().map(|line| CHANGES.iter().find(|c| c.line == line).map_or(line, |c| c.by)).collect();
+    let by = |line| CHANGES.iter().find(|c| c.line == line).map_or(line, |c| c.by);
+    let patched: Vec<&str> = source.lines().map(by).collect();
     for (i, line) in patched.iter().enumerate().filter(|(_, line)| !line.trim_start().starts_with("//")) {
         if let Some(call) = LEFT_OUT.iter().find(|call| line.contains(**call)) {
-            fail(format!("{path}:{}: `{call}` is left over: {}", i + 1, line.trim()));
+            return Err(format!("line {}: `{call}` is left over: {}", i + 1, line.trim()));
         }
     }
-    println!("{}", patched.join("\n"));
+    Ok(patched.join("\n"))
 }

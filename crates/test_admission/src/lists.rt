@@ -1,6 +1,6 @@
 // Lines of the list, in turn: each changes the road or what is lent of it, or asks.
 //
-// tools/cases/main.rs says what each letter means.
+// tools/lists/src/bin/admission/main.rs says what each letter means.
 ghost use mathlib.Core.Path.{_≡_};
 ghost use lib.ListN.{length};
 ghost use Rattle.test_admission.specs.Case.{callWord};

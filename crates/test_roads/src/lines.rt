@@ -1,6 +1,6 @@
 // Lines of the list, in turn: each puts a word or a number into memory, sets what calls share, or asks.
 //
-// tools/answers/main.rs says what each letter means.
+// tools/lists/src/bin/roads/main.rs says what each letter means.
 use crate::answers::answer;
 use crate::answers::fill;
 use crate::calls::call;

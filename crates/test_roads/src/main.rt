@@ -1,5 +1,5 @@
 // Asks a list of questions from standard input of the crates that work on roads and writes each answer's numbers on a line. The
-// file stdout holds what the published Rust answers. tools/answers makes both.
+// file stdout holds what the published Rust answers. tools/lists makes both.
 mod answers;
 mod calls;
 mod lines;

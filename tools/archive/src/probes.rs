@@ -1,10 +1,10 @@
 // The C functions of crate `test_probes` behind safe ones: functions inside the library, without the check of the road.
-use crate::model::{Cubic, Memory};
+use second::model::{Cubic, Memory};
 
 mod c {
-    use crate::interface::asks;
+    use interface::asks;
 
-    crate::probe_functions!(asks);
+    interface::probe_functions!(asks);
 }
 
 pub fn sin_cos(h: f64) -> (f64, f64) {

@@ -1,4 +1,4 @@
-// The library's C functions (include/riftkettle.h) behind safe ones.
-use crate::interface::asks;
+// The C functions of include/riftkettle.h.
+use interface::asks;
 
-crate::riftkettle_functions!(asks);
+interface::riftkettle_functions!(asks);

@@ -1,10 +1,10 @@
 // Records, poses without the check of the road, borders and lane heights.
 use crate::{ROUNDS, compare, lay, median, one_geometry, row, time};
-use comparison::model::*;
-use comparison::oracle::{Line, Oracle, Records};
-use comparison::probes as inside;
-use comparison::random::Rng;
-use comparison::riftkettle as ours;
+use archive::probes as inside;
+use archive::riftkettle as ours;
+use published::oracle::{Line, Oracle, Records};
+use second::model::*;
+use second::random::Rng;
 use std::hint::black_box;
 
 #[inline(never)]

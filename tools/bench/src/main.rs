@@ -3,17 +3,17 @@
 // Each measurement alternates between the two and takes the median over the rounds, in the processor's time of this process, so
 // that other work on the machine shows little. The Rust's functions are kept from being inlined, since a call through the C
 // interface is not either.
-use comparison::admission;
-use comparison::arguments::exact_root;
-use comparison::generate;
-use comparison::model::*;
-use comparison::oracle::{Line, Oracle};
-use comparison::probes as inside;
-use comparison::random::Rng;
-use comparison::reader;
-use comparison::riftkettle as ours;
-use comparison::stand_ins;
-use comparison::texts;
+use archive::probes as inside;
+use archive::riftkettle as ours;
+use published::oracle::{Line, Oracle};
+use published::stand_ins;
+use second::admission;
+use second::arguments::exact_root;
+use second::generate;
+use second::model::*;
+use second::random::Rng;
+use second::reader;
+use second::texts;
 use std::hint::black_box;
 
 mod lanes;

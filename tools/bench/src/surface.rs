@@ -2,11 +2,11 @@
 // check; against the Rust with document 01's stand-ins, and against the Rust with its own library functions.
 use crate::lanes::twelve_lanes;
 use crate::{ROUNDS, lay, median, one_geometry, time};
-use comparison::model::*;
-use comparison::oracle::Oracle;
-use comparison::random::Rng;
-use comparison::riftkettle as ours;
-use own::oracle::Oracle as Own;
+use archive::riftkettle as ours;
+use published::oracle::Oracle;
+use published::own::oracle::Oracle as Own;
+use second::model::*;
+use second::random::Rng;
 use std::hint::black_box;
 
 #[derive(Clone, Copy)]

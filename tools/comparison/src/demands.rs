@@ -1,7 +1,7 @@
 // Demand 3 on the answers, in exact fractions: document 01, "The words of demand 3". What was largest is shown behind the
 // comparison.
-use comparison::exact::{Squares, outward, placed, sized};
-use comparison::tally::{Tally, hex};
+use crate::tally::{Tally, hex};
+use second::exact::{Squares, outward, placed, sized};
 
 /// Of a point as answered in f32: |x|, |y| ≤ 2,000,000 and |z| ≤ 20,000.
 pub fn point(tally: &mut Tally, point: &[f64], input: impl Fn() -> String) {

@@ -3,15 +3,15 @@
 // The published Rust answers for every number, so the functions inside the library are asked with any s, t and tangent. The calls
 // are held against the Rust too, and the naming of a lane also against a second text of document 01's rule.
 use crate::places::{any, asked, near_borders, offsets, on_road, starts_across, stations, wide_stations, within_80};
+use crate::tally::{Tally, hex, same};
 use crate::{same_memory, still_untouched, untouched};
-use comparison::generate;
-use comparison::limits;
-use comparison::model::{Cubic, Memory, Road};
-use comparison::oracle::{Oracle, Records};
-use comparison::probes as inside;
-use comparison::random::{Rng, beside, nudge};
-use comparison::riftkettle as ours;
-use comparison::tally::{Tally, hex, same};
+use archive::probes as inside;
+use archive::riftkettle as ours;
+use published::oracle::{Oracle, Records};
+use second::generate;
+use second::limits;
+use second::model::{Cubic, Memory, Road};
+use second::random::{Rng, beside, nudge};
 
 // ---- numbers
 
@@ -21,7 +21,7 @@ fn tangent(rng: &mut Rng) -> f64 {
         1 => f64::from_bits(rng.bits() >> 12) * rng.sign(),
         2 => rng.log_between(1e290, 1e308) * rng.sign(),
         3 => rng.pattern(),
-        4 => comparison::stand_ins::tan(rng.between(-0.75, 0.75)),
+        4 => published::stand_ins::tan(rng.between(-0.75, 0.75)),
         _ => rng.between(-1.0, 1.0),
     }
 }
@@ -278,7 +278,7 @@ pub fn lane_named(rng: &mut Rng, tally: &mut Tally) {
 pub fn lanes_refused(rng: &mut Rng, tally: &mut Tally) {
     let (road, m) = generate::admitted(rng);
     let (changed, _) = limits::around_a_limit(rng, &m);
-    let number = comparison::admission::admit(&changed.words, &changed.numbers);
+    let number = second::admission::admit(&changed.words, &changed.numbers);
     let before = changed.clone();
     let (s, t) = (rng.pick(&[0.0, -1.0, f64::NAN]), rng.pick(&[0.0, 81.0, f64::NAN]));
     if number != 0 {

@@ -1,14 +1,14 @@
 // A road with what is lent beside it, for the calls that take samples: which numbers they refuse by, and how an answer is held
 // against what it must be.
 use crate::places::{any, asked, on_road, starts_across, starts_along, stations, within_80};
+use crate::tally::{Tally, hex, same};
 use crate::{make_foreign, same_memory, untouched};
-use comparison::admission;
-use comparison::generate;
-use comparison::limits;
-use comparison::model::{Memory, Road};
-use comparison::oracle::Oracle;
-use comparison::random::Rng;
-use comparison::tally::{Tally, hex, same};
+use published::oracle::Oracle;
+use second::admission;
+use second::generate;
+use second::limits;
+use second::model::{Memory, Road};
+use second::random::Rng;
 
 pub struct Lent {
     pub road: Road,

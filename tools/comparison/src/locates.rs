@@ -3,10 +3,10 @@
 use crate::demands;
 use crate::lent::{Lent, ROWS, before, check};
 use crate::places::{any, on_road, within_80};
-use comparison::random::{Rng, beside, nudge};
-use comparison::riftkettle as ours;
-use comparison::stand_ins::hypot;
-use comparison::tally::{Tally, hex};
+use crate::tally::{Tally, hex};
+use archive::riftkettle as ours;
+use published::stand_ins::hypot;
+use second::random::{Rng, beside, nudge};
 
 /// How far a target may lie from the origin, along x and along y.
 const MAP: f64 = 2_000_000.0;

@@ -1,6 +1,6 @@
 // Compares the library with the published Rust, bit for bit: zeros alike, NaNs alike (document 01).
 //
-//     differential [full] [--seed N] [--only NAME].. [--steps N] [--program FILE]
+//     comparison [full] [--seed N] [--only NAME].. [--steps N] [--program FILE]
 //
 // Each comparison below is a function for one random input; a new one is such a function and a line in COMPARISONS. The last line
 // says how many results were compared and how many differ. A seed gives the same run everywhere.
@@ -12,21 +12,22 @@ mod places;
 mod program;
 mod reading;
 mod surfaces;
+mod tally;
 
-use comparison::admission::{self, spiral_samples};
-use comparison::arguments::{self, exact_counts, exact_root};
-use comparison::generate;
-use comparison::limits;
-use comparison::model::{Memory, Road, Shape};
-use comparison::oracle::Oracle;
-use comparison::random::{Rng, nudge};
-use comparison::riftkettle as ours;
-use comparison::stand_ins as rust;
-use comparison::tally::{Tally, hex, same, same_f32};
-use comparison::texts::SAMPLE_BYTES;
+use archive::riftkettle as ours;
 use places::on_road;
+use published::oracle::Oracle;
+use published::stand_ins as rust;
+use second::admission::{self, spiral_samples};
+use second::arguments::{self, exact_counts, exact_root};
+use second::generate;
+use second::limits;
+use second::model::{Memory, Road, Shape};
+use second::random::{Rng, nudge};
+use second::texts::SAMPLE_BYTES;
 use std::sync::Mutex;
 use std::sync::atomic::{AtomicUsize, Ordering};
+use tally::{Tally, hex, same, same_f32};
 
 /// Name, steps of the short form, steps of the full form, one step. Names that begin alike are asked for together.
 type Comparison = (&'static str, u64, u64, fn(&mut Rng, &mut Tally));
@@ -90,7 +91,7 @@ fn sine_pair(rng: &mut Rng, tally: &mut Tally) {
     let (sin, cos) = rust::sin_cos(h);
     tally.number(ours::sin(h), sin, || format!("sine of {}", hex(&[h])));
     tally.number(ours::cos(h), cos, || format!("cosine of {}", hex(&[h])));
-    let both = comparison::probes::sin_cos(h);
+    let both = archive::probes::sin_cos(h);
     tally.number(both.0, sin, || format!("sine of {}, with its cosine", hex(&[h])));
     tally.number(both.1, cos, || format!("cosine of {}, with its sine", hex(&[h])));
 }

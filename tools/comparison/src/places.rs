@@ -1,9 +1,9 @@
 // Places on a road where answers turn: along it, across it, and beside them.
-use comparison::arguments::SPECIAL;
-use comparison::model::{Cubic, Road, Shape};
-use comparison::oracle::{Oracle, Records};
-use comparison::random::{Rng, beside, nudge};
-use comparison::tally::hex;
+use crate::tally::hex;
+use published::oracle::{Oracle, Records};
+use second::arguments::SPECIAL;
+use second::model::{Cubic, Road, Shape};
+use second::random::{Rng, beside, nudge};
 
 /// Any bits, or a number where something turns.
 pub fn any(rng: &mut Rng) -> f64 {

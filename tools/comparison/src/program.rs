@@ -1,11 +1,11 @@
 // The comparison of the program `surface` with a second one (second_program.rs): what it writes for a job, byte for byte, but zeros
 // alike.
-use comparison::generate;
-use comparison::random::Rng;
-use comparison::reader::TEXT;
-use comparison::second_program;
-use comparison::tally::Tally;
-use comparison::texts::{self, DAMAGES, Job, Writing};
+use crate::tally::Tally;
+use published::second_program;
+use second::generate;
+use second::random::Rng;
+use second::reader::TEXT;
+use second::texts::{self, DAMAGES, Job, Writing};
 use std::io::{Read, Write};
 use std::process::{Command, Stdio};
 use std::sync::OnceLock;

@@ -1,11 +1,11 @@
 // The comparison of reading: the library's against the second reader (reader.rs), by the number answered, the count of wants, and
 // every element of the three slices afterwards, what lies past them too.
-use comparison::model::{NUMBERS, WORDS};
-use comparison::random::Rng;
-use comparison::reader::{self, WANTS};
-use comparison::riftkettle as ours;
-use comparison::tally::Tally;
-use comparison::texts::{self, DAMAGES, Job, SAMPLE_BYTES, SAMPLE_LINES};
+use crate::tally::Tally;
+use archive::riftkettle as ours;
+use second::model::{NUMBERS, WORDS};
+use second::random::Rng;
+use second::reader::{self, WANTS};
+use second::texts::{self, DAMAGES, Job, SAMPLE_BYTES, SAMPLE_LINES};
 use std::sync::OnceLock;
 use std::sync::atomic::{AtomicUsize, Ordering};
 

@@ -3,11 +3,11 @@
 use crate::demands;
 use crate::lent::{Lent, ROWS, before, check};
 use crate::places::{any, near_borders, offsets};
-use comparison::exact::between;
-use comparison::random::{Rng, nudge};
-use comparison::riftkettle as ours;
-use comparison::stand_ins;
-use comparison::tally::{Tally, hex};
+use crate::tally::{Tally, hex};
+use archive::riftkettle as ours;
+use published::stand_ins;
+use second::exact::between;
+use second::random::{Rng, nudge};
 
 /// A call that answers a point and a heading, as four numbers.
 fn point(call: impl FnOnce(&mut [f32; 3], &mut f64) -> u32) -> (u32, [f64; 4]) {

@@ -1,21 +1,23 @@
 // Tests of the comparison's own parts, without the library: the stand-ins against the standard library within a tolerance, the
 // layout there and back, the generator, and the second admission on document 01's own examples.
-use comparison::admission::{admit, spiral_samples};
-use comparison::arguments::{exact_counts, exact_root};
-use comparison::exact::{Squares, between, equal, ordered, outward, placed, sized};
-use comparison::generate;
-use comparison::model::*;
-use comparison::oracle::{Oracle, Records};
-use comparison::random::Rng;
-use comparison::reader::{self, TABLES, WANTS};
-use comparison::second_program::output;
-use comparison::stand_ins;
-use comparison::texts::{self, SAMPLE_BYTES, SAMPLE_LINES};
+use published::oracle::{Oracle, Records};
+use published::second_program::output;
+use published::stand_ins;
+use second::admission::{admit, spiral_samples};
+use second::arguments::{exact_counts, exact_root};
+use second::exact::{Squares, between, equal, ordered, outward, placed, sized};
+use second::generate;
+use second::model::*;
+use second::random::Rng;
+use second::reader::{self, TABLES, WANTS};
+use second::texts::{self, SAMPLE_BYTES, SAMPLE_LINES};
 
 /// 12,000 is some 7,640 quarters, and Q is good to 2^-87 or so: what is left is the rounding of a sum near 1.
 const TOLERANCE: f64 = 4.0e-16;
 
-fn stand_ins_are_near(rng: &mut Rng) {
+#[test]
+fn stand_ins_are_near() {
+    let rng = &mut Rng::new(1, "stand ins are near");
     let mut worst: f64 = 0.0;
     for _ in 0..2_000_000 {
         let h = rng.between(-12_000.0, 12_000.0);
@@ -41,7 +43,9 @@ fn number(road: &Road, rng: &mut Rng) -> u32 {
 }
 
 /// 01: "Run", and M11.
-fn admission_runs(rng: &mut Rng) {
+#[test]
+fn admission_runs() {
+    let rng = &mut Rng::new(1, "admission runs");
     let geom = |shape, length| Geom { s: 0.0, x: 0.0, y: 0.0, hdg: 0.0, length, shape };
     let plain = |g: Geom| Road { length: 10.0, geoms: vec![g], sections: vec![Section::default()], ..Road::default() };
     let bank = |a| Road { bank: vec![Cubic { a, ..Cubic::default() }], ..plain(geom(Shape::Line, 10.0)) };
@@ -59,7 +63,9 @@ fn admission_runs(rng: &mut Rng) {
 }
 
 /// The published Rust with the stand-ins in it: M1, M12, and points of generated roads, which are finite.
-fn oracle(rng: &mut Rng) {
+#[test]
+fn oracle() {
+    let rng = &mut Rng::new(1, "oracle");
     let geom = Geom { s: 0.0, x: 0.0, y: 0.0, hdg: 0.0, length: 10.0, shape: Shape::Line };
     let m1 = Road { length: 10.0, geoms: vec![geom], sections: vec![Section::default()], ..Road::default() };
     let m1 = Oracle::new(&m1);
@@ -79,7 +85,9 @@ fn oracle(rng: &mut Rng) {
 }
 
 /// 01's M2 to M7 by the published Rust.
-fn marked(rng: &mut Rng) {
+#[test]
+fn marked() {
+    let rng = &mut Rng::new(1, "marked");
     let cubic = |start, a| Cubic { start, a, ..Cubic::default() };
     let m2 = Records::new(&[Cubic { start: 2.0, a: 1.0, b: 2.0, c: 3.0, d: 4.0 }]);
     assert_eq!((m2.eval(0, 3.0), m2.slope(0, 3.0)), (10.0, 20.0));
@@ -120,7 +128,9 @@ fn marked(rng: &mut Rng) {
 }
 
 /// Of the roads for what lies across: how many have each feature, at a station of theirs.
-fn across(rng: &mut Rng) {
+#[test]
+fn across() {
+    let rng = &mut Rng::new(1, "across");
     let features: &[(&str, fn(&Road, &[[f64; 3]]) -> bool)] = &[
         ("12 lanes", |_, b| b.len() == 12),
         ("widths alone", |r, b| b.len() > 1 && r.lanes().all(|l| !l.border)),
@@ -150,7 +160,9 @@ fn across(rng: &mut Rng) {
 }
 
 /// Of the generated roads: admitted, the same after memory and back, and how many have each feature.
-fn generator(rng: &mut Rng) {
+#[test]
+fn generator() {
+    let rng = &mut Rng::new(1, "generator");
     let features: &[(&str, fn(&Road) -> bool)] = &[
         ("64 geometries", |r| r.geoms.len() == 64),
         ("several spirals", |r| r.spirals() > 1),
@@ -191,6 +203,7 @@ fn generator(rng: &mut Rng) {
 // ---- surfaces
 
 /// Exact arithmetic at its bounds: the f64 on either side of each.
+#[test]
 fn exact() {
     let far = 2_000_000f64;
     assert_eq!(
@@ -223,7 +236,9 @@ fn exact() {
 }
 
 /// The road with its own samples lent is the road, by either way to find the segment; with others it is not.
-fn samples_lent(rng: &mut Rng) {
+#[test]
+fn samples_lent() {
+    let rng = &mut Rng::new(1, "samples lent");
     let mut unlike = 0;
     for _ in 0..500 {
         let road = generate::surfaced(rng).0;
@@ -240,6 +255,7 @@ fn samples_lent(rng: &mut Rng) {
 }
 
 /// M1 whole, and what document 01 says of other jobs.
+#[test]
 fn program() {
     let line = "3ff0000000000000 4000000000000000 3f800000 40000000 00000000\n";
     assert_eq!(output(M1.as_bytes()), format!("s t x y z\n{line}"));
@@ -267,6 +283,7 @@ fn read_text(text: &[u8]) -> (Result<usize, u32>, Memory, [u64; WANTS]) {
 }
 
 /// M1's job, and what 01 and our readings of it say of small changes to it.
+#[test]
 fn reading() {
     let (answer, m, wants) = read_text(M1.as_bytes());
     assert_eq!((answer, &wants[..3]), (Ok(1), &[0x3ff0 << 48, 0x4000 << 48, 0][..]));
@@ -301,7 +318,9 @@ fn reading() {
 }
 
 /// The sample job, jobs of given lengths, and jobs of random roads, which are read back.
-fn made_texts(rng: &mut Rng) {
+#[test]
+fn made_texts() {
+    let rng = &mut Rng::new(1, "made texts");
     let sample = texts::sample();
     assert!(sample.parts.iter().all(|p| !p.lines.is_empty()) && sample.parts.len() == TABLES.len());
     assert_eq!(read_text(&sample.text).0, Ok(1));
@@ -323,20 +342,4 @@ fn made_texts(rng: &mut Rng) {
         accepted += usize::from(answer.is_ok());
     }
     println!("{accepted} of 1000 roads read back from their texts");
-}
-
-fn main() {
-    let mut rng = Rng::new(1, "self test");
-    reading();
-    made_texts(&mut rng);
-    stand_ins_are_near(&mut rng);
-    admission_runs(&mut rng);
-    oracle(&mut rng);
-    marked(&mut rng);
-    across(&mut rng);
-    exact();
-    samples_lent(&mut rng);
-    program();
-    generator(&mut rng);
-    println!("self test: passed");
 }

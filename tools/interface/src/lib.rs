@@ -1,8 +1,8 @@
-// The C functions, once: those of include/riftkettle.h and those of crate `test_probes`. A slice crosses as a pointer and a length, a
-// road as its two slices, and what a call writes as a pointer.
-//
-// A list is given to a macro: `asks` makes a safe function of each line, which calls the C function; `answers` makes the C function,
-// which calls a safe one of the stub.
+//! The C functions, once: those of include/riftkettle.h and those of crate `test_probes`. A slice crosses as a pointer and a length, a
+//! road as its two slices, and what a call writes as a pointer.
+//!
+//! A list is given to a macro: `asks` makes a safe function of each line, which calls the C function; `answers` makes the C function,
+//! which calls a safe one of the stub.
 
 #[macro_export]
 macro_rules! riftkettle_functions {
@@ -59,7 +59,8 @@ macro_rules! probe_functions {
     };
 }
 
-/// Parameter by parameter: what C declares, what Rust takes, what is passed.
+/// Parameter by parameter: what C declares, what Rust takes, what is passed. A road is taken as the package `second` has it in memory.
+#[macro_export]
 macro_rules! asks {
     (@ $c:ident $name:ident $r:ty; () ($($declared:tt)*) ($($taken:tt)*) ($($passed:tt)*)) => {
         pub fn $name($($taken)*) -> $r {
@@ -70,30 +71,29 @@ macro_rules! asks {
         }
     };
     (@ $c:ident $name:ident $r:ty; ($x:ident: Road, $($rest:tt)*) ($($d:tt)*) ($($t:tt)*) ($($p:tt)*)) => {
-        asks! { @ $c $name $r; ($($rest)*)
+        $crate::asks! { @ $c $name $r; ($($rest)*)
             ($($d)* _: *const u16, _: usize, _: *const f64, _: usize,)
-            ($($t)* $x: &$crate::model::Memory,)
+            ($($t)* $x: &second::model::Memory,)
             ($($p)* $x.words.as_ptr(), $x.words.len(), $x.numbers.as_ptr(), $x.numbers.len(),) }
     };
     (@ $c:ident $name:ident $r:ty; ($x:ident: [mut $of:ty], $($rest:tt)*) ($($d:tt)*) ($($t:tt)*) ($($p:tt)*)) => {
-        asks! { @ $c $name $r; ($($rest)*)
+        $crate::asks! { @ $c $name $r; ($($rest)*)
             ($($d)* _: *mut $of, _: usize,) ($($t)* $x: &mut [$of],) ($($p)* $x.as_mut_ptr(), $x.len(),) }
     };
     (@ $c:ident $name:ident $r:ty; ($x:ident: [$of:ty], $($rest:tt)*) ($($d:tt)*) ($($t:tt)*) ($($p:tt)*)) => {
-        asks! { @ $c $name $r; ($($rest)*)
+        $crate::asks! { @ $c $name $r; ($($rest)*)
             ($($d)* _: *const $of, _: usize,) ($($t)* $x: &[$of],) ($($p)* $x.as_ptr(), $x.len(),) }
     };
     (@ $c:ident $name:ident $r:ty; ($x:ident: (mut $of:ty), $($rest:tt)*) ($($d:tt)*) ($($t:tt)*) ($($p:tt)*)) => {
-        asks! { @ $c $name $r; ($($rest)*) ($($d)* _: *mut $of,) ($($t)* $x: &mut $of,) ($($p)* $x,) }
+        $crate::asks! { @ $c $name $r; ($($rest)*) ($($d)* _: *mut $of,) ($($t)* $x: &mut $of,) ($($p)* $x,) }
     };
     (@ $c:ident $name:ident $r:ty; ($x:ident: $of:ty, $($rest:tt)*) ($($d:tt)*) ($($t:tt)*) ($($p:tt)*)) => {
-        asks! { @ $c $name $r; ($($rest)*) ($($d)* _: $of,) ($($t)* $x: $of,) ($($p)* $x,) }
+        $crate::asks! { @ $c $name $r; ($($rest)*) ($($d)* _: $of,) ($($t)* $x: $of,) ($($p)* $x,) }
     };
     ($($c:ident: $name:ident($($x:ident: $kind:tt),*) -> $r:ty;)*) => {
-        $(asks! { @ $c $name $r; ($($x: $kind,)*) () () () })*
+        $($crate::asks! { @ $c $name $r; ($($x: $kind,)*) () () () })*
     };
 }
-pub(crate) use asks;
 
 /// Parameter by parameter: what C declares, what is passed. A road is passed as a pair of slices.
 #[macro_export]

@@ -1,7 +1,7 @@
 // A job as cells that a case can change one by one.
-use crate::model::{Cubic, Geom, Height, Lane, Profile, Road, Section, Shape, Strip};
-use crate::reader::{Name, TABLES};
-use crate::texts;
+use second::model::{Cubic, Geom, Height, Lane, Profile, Road, Section, Shape, Strip};
+use second::reader::{Name, TABLES};
+use second::texts;
 
 #[derive(Clone)]
 pub struct Draft {

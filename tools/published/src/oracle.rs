@@ -1,7 +1,7 @@
 // The published Rust, asked through plain types. Document 01's stand-ins are in it (patch.rs); nothing else is changed.
-use crate::model::{self, Shape};
-use crate::road;
-use crate::stand_ins::{self, Given};
+use super::road;
+use super::stand_ins::{self, Given};
+use second::model::{self, Shape};
 
 pub struct Oracle(road::Road);
 

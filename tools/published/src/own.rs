@@ -1,18 +1,17 @@
 // The published Rust with its own sine, cosine, tangent, root and hypot: the patched file once more, over a module `stand_ins` that
 // calls what the published lines call. So the benchmark can say what document 01's stand-ins cost the Rust.
-#![allow(dead_code)]
+#[allow(dead_code)]
+mod road {
+    include!(concat!(env!("OUT_DIR"), "/own_road.rs"));
+}
 
-#[path = "../../target/differential/source/coords.rs"]
-mod coords;
-#[path = "../differential/oracle.rs"]
+// The oracle a second time, over this module's road: its types are others.
+#[allow(dead_code)]
+#[path = "oracle.rs"]
 pub mod oracle;
-#[path = "../../target/differential/source/road.rs"]
-mod road;
-
-use comparison::{Direction, LaneId, RoadMarkId, crg, model};
 
 mod stand_ins {
-    use crate::road::Across;
+    use super::road::Across;
 
     #[inline(always)]
     pub fn root(x: f64) -> f64 {

@@ -1,7 +1,7 @@
 // A second program `surface`: the second reader, then the published Rust for each want. What it writes is written from document 01.
-use crate::model::{NUMBERS, Road, WORDS};
 use crate::oracle::Oracle;
-use crate::reader::{self, WANTS};
+use second::model::{NUMBERS, Road, WORDS};
+use second::reader::{self, WANTS};
 
 /// 01: "a refused want writes s, t, `-` and the number", by rows 7 and 8.
 fn want(road: &Road, oracle: &Oracle, s: u64, t: u64) -> String {

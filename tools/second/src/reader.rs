@@ -1,7 +1,10 @@
 // A second text of document 01's "The job text" and of rows 1 to 5 for reading: a job's bytes into lent memory, laid as
 // docs/MEMORY.md says. It is written from 01 and plain, in one pass over the bytes, and shares nothing with the library. What of
-// row 3 lent memory cannot show is tested here; admission.rs tests the rest of rows 3 to 5 over what was read.
+// row 3 lent memory cannot show is tested here; admission.rs tests the rest of rows 3 to 5 over what was read. The first
+// fault found is told with its place.
 use crate::admission;
+pub use crate::fault::Name;
+use crate::fault::{Expected, Fault, Parent, Place, Reason, Tables, Tested, Wrong, check};
 use crate::model::*;
 
 /// What a column's cells hold.
@@ -16,26 +19,6 @@ pub enum Cell {
 }
 
 use Cell::{Listed, Number, Whole};
-
-/// The tables, in the order in which they come.
-#[derive(Debug, Clone, Copy, PartialEq, Eq, PartialOrd, Ord)]
-pub enum Name {
-    Road,
-    Geom,
-    Elev,
-    Bank,
-    Offset,
-    Tshift,
-    Section,
-    Lane,
-    Extent,
-    Height,
-    Profile,
-    Shape,
-    Strip,
-    Cubic,
-    Want,
-}
 
 pub struct Form {
     pub table: Name,
@@ -127,6 +110,11 @@ pub const WANTS: usize = 32;
 /// Reads a job: the number of wants, or the number of the refusal. A refused reading leaves zeros in all three slices, an
 /// accepted one zeros past the last line of each table.
 pub fn read(text: &[u8], words: &mut [u16], numbers: &mut [f64], wants: &mut [u64]) -> Result<usize, u32> {
+    judge(text, words, numbers, wants).map_err(|fault| fault.row)
+}
+
+/// Reads a job: the number of wants, or the first fault.
+pub fn judge(text: &[u8], words: &mut [u16], numbers: &mut [f64], wants: &mut [u64]) -> Result<usize, Fault> {
     clear(words, numbers, wants);
     let answer = accept(text, words, numbers, wants);
     if answer.is_err() {
@@ -142,47 +130,74 @@ fn clear(words: &mut [u16], numbers: &mut [f64], wants: &mut [u64]) {
 }
 
 /// The rows in the order of checking, over cleared slices.
-fn accept(text: &[u8], words: &mut [u16], numbers: &mut [f64], wants: &mut [u64]) -> Result<usize, u32> {
-    if words.len() < WORDS || numbers.len() < NUMBERS || wants.len() < WANTS || text.len() > TEXT {
-        return Err(2);
-    }
-    let mut store = Store { words, numbers, wants, sound: true, parent: 0, strips: [0; 4] };
-    let lines = read_lines(Text(text), &mut store)?;
-    if !store.sound || lines[Name::Road as usize] == 0 {
-        return Err(3);
-    }
-    match admission::admit(words, numbers) {
-        0 => Ok(lines[Name::Want as usize]),
-        number => Err(number),
-    }
+fn accept(text: &[u8], words: &mut [u16], numbers: &mut [f64], wants: &mut [u64]) -> Result<usize, Fault> {
+    lengths(text, words, numbers, wants).map_err(Fault::of_row(2))?;
+    let mut store = Store { words, numbers, wants, sound: Ok(()), parent: 0, strips: [0; 4], tables: Tables::default() };
+    let lines = read_lines(text, &mut store)?;
+    let Store { sound, tables, .. } = store;
+    let sound = sound.and_then(|()| check(lines[Name::Road as usize] > 0, || Wrong::new(Place::Whole, Reason::NoRoad)));
+    let road = sound.map_err(Fault::of_row(3)).and_then(|()| admission::judge(words, numbers));
+    road.map(|()| lines[Name::Want as usize]).map_err(|fault| fault.in_text(tables))
+}
+
+/// Row 2 before all lines.
+fn lengths(text: &[u8], words: &[u16], numbers: &[f64], wants: &[u64]) -> Tested {
+    let short = |slice, length, needed| Wrong::new(Place::Whole, Reason::Short { slice, length, needed });
+    check(words.len() >= WORDS, || short("words", words.len(), WORDS))?;
+    check(numbers.len() >= NUMBERS, || short("numbers", numbers.len(), NUMBERS))?;
+    check(wants.len() >= WANTS, || short("wants", wants.len(), WANTS))?;
+    check(text.len() <= TEXT, || Wrong::new(Place::Whole, Reason::LongText { length: text.len(), most: TEXT }))
 }
 
 /// Rows 1 and 2 line by line, the first line that fails either deciding, 1 before 2. Answers the lines of each table.
-fn read_lines(mut text: Text, store: &mut Store) -> Result<[usize; TABLES.len()], u32> {
+fn read_lines(text: &[u8], store: &mut Store) -> Result<[usize; TABLES.len()], Fault> {
     let mut lines = [0; TABLES.len()];
-    // The table that no empty line has ended yet, and the tables that may still come.
+    // The table that no empty line has ended yet, the tables that may still come, and how many lines of the text are taken.
     let mut open: Option<Columns> = None;
     let mut to_come = &TABLES[..];
-    while !text.0.is_empty() {
+    let mut taken = 0;
+    let mut rest = Text(text);
+    while !rest.0.is_empty() {
+        taken += 1;
         match &open {
             None => {
-                let (columns, rest) = text.names(to_come).ok_or(1u32)?;
+                let (columns, later) = rest.names(to_come).map_err(|expected| broken(text, &rest, expected))?;
                 store.parent = 0;
-                (open, to_come) = (Some(columns), rest);
+                store.tables.0[columns.form.table as usize] = taken;
+                (open, to_come) = (Some(columns), later);
             }
-            Some(_) if text.take(LF) => open = None,
+            Some(_) if rest.take(LF) => open = None,
             Some(columns) => {
-                let values = text.values(columns).ok_or(1u32)?;
+                let values = rest.values(columns).map_err(|expected| broken(text, &rest, expected))?;
                 let line = &mut lines[columns.form.table as usize];
                 if *line == columns.form.limit {
-                    return Err(2);
+                    return Err(too_many(columns.form, store));
                 }
-                store.sound = store.sound && store.line(columns.form.table, *line, &values);
+                if store.sound.is_ok() {
+                    store.sound = store.line(columns.form.table, *line, &values);
+                }
                 *line += 1;
             }
         }
     }
-    if open.is_some() { Err(1) } else { Ok(lines) }
+    match open {
+        Some(columns) => Err(broken(text, &rest, Expected::EmptyLine { table: columns.form.table })),
+        None => Ok(lines),
+    }
+}
+
+/// The form is broken at the first byte of the rest.
+fn broken(text: &[u8], rest: &Text, expected: Expected) -> Fault {
+    let before = &text[..text.len() - rest.0.len()];
+    let line = before.iter().filter(|&&byte| byte == LF).count();
+    let column = before.iter().rev().take_while(|&&byte| byte != LF).count();
+    Fault::of_row(1)(Wrong::new(Place::Byte { line: line + 1, column: column + 1 }, Reason::Form(expected)))
+}
+
+/// A line of right form, where its table has as many as it may have.
+fn too_many(form: &Form, store: &Store) -> Fault {
+    let place = Place::Line { table: form.table, line: form.limit };
+    Fault::of_row(2)(Wrong::new(place, Reason::TooMany { most: form.limit })).in_text(store.tables)
 }
 
 // ---- the form
@@ -197,7 +212,8 @@ struct Columns {
 /// its list.
 type Values = [u64; CELLS];
 
-/// What is left of the text. Each method takes what it names from the front, or answers that the line breaks the form.
+/// What is left of the text. Each method takes what it names from the front. Where they cannot, `names` and `values` leave the rest
+/// at the byte that breaks the form.
 struct Text<'a>(&'a [u8]);
 
 impl<'a> Text<'a> {
@@ -213,44 +229,55 @@ impl<'a> Text<'a> {
     }
 
     /// A line of names: a table that may still come, then its columns in any order, each once. Answers the tables after it too.
-    fn names(&mut self, to_come: &'static [Form]) -> Option<(Columns, &'static [Form])> {
+    fn names(&mut self, to_come: &'static [Form]) -> Result<(Columns, &'static [Form]), Expected> {
         let name = self.word();
-        let at = to_come.iter().position(|form| form.name.as_bytes() == name)?;
+        let after = || TABLES[..TABLES.len() - to_come.len()].last().map(|form| form.table);
+        let at =
+            to_come.iter().position(|form| form.name.as_bytes() == name).ok_or_else(|| Expected::Table { after: after() })?;
+        self.0 = &self.0[name.len()..];
         let form = &to_come[at];
+        let table = form.table;
         let mut order = [CELLS; CELLS];
         for i in 0..form.columns.len() {
-            self.end(false)?;
+            self.end(false).ok_or(Expected::MoreColumns { table })?;
             let name = self.word();
-            let column = form.columns.iter().position(|(column, _)| column.as_bytes() == name)?;
+            let column = form.columns.iter().position(|(column, _)| column.as_bytes() == name);
+            let column = column.ok_or(Expected::Column { table })?;
             if order.contains(&column) {
-                return None;
+                return Err(Expected::Column { table });
             }
+            self.0 = &self.0[name.len()..];
             order[i] = column;
         }
-        self.end(true)?;
-        Some((Columns { form, order }, &to_come[at + 1..]))
+        self.end(true).ok_or(Expected::NamesEnd { table })?;
+        Ok((Columns { form, order }, &to_come[at + 1..]))
     }
 
     /// What stands before the next space or LF.
-    fn word(&mut self) -> &'a [u8] {
+    fn word(&self) -> &'a [u8] {
         let length = self.0.iter().take_while(|&&b| b != b' ' && b != LF).count();
-        let (word, rest) = self.0.split_at(length);
-        self.0 = rest;
-        word
+        &self.0[..length]
     }
 
     /// A line of values.
-    fn values(&mut self, columns: &Columns) -> Option<Values> {
-        let (mut values, cells) = ([0; CELLS], columns.form.columns.len());
+    fn values(&mut self, columns: &Columns) -> Result<Values, Expected> {
+        let (mut values, cells, table) = ([0; CELLS], columns.form.columns.len(), columns.form.table);
         for (i, &column) in columns.order[..cells].iter().enumerate() {
-            values[column] = match columns.form.columns[column].1 {
-                Number => self.number()?,
-                Whole => self.whole()? as u64,
-                Listed(list) => self.listed(list)? as u64,
-            };
-            self.end(i + 1 == cells)?;
+            let cell = columns.form.columns[column].1;
+            let before = self.0;
+            values[column] = match cell {
+                Number => self.number(),
+                Whole => self.whole().map(|n| n as u64),
+                Listed(list) => self.listed(list).map(|at| at as u64),
+            }
+            .ok_or_else(|| {
+                self.0 = &before[digits_of(cell, before)..];
+                Expected::Cell { table, column }
+            })?;
+            let (last, place) = (i + 1 == cells, (table, column));
+            self.end(last).ok_or_else(|| after_cell(last, place))?;
         }
-        Some(values)
+        Ok(values)
     }
 
     fn number(&mut self) -> Option<u64> {
@@ -282,6 +309,16 @@ impl<'a> Text<'a> {
     }
 }
 
+/// How many digits of a broken number stand before the byte that breaks it. Any other cell is broken from its first byte on.
+fn digits_of(cell: Cell, text: &[u8]) -> usize {
+    let digits = || text.iter().take(16).take_while(|&&byte| DIGITS[usize::from(byte)] < 16).count();
+    if matches!(cell, Number) { digits() } else { 0 }
+}
+
+fn after_cell(last: bool, (table, column): (Name, usize)) -> Expected {
+    if last { Expected::LineEnd { table, column } } else { Expected::Space { table, column } }
+}
+
 /// The value of each lowercase hexadecimal digit, 255 for any other byte.
 const DIGITS: [u8; 256] = {
     let (mut values, mut i) = ([255; 256], 0);
@@ -298,52 +335,57 @@ struct Store<'a> {
     words: &'a mut [u16],
     numbers: &'a mut [f64],
     wants: &'a mut [u64],
-    /// No line so far is row 3 by itself or by its place. Once one is, nothing more is stored.
-    sound: bool,
+    /// Whether a line so far is row 3 by itself or by its place. Once one is, nothing more is stored.
+    sound: Tested,
     /// The parent of the table's last line, by its place among the parents.
     parent: usize,
     /// Of each strip, how many lines the strip table had with it: its place among the parents of cubics, counted from 1.
     strips: [usize; 4],
+    tables: Tables,
 }
 
 impl Store<'_> {
-    /// Stores a line of values, the table's lines counted from 0. False where it is row 3.
-    fn line(&mut self, table: Name, line: usize, v: &Values) -> bool {
+    /// Stores a line of values, the table's lines counted from 0, or tells why it is row 3.
+    fn line(&mut self, table: Name, line: usize, v: &Values) -> Tested {
         match table {
             Name::Road => self.put(0, &v[..1]),
             Name::Geom => {
                 self.words[KIND_WORDS.line(line)] = v[5] as u16;
-                self.put(GEOM.line(line), &[v[0], v[1], v[2], v[3], v[4], v[6], v[7]]) && self.count(0)
+                self.put_counted(0, GEOM.line(line), &[v[0], v[1], v[2], v[3], v[4], v[6], v[7]]);
             }
-            Name::Elev => self.put(ELEV.line(line), &v[..5]) && self.count(1),
-            Name::Bank => self.put(BANK.line(line), &v[..5]) && self.count(2),
-            Name::Offset => self.put(OFFSET.line(line), &v[..5]) && self.count(3),
-            Name::Tshift => self.put(TSHIFT.line(line), &v[..5]) && self.count(4),
-            Name::Section => self.put(SECTION.line(line), &v[..1]) && self.count(5),
-            Name::Lane => self.lane(line, v),
-            Name::Extent => self.lane_child(line, v, 2) && self.put(EXTENT.line(line), &v[2..7]),
-            Name::Height => self.lane_child(line, v, 4) && self.put(HEIGHT.line(line), &v[2..5]),
-            Name::Profile => self.put(PROFILE.line(line), &v[..1]) && self.count(6),
-            Name::Shape => self.shape(line, v),
-            Name::Strip => self.strip(line, v),
-            Name::Cubic => self.cubic(line, v),
-            Name::Want => {
-                self.wants[2 * line..][..2].copy_from_slice(&v[..2]);
-                true
+            Name::Elev => self.put_counted(1, ELEV.line(line), &v[..5]),
+            Name::Bank => self.put_counted(2, BANK.line(line), &v[..5]),
+            Name::Offset => self.put_counted(3, OFFSET.line(line), &v[..5]),
+            Name::Tshift => self.put_counted(4, TSHIFT.line(line), &v[..5]),
+            Name::Section => self.put_counted(5, SECTION.line(line), &v[..1]),
+            Name::Lane => self.lane(line, v)?,
+            Name::Extent => {
+                self.lane_child(table, line, v, 2)?;
+                self.put(EXTENT.line(line), &v[2..7]);
             }
+            Name::Height => {
+                self.lane_child(table, line, v, 4)?;
+                self.put(HEIGHT.line(line), &v[2..5]);
+            }
+            Name::Profile => self.put_counted(6, PROFILE.line(line), &v[..1]),
+            Name::Shape => self.shape(line, v)?,
+            Name::Strip => self.strip(line, v)?,
+            Name::Cubic => self.cubic(line, v)?,
+            Name::Want => self.wants[2 * line..][..2].copy_from_slice(&v[..2]),
         }
+        Ok(())
     }
 
-    fn put(&mut self, at: usize, bits: &[u64]) -> bool {
+    fn put(&mut self, at: usize, bits: &[u64]) {
         for (to, &bits) in self.numbers[at..].iter_mut().zip(bits) {
             *to = f64::from_bits(bits);
         }
-        true
     }
 
-    fn count(&mut self, word: usize) -> bool {
+    /// A line of a table with a count of its own.
+    fn put_counted(&mut self, word: usize, at: usize, bits: &[u64]) {
+        self.put(at, bits);
         self.words[word] += 1;
-        true
     }
 
     fn word(&self, at: usize) -> usize {
@@ -351,86 +393,98 @@ impl Store<'_> {
     }
 
     /// Lines of a child table follow their parents' order.
-    fn follows(&mut self, parent: usize) -> bool {
+    fn follows(&mut self, table: Name, line: usize, parent: usize) -> Tested {
         let in_order = self.parent <= parent;
         self.parent = parent;
-        in_order
+        check(in_order, || Wrong::new(Place::Line { table, line }, Reason::ParentBehind))
     }
 
     /// One more line of a child table, for the range that stands at a place of the words. A range without lines stays 0, 0.
-    fn extend(&mut self, at: usize, line: usize) -> bool {
+    fn extend(&mut self, at: usize, line: usize) {
         if self.words[at + 1] == 0 {
             self.words[at] = line as u16;
         }
         self.words[at + 1] += 1;
-        true
     }
 
     /// The section of that number, counted from 0, if there is one.
-    fn section(&self, number: u64) -> Option<usize> {
-        (number < u64::from(self.words[5])).then_some(number as usize)
+    fn section(&self, number: u64) -> Result<usize, Parent> {
+        let exists = (number < u64::from(self.words[5])).then_some(number as usize);
+        exists.ok_or_else(|| Parent::Section { section: number as i64, sections: self.word(5) })
     }
 
     /// Per section ids 1,2.. left then -1,-2.. right. (At most 6 a side is admission's.)
-    fn lane(&mut self, line: usize, v: &Values) -> bool {
-        let Some(section) = self.section(v[0]) else { return false };
+    fn lane(&mut self, line: usize, v: &Values) -> Tested {
+        let section = self.section(v[0]).map_err(|parent| no_parent(Name::Lane, line, parent))?;
         let at = SECTION_WORDS.line(section);
         let (id, left, right) = (v[1] as i64, i64::from(self.words[at + 1]), i64::from(self.words[at + 2]));
         let next_left = id == left + 1 && right == 0;
-        if !self.follows(section) || !(next_left || id == -(right + 1)) {
-            return false;
-        }
+        self.follows(Name::Lane, line, section)?;
+        check(next_left || id == -(right + 1), || {
+            let lanes = Reason::Id { section, id, left: left as usize, right: right as usize };
+            Wrong::new(Place::Line { table: Name::Lane, line }, lanes)
+        })?;
         if left + right == 0 {
             self.words[at] = line as u16;
         }
         self.words[at + if next_left { 1 } else { 2 }] += 1;
         self.words[LANE_WORDS.line(line)] = v[2] as u16;
         self.words[LANE_WORDS.line(line) + 1] = v[3] as u16;
-        true
+        Ok(())
     }
 
     /// The lane of a section and an id, by its line in the lane table.
-    fn lane_of(&self, section: u64, id: i64) -> Option<usize> {
-        let at = SECTION_WORDS.line(self.section(section)?);
-        let [first, left, right] = [0, 1, 2].map(|k| self.word(at + k));
-        let outward = (id.unsigned_abs() as usize).checked_sub(1)?;
-        match id {
-            1.. if outward < left => Some(first + outward),
-            ..=0 if outward < right => Some(first + left + outward),
-            _ => None,
+    fn lane_of(&self, section: u64, id: i64) -> Result<usize, Parent> {
+        let section = self.section(section)?;
+        let [first, left, right] = [0, 1, 2].map(|k| self.word(SECTION_WORDS.line(section) + k));
+        let outward = (id.unsigned_abs() as usize).checked_sub(1);
+        match (id, outward) {
+            (1.., Some(outward)) if outward < left => Ok(first + outward),
+            (..=0, Some(outward)) if outward < right => Ok(first + left + outward),
+            _ => Err(Parent::Lane { section, id, left, right }),
         }
     }
 
     /// A line of extent or height: its lane exists, and its range, in the lane's words from `range` on, gets the line.
-    fn lane_child(&mut self, line: usize, v: &Values, range: usize) -> bool {
-        let Some(lane) = self.lane_of(v[0], v[1] as i64) else { return false };
-        self.follows(lane) && self.extend(LANE_WORDS.line(lane) + range, line)
+    fn lane_child(&mut self, table: Name, line: usize, v: &Values, range: usize) -> Tested {
+        let lane = self.lane_of(v[0], v[1] as i64).map_err(|parent| no_parent(table, line, parent))?;
+        self.follows(table, line, lane)?;
+        self.extend(LANE_WORDS.line(lane) + range, line);
+        Ok(())
     }
 
-    fn shape(&mut self, line: usize, v: &Values) -> bool {
+    fn shape(&mut self, line: usize, v: &Values) -> Tested {
         let exists = v[0] < u64::from(self.words[6]);
-        exists
-            && self.follows(v[0] as usize)
-            && self.extend(PROFILE_WORDS.line(v[0] as usize), line)
-            && self.put(SHAPE.line(line), &v[1..6])
+        let missing = Parent::Profile { profile: v[0] as i64, profiles: self.word(6) };
+        check(exists, || no_parent(Name::Shape, line, missing))?;
+        self.follows(Name::Shape, line, v[0] as usize)?;
+        self.extend(PROFILE_WORDS.line(v[0] as usize), line);
+        self.put(SHAPE.line(line), &v[1..6]);
+        Ok(())
     }
 
     /// Side and place: each pair once, in any order.
-    fn strip(&mut self, line: usize, v: &Values) -> bool {
+    fn strip(&mut self, line: usize, v: &Values) -> Tested {
         let strip = 2 * v[0] as usize + v[1] as usize;
+        let lines = self.strips[strip];
         let first = self.strips[strip] == 0;
         self.strips[strip] = line + 1;
         self.words[STRIP_WORDS.line(strip)] = 1 + v[2] as u16;
-        first
+        check(first, || Wrong::new(Place::Line { table: Name::Strip, line }, Reason::PairAgain { first: lines - 1 }))
     }
 
     /// A strip's cubics follow the strip table's order, and in a strip the terms come width, 0, 1, 2, 3.
-    fn cubic(&mut self, line: usize, v: &Values) -> bool {
+    fn cubic(&mut self, line: usize, v: &Values) -> Tested {
         let (strip, term) = (2 * v[0] as usize + v[1] as usize, v[2] as usize);
         let exists = self.strips[strip] > 0;
-        exists
-            && self.follows(5 * self.strips[strip] + term)
-            && self.extend(STRIP_WORDS.line(strip) + 1 + 2 * term, line)
-            && self.put(CUBIC.line(line), &v[3..8])
+        check(exists, || no_parent(Name::Cubic, line, Parent::Strip { strip }))?;
+        self.follows(Name::Cubic, line, 5 * self.strips[strip] + term)?;
+        self.extend(STRIP_WORDS.line(strip) + 1 + 2 * term, line);
+        self.put(CUBIC.line(line), &v[3..8]);
+        Ok(())
     }
+}
+
+fn no_parent(table: Name, line: usize, parent: Parent) -> Box<Wrong> {
+    Wrong::new(Place::Line { table, line }, Reason::NoParent(parent))
 }

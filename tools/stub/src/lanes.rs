@@ -1,7 +1,7 @@
 // The stub's lanes layer: a plain text of document 01's "Values" on records, profiles, the cross section and the lanes, with the
 // faults that the comparison must find.
 use crate::{Lent, admitted, fault, guarded};
-use comparison::model::*;
+use second::model::*;
 
 // ---- records
 

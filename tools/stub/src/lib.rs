@@ -1,31 +1,38 @@
 // A library with the C functions of include/riftkettle.h that answers by the published Rust and the second admission. It proves
 // that the comparison works before the library exists, and that it finds a difference: RIFTKETTLE_FAULT names one to put in.
-#[cfg(not(edited))]
-use comparison::admission;
-use comparison::answers;
-use comparison::arguments::exact_counts;
-use comparison::model::*;
-use comparison::oracle::Oracle;
-use comparison::stand_ins;
+use interface::answers;
+use published::oracle::Oracle;
+use published::stand_ins;
+use second::arguments::exact_counts;
+use second::model::*;
 use std::panic::{AssertUnwindSafe, catch_unwind};
 use std::sync::OnceLock;
 
-mod stub_lanes;
-mod stub_probes;
-mod stub_surfaces;
+mod lanes;
+mod probes;
+mod surfaces;
 
-use stub_lanes::{borders, lane_named};
-use stub_surfaces::{axes, lane_surface, locate, station, surface};
+use lanes::{borders, lane_named};
+use surfaces::{axes, lane_surface, locate, station, surface};
 
-comparison::riftkettle_functions!(answers);
+interface::riftkettle_functions!(answers);
 
 /// The two slices of a road.
 type Lent<'a> = (&'a [u16], &'a [f64]);
 
-// An edited copy of the second admission, made by self_test.sh.
-#[cfg(edited)]
-#[path = "../../target/differential/edited.rs"]
-mod admission;
+// An edited copy of the second admission or of the second reader in its place (build.rs).
+#[cfg(edited_admission)]
+mod admission {
+    include!(concat!(env!("OUT_DIR"), "/admission.rs"));
+}
+#[cfg(not(edited_admission))]
+use second::admission;
+#[cfg(edited_reader)]
+mod reader {
+    include!(concat!(env!("OUT_DIR"), "/reader.rs"));
+}
+#[cfg(not(edited_reader))]
+use second::reader;
 
 fn fault(name: &str) -> bool {
     static FAULT: OnceLock<String> = OnceLock::new();
@@ -158,13 +165,6 @@ fn find_pose((words, numbers): Lent, lent: &[f64], (geometry, s): (usize, f64), 
 }
 
 // ---- reading
-
-// An edited copy of the second reader, made by self_test.sh.
-#[cfg(not(edited_reader))]
-use comparison::reader;
-#[cfg(edited_reader)]
-#[path = "../../target/differential/edited_reader.rs"]
-mod reader;
 
 fn read(text: &[u8], words: &mut [u16], numbers: &mut [f64], wants: &mut [u64], count: &mut usize) -> u32 {
     guarded(|| read_job(text, words, numbers, wants, count))

@@ -1,22 +1,22 @@
 // The stub's functions inside the library.
 use crate::Lent;
-use crate::stub_lanes::{self, *};
-use comparison::answers;
-use comparison::model::*;
-use comparison::oracle::Oracle;
+use crate::lanes::{self, *};
+use interface::answers;
+use published::oracle::Oracle;
+use second::model::*;
 
-comparison::probe_functions!(answers);
+interface::probe_functions!(answers);
 
 fn sin_cos(h: f64, sin: &mut f64, cos: &mut f64) {
-    (*sin, *cos) = comparison::stand_ins::sin_cos(h);
+    (*sin, *cos) = published::stand_ins::sin_cos(h);
 }
 
 fn eval(start: f64, a: f64, b: f64, c: f64, d: f64, s: f64) -> f64 {
-    stub_lanes::eval(&Cubic { start, a, b, c, d }, s)
+    lanes::eval(&Cubic { start, a, b, c, d }, s)
 }
 
 fn slope(start: f64, a: f64, b: f64, c: f64, d: f64, s: f64) -> f64 {
-    stub_lanes::slope(&Cubic { start, a, b, c, d }, s)
+    lanes::slope(&Cubic { start, a, b, c, d }, s)
 }
 
 fn active(part: &[f64], s: f64) -> usize {

@@ -1,9 +1,9 @@
 // The stub's calls on a road with its samples: a plain text of document 01's "Values" over the Rust's poses and lanes, with the
 // faults that the comparison must find.
 use crate::{Lent, admission, admitted, fault, guarded};
-use comparison::model::*;
-use comparison::oracle::{Across, Oracle};
-use comparison::stand_ins::{self, cos, hypot, root, sin, sin_cos};
+use published::oracle::{Across, Oracle};
+use published::stand_ins::{self, cos, hypot, root, sin, sin_cos};
+use second::model::*;
 
 /// A road that is admitted, with as many samples as it needs.
 struct On {

@@ -1,7 +1,7 @@
 // The second program (second_program.rs) in place of `surface`: a test of the comparison itself. RIFTKETTLE_FAULT names a fault to
 // put in.
-use comparison::reader::TEXT;
-use comparison::second_program::output;
+use published::second_program::output;
+use second::reader::TEXT;
 use std::io::{Read, Write};
 
 fn fault(name: &str) -> bool {

@@ -1,7 +1,6 @@
 // Writes the list of cases that the program `test_admission` runs, and the summary that it must print.
 //
-//     rustc --edition 2024 -O -o /tmp/make_cases tools/cases/main.rs
-//     /tmp/make_cases > crates/test_admission/stdin 2> crates/test_admission/stdout
+//     tools/lists/run.sh admission
 //
 // The list is the same at every run. A line is 36 bytes: a letter, a space, 16 digits, a space, 16 digits, LF. Digits are
 // lowercase hexadecimal, an f64 is its bits. Where nothing is said of a number it is 0.
@@ -14,22 +13,13 @@
 //     a  case, answer     admission is asked: 0, or the number of the refusal. The base road follows, lent whole.
 //     s  case, answer     samples are asked: n + 2^63 for n samples, or the number of the refusal. The base road follows.
 //
-// Each answer is written beside its case, from document 01, and checked here against tools/differential/admission.rs, the second
+// Each answer is written beside its case, from document 01, and checked here against tools/second/src/admission.rs, the second
 // text of 01's limits.
-#[allow(dead_code)]
-#[path = "../differential/admission.rs"]
-mod admission;
-#[allow(dead_code)]
-#[path = "../differential/model.rs"]
-mod model;
-#[allow(dead_code)]
-#[path = "../differential/random.rs"]
-mod random;
-
 mod roads;
 mod rows;
 
-use model::{Memory, NUMBERS, WORDS};
+use second::admission;
+use second::model::{Memory, NUMBERS, WORDS};
 
 /// One change to the base road, or to what is lent of it.
 #[derive(Clone, Copy)]

@@ -1,6 +1,6 @@
 // The roads that cases start from.
 use crate::SPARE;
-use crate::model::*;
+use second::model::*;
 
 fn empty(length: f64) -> Memory {
     let mut m = Memory { words: vec![0; WORDS + SPARE], numbers: vec![0.0; NUMBERS + SPARE] };

@@ -1,9 +1,9 @@
 // The cases, by the rows of the requirements that they stand for: ADM-01 to ADM-26, CALL-10 to CALL-15 and 01's runs. ADM-07 (all
 // else is row 4) and ADM-25 (refused exactly when 01 says so) are the whole list's: each limit has cases on both sides.
 use crate::Change::{self, Lent, Number, Word};
-use crate::admission::{bound, spiral_samples};
-use crate::model::*;
 use crate::{List, SAMPLES, roads};
+use second::admission::{bound, spiral_samples};
+use second::model::*;
 
 const TINY: f64 = 5e-324;
 const INF: f64 = f64::INFINITY;

@@ -1,8 +1,9 @@
 // The cases, by the sentences of document 01 that they stand for.
-use crate::draft::{self, Draft};
-use crate::reader::{Cell, Name, TABLES};
-use crate::{LENT, List, texts};
+use crate::{LENT, List};
 use Name::*;
+use lists::draft::{self, Draft};
+use second::reader::{Cell, Name, TABLES};
+use second::texts;
 
 pub fn all(list: &mut List) {
     let m1 = draft::m1();

@@ -1,8 +1,7 @@
 // Writes the list of cases that the program `test_jobs` reads, and what it must print: a text, how much of the three slices is
 // lent, and the answer, the number of wants and a checksum of all memory afterwards.
 //
-//     rustc --edition 2024 -O -o /tmp/make_jobs tools/jobs/main.rs
-//     /tmp/make_jobs > crates/test_jobs/stdin 2> crates/test_jobs/stdout
+//     tools/lists/run.sh jobs
 //
 // The list is the same at every run. A line is 36 bytes: a letter, a space, 16 digits (a), a space, 16 digits (b), LF. Digits are
 // lowercase hexadecimal. The list writes one text after the other; a text is made of bytes given and of pieces of an earlier
@@ -15,34 +14,14 @@
 //     l  a, b   the next case lends a words and b numbers
 //     r  a, b   case b: a wants are lent, the text is read; then the text is empty
 //
-// Each answer is written beside its case, from document 01, and checked here against tools/differential/reader.rs, the second
+// Each answer is written beside its case, from document 01, and checked here against tools/second/src/reader.rs, the second
 // text of 01's job text.
-#[allow(dead_code)]
-#[path = "../differential/admission.rs"]
-mod admission;
-#[allow(dead_code)]
-#[path = "../differential/generate.rs"]
-mod generate;
-#[allow(dead_code)]
-#[path = "../differential/model.rs"]
-mod model;
-#[allow(dead_code)]
-#[path = "../differential/random.rs"]
-mod random;
-#[allow(dead_code)]
-#[path = "../differential/reader.rs"]
-mod reader;
-#[allow(dead_code)]
-#[path = "../differential/texts.rs"]
-mod texts;
-
 mod cases;
-mod draft;
 mod pieces;
 
-use model::{NUMBERS, WORDS};
 use pieces::Piece;
-use reader::WANTS;
+use second::model::{NUMBERS, WORDS};
+use second::reader::{self, WANTS};
 
 /// The program's memory: words, numbers, wants. Before each case all of it is filled.
 const MEMORY: [usize; 3] = [1400, 8000, 40];

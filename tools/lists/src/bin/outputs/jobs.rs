@@ -1,11 +1,12 @@
 // The jobs, by kind: every kind of record, wants on the road and off it, every refusal that a job can have.
-use crate::draft::{self, Draft};
-use crate::model::{Cubic, Height, Lane, Profile, Road, Shape, Strip};
-use crate::reader::Name::{self, *};
-use crate::reader::TABLES;
 use crate::roads::{self, border, cubic, flat, level, raised, road, section, sloped, straight, strip, width};
-use crate::{List, job, texts};
-use comparison::random::Rng;
+use crate::{List, job};
+use lists::draft::{self, Draft};
+use second::model::{Cubic, Height, Lane, Profile, Road, Shape, Strip};
+use second::random::Rng;
+use second::reader::Name::{self, *};
+use second::reader::TABLES;
+use second::texts;
 
 const SEED: u64 = 1;
 

@@ -1,8 +1,8 @@
-// Writes the list of jobs that the program `test_outputs` replays, and what the second program (tools/differential, the second
+// Writes the list of jobs that the program `test_outputs` replays, and what the second program (tools/published, the second
 // reader and the published Rust) writes for each; and the examples, a job and its output in a file each. One command makes all
 // files anew, the same at every run:
 //
-//     tools/outputs/run.sh
+//     tools/lists/run.sh outputs
 //
 // A job of the list is a line of 36 bytes, `j`, a space, its number, a space, how many bytes its text has, LF, the numbers as 16
 // lowercase hexadecimal digits; then its text as it is. A line `e` of the same form ends the list. `test_outputs` writes a line `job`
@@ -10,15 +10,12 @@
 //
 // Each job stands with what its output says (`says`): `refused` and the number, or a word of a letter a want, p for a point, 7 or
 // 8 for a refusal. It is written from document 01 and held against the second program's output.
-#[allow(dead_code)]
-#[path = "../jobs/draft.rs"]
-mod draft;
 mod jobs;
 mod roads;
 
-use comparison::model::Road;
-use comparison::{model, reader, second_program, texts};
-use draft::Draft;
+use lists::draft::Draft;
+use published::second_program;
+use second::model::Road;
 use std::collections::BTreeMap;
 
 #[derive(Default)]

@@ -1,6 +1,6 @@
 // The roads of the examples, one for each feature: realistic, and without holes, each geometry ending where the next begins.
-use crate::model::{Cubic, Geom, Height, Lane, Profile, Road, Section, Shape, Strip};
-use comparison::oracle::Line;
+use published::oracle::Line;
+use second::model::{Cubic, Geom, Height, Lane, Profile, Road, Section, Shape, Strip};
 
 pub fn cubic(start: f64, a: f64, b: f64, c: f64, d: f64) -> Cubic {
     Cubic { start, a, b, c, d }

@@ -1,8 +1,8 @@
 // The calls of the surface layer: the number of the first of 01's rows that fails, else what the published Rust answers.
 use crate::List;
-use comparison::admission;
-use comparison::oracle::Oracle;
-use comparison::stand_ins::hypot;
+use published::oracle::Oracle;
+use published::stand_ins::hypot;
+use second::admission;
 
 /// A row of 01's table: its number, and whether it passes.
 type Row = (u32, bool);

@@ -1,7 +1,7 @@
 // Writes the list of questions that the program `test_roads` asks, and what the published Rust answers. One command makes both
 // files anew, the same at every run:
 //
-//     tools/answers/run.sh
+//     tools/lists/run.sh roads
 //
 // A question is a line of 36 bytes: a letter, a space, 16 digits, a space, 16 digits, LF. Digits are lowercase hexadecimal, an
 // f64 is its bits. Where nothing is said of a number it is 0.
@@ -32,17 +32,17 @@
 // 8,000 numbers, zeros at first. Places of the road that its lists do not name keep what the roads before it left there.
 //
 // Document 01 says what is answered for roads that it admits, so every road is put to its second text of admission
-// (tools/differential/admission.rs), and this stops where it refuses or where s or t is out of range. Only the calls of the surface
+// (tools/second/src/admission.rs), and this stops where it refuses or where s or t is out of range. Only the calls of the surface
 // layer are also asked what 01 refuses: the rows are in calls.rs, the road's by that second text.
 mod calls;
 mod questions;
 mod roads;
 mod surfaces;
 
-use comparison::admission;
-use comparison::model::{Memory, NUMBERS, Road, WORDS};
-use comparison::oracle::Oracle;
-use comparison::random::Rng;
+use published::oracle::Oracle;
+use second::admission;
+use second::model::{Memory, NUMBERS, Road, WORDS};
+use second::random::Rng;
 use std::collections::BTreeMap;
 
 pub const SEED: u64 = 1;

@@ -1,9 +1,9 @@
 // What is asked of each road: most stations lie where a record starts, at it or some nanometres beside it.
 use crate::surfaces::Asked;
 use crate::{List, roads};
-use comparison::model::*;
-use comparison::oracle::{Oracle, Records};
-use comparison::random::{Rng, beside};
+use published::oracle::{Oracle, Records};
+use second::model::*;
+use second::random::{Rng, beside};
 
 /// The starts of all records along the road, a lane's own added to its section's.
 pub fn starts(road: &Road) -> Vec<f64> {

@@ -1,9 +1,9 @@
 // The roads that are asked about: random admitted ones that take few lines.
 use crate::List;
-use comparison::generate;
-use comparison::model::*;
-use comparison::oracle::Oracle;
-use comparison::random::Rng;
+use published::oracle::Oracle;
+use second::generate;
+use second::model::*;
+use second::random::Rng;
 
 /// The places of memory that a road names, and what it puts there.
 pub struct Laid {
@@ -35,7 +35,7 @@ fn put(list: &mut List, rng: &mut Rng, most: usize, draft: impl Fn(&mut Rng) -> 
 
 fn admitted(rng: &mut Rng, road: &Road) -> bool {
     let memory = road.lay(rng, Style::default());
-    memory.is_some_and(|m| comparison::admission::admit(&m.words, &m.numbers) == 0)
+    memory.is_some_and(|m| second::admission::admit(&m.words, &m.numbers) == 0)
 }
 
 /// A road with a reference line only, of a few geometries; half of them have spirals, some an arc at the limits of curvature.

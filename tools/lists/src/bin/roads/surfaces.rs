@@ -2,9 +2,9 @@
 use crate::calls::{Located, located};
 use crate::questions::{ids, offset, starts, station};
 use crate::{List, roads};
-use comparison::model::{GEOM, Road, Shape};
-use comparison::oracle::Oracle;
-use comparison::random::{Rng, nudge};
+use published::oracle::Oracle;
+use second::model::{GEOM, Road, Shape};
+use second::random::{Rng, nudge};
 
 /// A road, and where its records start.
 pub struct Asked<'a> {
@@ -114,7 +114,7 @@ impl<'a> Asked<'a> {
         let (mut first, mut all) = (0, Vec::new());
         for (i, g) in self.road.geoms.iter().enumerate().filter(|(_, g)| matches!(g.shape, Shape::Spiral(..))) {
             let end = self.road.geoms.get(i + 1).map_or(self.road.length, |next| next.s.min(self.road.length));
-            let n = comparison::admission::spiral_samples(g.length);
+            let n = second::admission::spiral_samples(g.length);
             let stations = (0..n).map(|k| (first + k, g.s + 0.25 * k as f64));
             all.extend(stations.filter(|&(_, s)| s < end));
             first += n;

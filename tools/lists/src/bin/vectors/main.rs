@@ -1,7 +1,6 @@
 // Writes the list of vectors that the program `test_vectors` replays, and the summary that it must print.
 //
-//     rustc -O -o /tmp/make_vectors tools/vectors/main.rs
-//     /tmp/make_vectors > crates/test_vectors/stdin 2> crates/test_vectors/stdout
+//     tools/lists/run.sh vectors
 //
 // The list is the same at every run: the random part starts from a fixed seed. A line is 36 bytes: a letter, a space, the
 // argument's 16 digits, a space, the answer's 16 digits, LF. Digits are lowercase hexadecimal, an f64 is its bits.
@@ -152,7 +151,16 @@ impl List {
 
     // NaNs of several patterns, infinities, zeros, the least and the greatest finite numbers and one.
     fn specials(&mut self, kind: u8) {
-        for pattern in [0x7ff8_0000_0000_0000, 0x7ff0_0000_0000_0001, 0x7fff_ffff_ffff_ffff, 0x7ff0_0000_0000_0000, 0, 1, 0x7fef_ffff_ffff_ffff, 0x3ff0_0000_0000_0000] {
+        for pattern in [
+            0x7ff8_0000_0000_0000,
+            0x7ff0_0000_0000_0001,
+            0x7fff_ffff_ffff_ffff,
+            0x7ff0_0000_0000_0000,
+            0,
+            1,
+            0x7fef_ffff_ffff_ffff,
+            0x3ff0_0000_0000_0000,
+        ] {
             self.pattern(kind, pattern);
             self.pattern(kind, pattern | 1 << 63);
         }

@@ -1,0 +1,315 @@
+//! What `desk check` says of chosen jobs, word for word: each kind of refusal, and an admitted road with its wants.
+use desk::check::{answer, explain_memory};
+use second::model::{NUMBERS, WORDS};
+
+/// A straight road of 100 m: tables are put between its parts.
+const ROAD: &str = "road length\n4059000000000000\n\n";
+const GEOM: &str = "geom s x y hdg length kind k0 k1\n\
+    0000000000000000 0000000000000000 0000000000000000 0000000000000000 4059000000000000 line \
+    0000000000000000 0000000000000000\n\n";
+const SECTION: &str = "section start\n0000000000000000\n\n";
+
+/// A line of cells: a decimal with a point becomes digits, any other word stays.
+fn cells(line: &str) -> String {
+    let cell = |word: &str| match word.parse::<f64>() {
+        Ok(x) if word.contains('.') => format!("{:016x}", x.to_bits()),
+        _ => word.to_string(),
+    };
+    line.split(' ').map(cell).collect::<Vec<_>>().join(" ") + "\n"
+}
+
+fn table(names: &str, lines: &[&str]) -> String {
+    let lines: String = lines.iter().map(|line| cells(line)).collect();
+    format!("{names}\n{lines}\n")
+}
+
+/// What is said of a job, where the library and the second text agree.
+fn said(job: &str) -> String {
+    let answer = answer(job.as_bytes());
+    assert!(answer.differ.is_none(), "{}", answer.text);
+    answer.text
+}
+
+/// What is said of the road with a table after its geometry, and with tables after its section.
+fn along(table: &str) -> String {
+    said(&format!("{ROAD}{GEOM}{table}{SECTION}"))
+}
+
+fn across(tables: &[String]) -> String {
+    said(&format!("{ROAD}{GEOM}{SECTION}{}", tables.concat()))
+}
+
+#[test]
+fn admitted_with_wants() {
+    let wants = table("want s t", &["50.0 2.5", "120.5 0.0", "1.0 -80.5"]);
+    assert_eq!(
+        across(&[wants]),
+        "admitted: a road of 100 m
+  geometries: 1 line
+  1 section, 0 lanes
+  lines: road 1, geom 1, section 1, want 3
+  samples needed: 0 of 2,000
+wants:
+  s = 50, t = 2.5: x = 50, y = 2.5, z = 0, heading 0
+  s = 120.5, t = 0: refused 7: s = 120.5 is past the road's length 100
+  s = 1, t = -80.5: refused 8: t = -80.5 is outside -80 to 80
+"
+    );
+}
+
+#[test]
+fn names_that_are_none() {
+    assert_eq!(
+        along("bank start a b c c\n\n"),
+        "refused 1: a line breaks the job form
+  line 7, byte 18:
+    bank start a b c c
+                     ^
+  found `c`
+  expected a column of table bank that the line does not have yet: d
+"
+    );
+    assert_eq!(
+        said(&format!("{GEOM}{ROAD}{SECTION}")),
+        "refused 1: a line breaks the job form
+  line 4, byte 1:
+    road length
+    ^
+  found `road`
+  expected the names of a table that may come after geom: elev, bank, offset, tshift, section, lane, extent, height, profile, \
+         shape, strip, cubic, want
+  tables come in a fixed order, each at most once
+"
+    );
+}
+
+#[test]
+fn digits_that_are_none() {
+    assert_eq!(
+        said("road length\n4059A00000000000\n\n"),
+        "refused 1: a line breaks the job form
+  line 2, byte 5:
+    4059A00000000000
+        ^
+  found `A` in `4059A00000000000`
+  expected 16 lowercase hexadecimal digits for column length of table road
+  digits are lowercase
+"
+    );
+    assert_eq!(
+        said("road length\n100.5\n\n"),
+        "refused 1: a line breaks the job form
+  line 2, byte 4:
+    100.5
+       ^
+  found `.` in `100.5`
+  expected 16 lowercase hexadecimal digits for column length of table road
+  decimals are not read; `desk hex` turns them into digits
+"
+    );
+}
+
+#[test]
+fn words_and_whole_numbers_that_are_none() {
+    assert_eq!(
+        across(&[table("lane section id extent level", &["0 1 broad 0"])]),
+        "refused 1: a line breaks the job form
+  line 11, byte 5:
+    0 1 broad 0
+        ^
+  found `broad`
+  expected one of the words width, border for column extent of table lane
+"
+    );
+    assert_eq!(
+        across(&[table("lane section id extent level", &["0 -0 width 0"])]),
+        "refused 1: a line breaks the job form
+  line 11, byte 3:
+    0 -0 width 0
+      ^
+  found `-0`
+  expected a whole number (up to 4 digits, no leading zeros, `-` if negative) for column id of table lane
+"
+    );
+}
+
+#[test]
+fn line_ends() {
+    assert_eq!(
+        said("road length\n4059000000000000\r\n\r\n"),
+        "refused 1: a line breaks the job form
+  line 2, byte 17:
+    4059000000000000\u{fffd}
+                    ^
+  found the byte 0d after `4059000000000000`, which no line may have
+  expected the end of the line after column length, the last that table road names
+  lines end in LF alone, not in CR LF
+"
+    );
+    assert_eq!(
+        said("road length\n4059000000000000\n"),
+        "refused 1: a line breaks the job form
+  line 3, byte 1
+  found the end of the text
+  expected an empty line to end table road; every table has one, the last too
+"
+    );
+}
+
+#[test]
+fn too_long() {
+    assert_eq!(
+        said(&format!("road length\n{}\n", "4059000000000000\n".repeat(2))),
+        "refused 2: the text or a table of it is too long, or a lent slice too short
+  line 3, table road, line 2 of its table
+  it is one too many: the table may have at most 1 line
+"
+    );
+    assert_eq!(
+        said(&" ".repeat(65_537)),
+        "refused 2: the text or a table of it is too long, or a lent slice too short
+  the text has 65,537 bytes, at most 65,536 are read
+"
+    );
+}
+
+#[test]
+fn parents() {
+    let lanes = table("lane section id extent level", &["0 1 width 0", "0 -1 width 0"]);
+    let extents = |lines: &[&str]| table("extent section id start a b c d", lines);
+    assert_eq!(
+        across(&[lanes.clone(), extents(&["0 2 0.0 3.0 0.0 0.0 0.0"])]),
+        "refused 3: counts, references or order are wrong
+  line 15, table extent, line 1 of its table
+  there is no lane 2 in section 0, which has 1 left lane and 1 right lane
+"
+    );
+    assert_eq!(
+        across(&[lanes, extents(&["0 -1 0.0 3.0 0.0 0.0 0.0", "0 1 0.0 3.0 0.0 0.0 0.0"])]),
+        "refused 3: counts, references or order are wrong
+  line 16, table extent, line 2 of its table
+  its lane (section 0, id 1) comes before that of line 15 (section 0, id -1): lines follow the order of their parents
+"
+    );
+}
+
+#[test]
+fn order() {
+    assert_eq!(
+        along(&table("elev start a b c d", &["20.0 0.0 0.0 0.0 0.0", "19.5 0.0 0.0 0.0 0.0"])),
+        "refused 3: counts, references or order are wrong
+  line 9, table elev, line 2 of its table, column start: 19.5 (4033800000000000)
+  it is below 20 (4034000000000000) of line 8: starts never fall
+"
+    );
+    assert_eq!(
+        said(&format!("{ROAD}{GEOM}section start\n3ff0000000000000\n\n")),
+        "refused 3: counts, references or order are wrong
+  line 8, table section, line 1 of its table, column start: 1 (3ff0000000000000)
+  the first start must be 0
+"
+    );
+}
+
+#[test]
+fn bounds() {
+    assert_eq!(
+        along(&table("bank start a b c d", &["0.0 0.1 0.0 0.0 0.0", "20.0 0.76 0.0 0.0 0.0", "60.0 0.0 0.0 0.0 0.0"])),
+        "refused 4: a number is not finite or outside its limit
+  line 9, table bank, line 2 of its table, column a: 0.76 (3fe851eb851eb852)
+  bound B = 0.76 over reach D = 40.001 m (to the next start, s = 60) is above 0.75
+"
+    );
+    assert_eq!(
+        along(&table("elev start a b c d", &["0.0 1.0 0.02 0.01 0.0"])),
+        "refused 4: a number is not finite or outside its limit
+  line 8, table elev, line 1 of its table:
+    column b: 0.02 (3f947ae147ae147b)
+    column c: 0.01 (3f847ae147ae147b)
+  the greatest slope = 2.02002 over reach D = 100.001 m (to the road's end, s = 100) is above 1
+"
+    );
+    let strip = table("strip side place relative", &["left 0 0"]);
+    let cubics = ["left 0 0 0.0 20.0 0.0 0.0 0.0", "left 0 1 0.0 0.1 0.0 0.0 0.0", "left 0 1 50.0 0.3 0.0 0.0 0.0"];
+    assert_eq!(
+        across(&[strip, table("cubic side place term start a b c d", &cubics)]),
+        "refused 4: a number is not finite or outside its limit
+  line 16, table cubic, line 3 of its table
+  the terms of strip left 0 by Horner at 88 m are 46.4, above 40:
+    term 0: greatest bound B = 20 (line 14)
+    term 1: greatest bound B = 0.3 (line 16)
+    term 2: greatest bound B = 0 (no line)
+    term 3: greatest bound B = 0 (no line)
+"
+    );
+}
+
+#[test]
+fn ranges() {
+    assert_eq!(
+        said(&format!("{}{GEOM}{SECTION}", ROAD.replace("4059000000000000", "7ff8000000000001"))),
+        "refused 4: a number is not finite or outside its limit
+  line 2, table road, line 1 of its table, column length: not a number (7ff8000000000001)
+  it is outside 0.01 to 10000
+"
+    );
+    assert_eq!(
+        along(&table("elev start a b c d", &["100.5 0.0 0.0 0.0 0.0"])),
+        "refused 4: a number is not finite or outside its limit
+  line 8, table elev, line 1 of its table, column start: 100.5 (4059200000000000)
+  it is outside 0 to 100, the road's length
+"
+    );
+}
+
+#[test]
+fn samples() {
+    let spirals = ["0.0 0.0 0.0 0.0 250.0 spiral 0.0 0.01", "50.0 0.0 0.0 0.0 1000.0 spiral 0.0 0.01"];
+    let geoms = table("geom s x y hdg length kind k0 k1", &spirals);
+    assert_eq!(
+        said(&format!("{ROAD}{geoms}{SECTION}")),
+        "refused 5: the spirals need over 2,000 samples
+  the spirals need 5,002 samples, at most 2,000 are allowed:
+    line 5, table geom, line 1 of its table: 250 m, 1,001 samples
+    line 6, table geom, line 2 of its table: 1000 m, 4,001 samples
+"
+    );
+}
+
+#[test]
+fn lent_memory() {
+    let (mut words, mut numbers) = (vec![0; WORDS], vec![0.0; NUMBERS]);
+    let mut said = |change: fn(&mut [u16], &mut [f64])| {
+        (words[0], words[5], numbers[0], numbers[5]) = (1, 1, 100.0, 100.0);
+        change(&mut words, &mut numbers);
+        explain_memory(&words, &numbers).map_or(String::new(), |explanation| explanation.to_string())
+    };
+    assert_eq!(said(|_, _| {}), "");
+    assert_eq!(
+        said(|_, numbers| numbers[2] = 1e7),
+        "refused 4: a number is not finite or outside its limit
+  table geom, line 0 from 0, column x, numbers[2]: 10000000 (416312d000000000)
+  it is outside -1000000 to 1000000
+"
+    );
+    assert_eq!(
+        said(|words, _| words[72..74].copy_from_slice(&[1, 7])),
+        "refused 3: counts, references or order are wrong
+  words[73] = 7: the right lanes of section 0
+  section 0 has 7 lanes on the right, at most 6 are allowed
+"
+    );
+    assert_eq!(
+        said(|words, _| (words[73], words[121], words[122]) = (1, 510, 3)),
+        "refused 3: counts, references or order are wrong
+  words[121] = 510: the first extent of lane 0 from 0
+  lane 1 of section 0 has 3 extents from line 510 on: past the 512 lines of table extent
+"
+    );
+    assert_eq!(
+        explain_memory(&words[1..], &numbers).map_or(String::new(), |explanation| explanation.to_string()),
+        "refused 3: counts, references or order are wrong
+  the lent slice `words` has 1,346 elements, 1,347 are needed
+"
+    );
+}

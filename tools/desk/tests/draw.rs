@@ -1,0 +1,306 @@
+//! `desk draw`: every sample job and some hard ones are drawn, well formed and with what they should have; all else is refused.
+use std::fs;
+use std::io::Write;
+use std::path::{Path, PathBuf};
+use std::process::{Command, Output, Stdio};
+
+use desk::draw::picture;
+use riftkettle::Road;
+use second::generate;
+use second::model;
+use second::random::Rng;
+use second::texts::{self, Job, Writing};
+
+/// The most bytes of a picture.
+const LARGEST: usize = 1 << 20;
+
+fn jobs() -> Vec<PathBuf> {
+    let folder = Path::new(env!("CARGO_MANIFEST_DIR")).join("../../examples/jobs");
+    let files = fs::read_dir(folder).unwrap().map(|entry| entry.unwrap().path());
+    let mut jobs: Vec<PathBuf> = files.filter(|path| path.extension().is_some_and(|e| e == "job")).collect();
+    jobs.sort();
+    assert!(!jobs.is_empty());
+    jobs
+}
+
+fn sample(name: &str) -> Vec<u8> {
+    fs::read(jobs().into_iter().find(|path| path.ends_with(name)).unwrap()).unwrap()
+}
+
+// ---- a small reader of elements
+
+/// The texts of all elements of that name, if tags are balanced and attributes quoted.
+fn texts<'a>(svg: &'a str, name: &str) -> Vec<&'a str> {
+    let (mut open, mut found) = (Vec::new(), Vec::new());
+    for part in svg.split('<').skip(1) {
+        let (tag, text) = part.split_once('>').expect("a tag ends");
+        assert_eq!(tag.matches('"').count() % 2, 0, "{tag}");
+        assert!(!text.contains(['&', '<', '>']) || text.contains(';'), "{text}");
+        match (tag.strip_prefix('/'), tag.strip_suffix('/')) {
+            (Some(closed), _) => assert_eq!(open.pop(), Some(closed), "{svg}"),
+            (None, Some(_)) => assert_eq!(text.trim(), ""),
+            (None, None) => {
+                open.push(tag.split(' ').next().unwrap());
+                found.extend((open.last() == Some(&name)).then_some(text));
+            }
+        }
+    }
+    assert!(open.is_empty(), "{open:?}");
+    found
+}
+
+/// The checks that every picture stands.
+fn well_formed(svg: &str) -> Vec<&str> {
+    assert!(svg.starts_with("<svg ") && svg.ends_with("</svg>\n"));
+    assert!(svg.len() < LARGEST, "{} bytes", svg.len());
+    assert!(!svg.contains("=\"NaN") && !svg.contains(",NaN") && !svg.contains("inf,") && !svg.contains(",inf"));
+    texts(svg, "text")
+}
+
+#[test]
+fn the_reader_of_elements_finds_faults() {
+    assert_eq!(texts("<svg><text x=\"1\">a</text><b/></svg>", "text"), ["a"]);
+    for fault in ["<svg><g></svg>", "<svg></g></svg>", "<svg x=\"1></svg>", "<svg>"] {
+        assert!(std::panic::catch_unwind(|| texts(fault, "text").len()).is_err(), "{fault}");
+    }
+}
+
+// ---- what is drawn
+
+#[test]
+fn every_sample_job_is_drawn_whole() {
+    for path in jobs() {
+        let (job, name) = (fs::read(&path).unwrap(), path.file_name().unwrap().to_str().unwrap());
+        let svg = picture(path.to_str().unwrap(), &job, None).unwrap();
+        let words = well_formed(&svg);
+        let mut road = Box::new(Road::new());
+        road.read(&job).unwrap();
+        let model = model::Road::read(road.lent().words, road.lent().numbers);
+        assert!(words.contains(&name), "{name}");
+        assert!(words.iter().any(|w| w.starts_with(&format!("length {} m, ", road.length()))), "{name}");
+        for want in 0..road.wants().len() {
+            assert!(words.contains(&format!("w{want}").as_str()), "{name}: w{want}");
+        }
+        let (left, right) = (model.sections[0].left.len() as i32, model.sections[0].right.len() as i32);
+        for id in (-right..=left).filter(|id| *id != 0) {
+            assert!(words.contains(&id.to_string().as_str()), "{name}: lane {id}");
+        }
+        for heading in ["Plan", "Elevation", "Bank", "Legend"] {
+            assert!(words.contains(&heading), "{name}: {heading}");
+        }
+        assert!(words.iter().any(|w| w.starts_with("Cross section at s ")), "{name}");
+    }
+}
+
+#[test]
+fn the_cross_section_is_at_the_first_want_or_where_it_is_asked_for() {
+    let job = sample("two_sections.job");
+    let heading = |at| picture("j", &job, at).unwrap();
+    assert!(heading(None).contains(">Cross section at s 30 m<"));
+    assert!(heading(Some(99.5)).contains(">Cross section at s 99.5 m<"));
+    assert!(
+        heading(Some(0.0)).contains(">Cross section at s 0 m<") && heading(Some(100.0)).contains(">Cross section at s 100 m<")
+    );
+    let job = String::from_utf8(job).unwrap();
+    let bare = &job[..job.find("want").unwrap()];
+    let svg = picture("j", bare.as_bytes(), None).unwrap();
+    assert!(svg.contains(">Cross section at s 50 m<") && svg.contains(">No wants<"));
+}
+
+#[test]
+fn a_name_is_text_and_nothing_else() {
+    let svg = picture("x/<b>&\"'\u{7}.job", &sample("m1.job"), None).unwrap();
+    assert!(well_formed(&svg).contains(&"&lt;b&gt;&amp;&quot;&#39;\u{fffd}.job"));
+}
+
+fn hex(x: f64) -> String {
+    format!("{:016x}", x.to_bits())
+}
+
+/// A job of geometries (s, x, y, heading, length, kind, k0), sections (start, widths left, widths right) and wants.
+struct Text<'a> {
+    length: f64,
+    geoms: &'a [(f64, f64, f64, f64, f64, &'a str, f64)],
+    sections: &'a [(f64, &'a [f64], &'a [f64])],
+    wants: &'a [(f64, f64)],
+}
+
+impl Text<'_> {
+    fn written(&self) -> Vec<u8> {
+        let mut tables = vec![vec!["road length".to_string(), hex(self.length)]];
+        let mut geoms = vec!["geom s x y hdg length kind k0 k1".to_string()];
+        let geom = |(s, x, y, h, l, kind, k): &(f64, f64, f64, f64, f64, &str, f64)| {
+            format!("{} {} {} {} {} {kind} {} {}", hex(*s), hex(*x), hex(*y), hex(*h), hex(*l), hex(*k), hex(0.0))
+        };
+        geoms.extend(self.geoms.iter().map(geom));
+        let mut sections = vec!["section start".to_string()];
+        let (mut lanes, mut extents) =
+            (vec!["lane section id extent level".to_string()], vec!["extent section id start a b c d".to_string()]);
+        for (number, (start, left, right)) in self.sections.iter().enumerate() {
+            sections.push(hex(*start));
+            let ids = (1..).zip(left.iter()).chain((1..).map(|n: i32| -n).zip(right.iter()));
+            for (id, width) in ids {
+                lanes.push(format!("{number} {id} width 0"));
+                extents.push(format!("{number} {id} {0} {1} {0} {0} {0}", hex(0.0), hex(*width)));
+            }
+        }
+        let mut wants = vec!["want s t".to_string()];
+        wants.extend(self.wants.iter().map(|(s, t)| format!("{} {}", hex(*s), hex(*t))));
+        tables.extend([geoms, sections, lanes, extents, wants]);
+        let full = tables.into_iter().filter(|table| table.len() > 1);
+        full.map(|table| table.join("\n") + "\n\n").collect::<String>().into_bytes()
+    }
+
+    fn drawn(&self) -> String {
+        picture("hard.job", &self.written(), None).unwrap()
+    }
+}
+
+const LINE: (f64, f64, f64, f64, f64, &str, f64) = (0.0, 0.0, 0.0, 0.0, 100.0, "line", 0.0);
+
+#[test]
+fn refused_wants_are_listed_with_their_numbers() {
+    let text =
+        Text { length: 100.0, geoms: &[LINE], sections: &[(0.0, &[3.5], &[])], wants: &[(200.0, 0.0), (1.0, 90.0), (5.0, 1.0)] };
+    let svg = text.drawn();
+    let words = well_formed(&svg);
+    assert!(words.iter().any(|w| w.starts_with("refused 7")) && words.iter().any(|w| w.starts_with("refused 8")));
+    assert!(words.contains(&"Cross section at s 5 m"));
+}
+
+#[test]
+fn jumps_are_told_and_not_bridged() {
+    let second = (40.0, 40.0, 1.5, 0.0, 60.0, "line", 0.0);
+    let text = Text { length: 100.0, geoms: &[LINE, second], sections: &[(0.0, &[3.5], &[3.5])], wants: &[] };
+    let svg = text.drawn();
+    assert!(well_formed(&svg).contains(&"s 40: 1.500 m away"));
+    // The lanes' outlines are split in two, and no line of the road rises.
+    assert_eq!(svg.matches("<path class=\"left-a\"").count(), 2);
+    let level = |d: &str| d.split(' ').map(|p| p.rsplit(',').next().unwrap().to_string()).collect::<Vec<_>>();
+    for path in svg.split("<path class=\"ref line\" d=\"M").skip(1) {
+        let heights = level(path.split('"').next().unwrap());
+        assert!(heights.windows(2).all(|h| h[0] == h[1]), "{heights:?}");
+    }
+}
+
+#[test]
+fn small_far_and_long_roads_are_drawn() {
+    let up = std::f64::consts::FRAC_PI_2;
+    let lanes: &[(f64, &[f64], &[f64])] = &[(0.0, &[3.5, 3.0], &[3.5])];
+    let bare: &[(f64, &[f64], &[f64])] = &[(0.0, &[], &[])];
+    let tiny = Text { length: 0.01, geoms: &[(0.0, 1e6, -1e6, 1.0, 0.01, "line", 0.0)], sections: bare, wants: &[(0.005, 0.0)] };
+    let svg = tiny.drawn();
+    assert!(well_formed(&svg).contains(&"1000000.000"));
+    let vertical =
+        Text { length: 500.0, geoms: &[(0.0, 0.0, 0.0, up, 500.0, "line", 0.0)], sections: lanes, wants: &[(1.0, 2.0); 16] };
+    let svg = vertical.drawn();
+    let words = well_formed(&svg);
+    assert!(words.contains(&"Detail") && words.contains(&"w0, w1, w2 and 13 more"));
+    let wound = Text { length: 10_000.0, geoms: &[(0.0, 0.0, 0.0, 0.0, 10_000.0, "arc", 1.0)], sections: lanes, wants: &[] };
+    let svg = wound.drawn();
+    assert!(well_formed(&svg).iter().any(|w| w.starts_with("Curves too tight")));
+    let sections: Vec<(f64, &[f64], &[f64])> = (0..16).map(|i| (f64::from(i) * 600.0, &[3.0; 6][..], &[3.0; 6][..])).collect();
+    let bend = (0.0, 0.0, 0.0, 0.0, 10_000.0, "arc", 0.05);
+    well_formed(&Text { length: 10_000.0, geoms: &[bend], sections: &sections, wants: &[] }.drawn());
+}
+
+/// DESK_DRAW_ROADS asks for more of them.
+#[test]
+fn roads_of_all_kinds_are_drawn() {
+    let count = std::env::var("DESK_DRAW_ROADS").map_or(24, |n| n.parse().unwrap());
+    let mut rng = Rng::new(7, "draw");
+    for i in 0..count {
+        let kinds = [generate::admitted, generate::across, generate::surfaced];
+        let (road, _) = kinds[i % kinds.len()](&mut rng);
+        let wants = texts::wants(&mut rng, road.length);
+        let writing = Writing::random(&mut rng);
+        let job = Job::of(&mut rng, &road, &wants, writing).text;
+        match picture("random.job", &job, None) {
+            Ok(svg) => drop(well_formed(&svg)),
+            // Some roads are too long a text.
+            Err(failure) => assert!(failure.message.contains("refusal 2"), "{}", failure.message),
+        }
+    }
+}
+
+#[test]
+fn a_road_far_away_looks_like_one_at_the_origin() {
+    let drawn = |x: f64, y: f64| {
+        let geoms = &[(0.0, x, y, 0.3, 50.0, "line", 0.0), (50.0, x + 48.0, y + 15.0, 0.5, 50.0, "line", 0.0)];
+        let svg = Text { length: 100.0, geoms, sections: &[(0.0, &[3.5, 2.0], &[3.5])], wants: &[] }.drawn();
+        svg.lines()
+            .filter(|l| l.contains("left-") || l.contains("right-") || l.contains("\"ref "))
+            .map(String::from)
+            .collect::<Vec<_>>()
+    };
+    assert_eq!(drawn(0.0, 0.0), drawn(999_900.0, -999_000.0));
+}
+
+// ---- the program
+
+fn desk(arguments: &[&str], input: &[u8]) -> Output {
+    let mut command = Command::new(env!("CARGO_BIN_EXE_desk"));
+    command.arg("draw").args(arguments).stdin(Stdio::piped()).stdout(Stdio::piped()).stderr(Stdio::piped());
+    let mut child = command.spawn().unwrap();
+    // A program that fails early does not read.
+    let _ = child.stdin.take().unwrap().write_all(input);
+    child.wait_with_output().unwrap()
+}
+
+/// Status and standard error of a run that must draw nothing.
+fn failed(arguments: &[&str], input: &[u8]) -> (i32, String) {
+    let output = desk(arguments, input);
+    assert!(output.stdout.is_empty(), "{arguments:?}");
+    (output.status.code().unwrap(), String::from_utf8(output.stderr).unwrap())
+}
+
+#[test]
+fn standard_input_is_drawn_quietly() {
+    let output = desk(&["-"], &sample("m1.job"));
+    assert_eq!((output.status.code(), output.stderr.as_slice()), (Some(0), &b""[..]));
+    assert!(well_formed(&String::from_utf8(output.stdout).unwrap()).contains(&"standard input"));
+}
+
+#[test]
+fn a_refused_job_draws_nothing_and_says_where_to_ask() {
+    let (status, why) = failed(&["-"], b"no road\n");
+    assert_eq!(status, 1);
+    assert!(why.contains("refusal 1") && why.contains("`desk check -`"), "{why}");
+    let (status, why) = failed(&["-"], &Text { length: 0.0, geoms: &[LINE], sections: &[(0.0, &[], &[])], wants: &[] }.written());
+    assert_eq!(status, 1);
+    assert!(why.contains("refusal 4"), "{why}");
+}
+
+#[test]
+fn bad_arguments_have_status_2() {
+    let job = sample("m1.job");
+    for (arguments, word) in [
+        (&["-", "--big"][..], "--big"),
+        (&["-", "--at", "x"], "`x`"),
+        (&["-", "--at", "NaN"], "NaN"),
+        (&["-", "--at", "10.5"], "10.5"),
+        (&["-", "--at=-1"], "-1"),
+        (&["-", "--at"], "--at"),
+        (&["no/such.job"], "no/such.job"),
+        (&[], "FILE"),
+        (&["-", "--out", "no/such/folder.svg"], "no/such/folder.svg"),
+    ] {
+        let (status, why) = failed(arguments, &job);
+        assert_eq!(status, 2, "{arguments:?}: {why}");
+        assert!(why.contains(word), "{arguments:?}: {why}");
+    }
+}
+
+#[test]
+fn out_is_written_and_never_over_the_job() {
+    let folder = std::env::temp_dir().join(format!("desk-draw-{}", std::process::id()));
+    fs::create_dir_all(&folder).unwrap();
+    let [job, out] = ["a.job", "a.svg"].map(|name| folder.join(name).to_str().unwrap().to_string());
+    fs::write(&job, sample("m1.job")).unwrap();
+    let output = desk(&[&job, "--out", &out], b"");
+    assert_eq!((output.status.code(), output.stdout.len()), (Some(0), 0));
+    well_formed(&fs::read_to_string(&out).unwrap());
+    assert_eq!(failed(&[&job, "--out", &job], b"").0, 2);
+    assert_eq!(fs::read(&job).unwrap(), sample("m1.job"));
+    fs::remove_dir_all(&folder).unwrap();
+}

@@ -1,0 +1,2 @@
+//! What the makers of lists share.
+pub mod draft;

@@ -1,0 +1,12 @@
+//! Document 01 a second time, in plain Rust: a road as nested lists and as lent memory, the second admission, the second reader, exact
+//! arithmetic, and a generator of numbers, roads and job texts. It shares nothing with the library.
+pub mod admission;
+pub mod arguments;
+pub mod exact;
+pub mod fault;
+pub mod generate;
+pub mod limits;
+pub mod model;
+pub mod random;
+pub mod reader;
+pub mod texts;
