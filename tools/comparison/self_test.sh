@@ -5,7 +5,7 @@
 #
 # its parts by themselves (tests/parts.rs); then a library that answers by the published Rust (package stub), which must show no
 # difference; then that library with each fault of faults.txt and each edit of edits.txt and reader_edits.txt put in (`quick`: not the
-# edits; --edits: these in place of edits.txt), which must show one.
+# edits; --edits: these in place of edits.txt), which must show one; and the desk over a library with a fault, which must say so.
 set -euo pipefail
 cd "$(dirname "$0")/../.."
 here=tools/comparison
@@ -33,7 +33,7 @@ stub() {
 }
 stub
 export RIFTKETTLE_LIB_DIR=$build/lib LD_LIBRARY_PATH=$build/lib
-packages build -p comparison
+packages build -p comparison -p desk
 packages test -p comparison --test parts
 compare() {
   "$build/release/comparison" --program "$build/release/stub_program" "$@"
@@ -61,6 +61,19 @@ while IFS=: read -r fault only; do
   case $fault in '#'*) continue ;; esac
   RIFTKETTLE_FAULT=$fault must_differ "fault $fault in $only" --only "$only"
 done < "$here/faults.txt"
+
+# A bank at its limit, which the library with that fault refuses: the desk's second reader does not, and status 3 says that they differ.
+printf 'road length\n10\n\ngeom s x y hdg length kind k0 k1\n0 0 0 0 10 line 0 0\n\nbank start a b c d\n0 0.75 0 0 0\n\nsection start\n0\n' > "$build/bank"
+"$build/release/desk" hex "$build/bank" > "$build/bank.job"
+"$build/release/desk" check "$build/bank.job" > /dev/null
+status=0
+RIFTKETTLE_FAULT=bank "$build/release/desk" check "$build/bank.job" > "$build/said" 2>&1 || status=$?
+if [ "$status" -eq 3 ]; then
+  found=$((found + 1))
+else
+  echo "NOT SAID: desk check over the fault bank: status $status: $(cat "$build/said")"
+  missed=$((missed + 1))
+fi
 
 # Puts each edit of a file (old ==> new) into a copy of one of the second texts, which the stub then answers by:
 # put_edits EDITS FILE VARIABLE, then the words for the comparison.
