@@ -92,6 +92,14 @@ fn every_sample_job_is_drawn_whole() {
     }
 }
 
+/// The README's picture is what it says: desk draw examples/jobs/country_road.job --at 250 > docs/pictures/sample-country_road.svg
+#[test]
+fn the_picture_of_the_readme_is_drawn_so() {
+    let shown = concat!(env!("CARGO_MANIFEST_DIR"), "/../../docs/pictures/sample-country_road.svg");
+    let svg = picture("country_road.job", &sample("country_road.job"), Some(250.0)).unwrap();
+    assert!(svg == std::fs::read_to_string(shown).unwrap(), "{shown} is to be drawn anew");
+}
+
 #[test]
 fn the_cross_section_is_at_the_first_want_or_where_it_is_asked_for() {
     let job = sample("two_sections.job");

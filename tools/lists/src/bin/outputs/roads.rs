@@ -78,6 +78,49 @@ fn bend() -> Road {
     road([500.0, 200.0, 0.5], &parts)
 }
 
+/// All of it: a bend to the left and one to the right, each banked into and entered by spirals, over a crest, with kerbs; on the left a
+/// lane opens over 30 m.
+fn country_road() -> Road {
+    let k = 0.00625;
+    let parts = [
+        (60.0, Shape::Line),
+        (40.0, Shape::Spiral(0.0, k)),
+        (70.0, Shape::Arc(k)),
+        (40.0, Shape::Spiral(k, 0.0)),
+        (40.0, Shape::Spiral(0.0, -k)),
+        (80.0, Shape::Arc(-k)),
+        (40.0, Shape::Spiral(-k, 0.0)),
+        (60.0, Shape::Line),
+    ];
+    // Two halves, each bent one way: the bound of one cubic that bends both ways would be over 8.
+    let widening =
+        vec![cubic(0.0, 0.0, 0.0, 0.007, 0.0), cubic(15.0, 1.575, 0.21, -0.007, 0.0), cubic(30.0, 3.15, 0.0, 0.0, 0.0)];
+    let opening = Lane { extents: widening, ..Lane::default() };
+    let kerb = || raised(width(1.5), 0.125);
+    let right = || vec![width(3.5), kerb()];
+    Road {
+        elev: vec![
+            cubic(0.0, 212.0, 0.03, 0.0, 0.0),
+            cubic(150.0, 216.5, 0.03, -0.0002, 0.0),
+            cubic(350.0, 214.5, -0.05, 0.0, 0.0),
+        ],
+        bank: vec![
+            cubic(60.0, 0.0, -0.00125, 0.0, 0.0),
+            cubic(100.0, -0.05, 0.0, 0.0, 0.0),
+            cubic(170.0, -0.05, 0.00125, 0.0, 0.0),
+            cubic(250.0, 0.05, 0.0, 0.0, 0.0),
+            cubic(330.0, 0.05, -0.00125, 0.0, 0.0),
+            cubic(370.0, 0.0, 0.0, 0.0, 0.0),
+        ],
+        sections: vec![
+            section(0.0, vec![width(3.5), kerb()], right()),
+            section(180.0, vec![width(3.5), opening, kerb()], right()),
+            section(330.0, vec![width(3.5), width(3.15), kerb()], right()),
+        ],
+        ..road([500.0, 200.0, 0.5], &parts)
+    }
+}
+
 pub type Example = (&'static str, Road, Vec<[f64; 2]>);
 
 pub fn examples() -> Vec<Example> {
@@ -162,5 +205,21 @@ pub fn examples() -> Vec<Example> {
     };
     let two_sections = ("two_sections", two_sections, vec![[30.0, 3.0], [30.0, 4.0], [60.0, 4.0], [80.0, 7.0], [100.0, -3.0]]);
 
-    vec![m1, line, arc, spiral, elevation_bank, lanes_width, lanes_border, level_heights, profiles, strips, two_sections]
+    let country_road =
+        ("country_road", country_road(), vec![[30.0, 3.5], [135.0, -3.5], [195.0, 4.0], [290.0, 7.0], [400.0, -4.25]]);
+
+    vec![
+        m1,
+        line,
+        arc,
+        spiral,
+        elevation_bank,
+        lanes_width,
+        lanes_border,
+        level_heights,
+        profiles,
+        strips,
+        two_sections,
+        country_road,
+    ]
 }
