@@ -1,6 +1,6 @@
 # The library for those who link it, and the desk program.
 #
-#     make                  proves the library and builds its archive
+#     make                  proves the library and builds its archive; what the prover says is in build.log
 #     make install          puts archive, header, pkg-config file and documents under PREFIX; proves and builds nothing
 #     make uninstall        takes them away
 #     make examples         builds and runs the examples with the archive
@@ -16,25 +16,35 @@ docdir ?= $(PREFIX)/share/doc/riftkettle
 DESTDIR ?=
 INSTALL ?= install
 CARGO ?= cargo
+PKG_CONFIG ?= pkg-config
+
+# The pkg-config file is read from any folder, so a path in it is absolute. abspath would split one with a space.
+absolute = $(if $(filter-out /%,$(firstword $(1))),$(CURDIR)/)$(1)
+override PREFIX := $(call absolute,$(PREFIX))
 
 version := $(shell sed -n 's/^.define RIFTKETTLE_VERSION "\(.*\)"$$/\1/p' include/riftkettle.h)
 archive := target/staticlib/libriftkettle.a
-documents := CHANGELOG.md LICENSE-APACHE LICENSE-MIT NOTICE docs/JOB-TEXT.md docs/MEMORY.md docs/ROAD.md
+documents := CHANGELOG.md LICENSE-APACHE LICENSE-MIT NOTICE docs/DECISIONS.md docs/JOB-TEXT.md docs/MEMORY.md docs/ROAD.md
 pictures := $(wildcard docs/pictures/*.svg)
 desk := $(or $(CARGO_TARGET_DIR),tools/target)/release/desk
 
 # A folder under the prefix as the pkg-config file has it, so that the tree can be moved.
-under_prefix = $(patsubst $(PREFIX)/%,$${prefix}/%,$(1))
+under_prefix = $(patsubst $(PREFIX)/%,$${prefix}/%,$(call absolute,$(1)))
+
+no_archive = { echo "make $@: there is no $(archive); run make first: it proves the library and builds it" >&2; exit 1; }
 
 .PHONY: all install uninstall examples desk install-desk uninstall-desk
 
 # rt check proves several crates at a time, rt staticlib one after the other
 all:
-	rt check riftkettle
-	rt staticlib riftkettle
+	@command -v rt > /dev/null || \
+	  { echo 'make: there is no rt: the Rattle toolchain is needed (README.md, "What you need")' >&2; exit 1; }
+	@echo "proves and builds the library (build.log): six minutes on two cores the first time, half a minute when nothing has changed"
+	@{ rt check riftkettle && rt staticlib riftkettle; } > build.log 2>&1 || { tail -n 20 build.log >&2; exit 1; }
+	@echo "$(archive) is built"
 
 install:
-	@test -f $(archive) || { echo "make install: there is no $(archive); run make first: it proves the library and builds it" >&2; exit 1; }
+	@test -f $(archive) || $(no_archive)
 	$(INSTALL) -d "$(DESTDIR)$(includedir)" "$(DESTDIR)$(libdir)" "$(DESTDIR)$(pkgconfigdir)" "$(DESTDIR)$(docdir)/pictures"
 	$(INSTALL) -m 644 include/riftkettle.h "$(DESTDIR)$(includedir)"
 	$(INSTALL) -m 644 $(archive) "$(DESTDIR)$(libdir)"
@@ -50,9 +60,12 @@ uninstall:
 	-rmdir "$(DESTDIR)$(docdir)/pictures" "$(DESTDIR)$(docdir)"
 
 examples:
+	@test -f $(archive) || $(no_archive)
 	examples/run.sh
 
+# bindings/rust also takes an archive from RIFTKETTLE_LIB_DIR, and one that is installed
 desk:
+	@test -f $(archive) || test -n "$$RIFTKETTLE_LIB_DIR" || $(PKG_CONFIG) --exists riftkettle 2> /dev/null || $(no_archive)
 	$(CARGO) build --release --manifest-path tools/Cargo.toml -p desk
 
 install-desk:

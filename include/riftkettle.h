@@ -92,8 +92,8 @@ extern "C" {
                                       each) of its width and of its terms 0, 1, 2, 3. Left inner, left outer, right inner, right
                                       outer. An absent strip's ranges are not read. */
 
-/* Elements a line: of a table of cubics (elev, bank, offset, tshift, extent, shape, cubic), of the others in `numbers`, and of those in
- * `words`. A table of one element a line is not listed. */
+/* Elements a line: of a table of cubics (elev, bank, offset, tshift, extent, shape, cubic), of the others in `numbers`, and of those
+ * in `words`. A table of one element a line is not listed. */
 #define RIFTKETTLE_CUBIC_STRIDE 5
 #define RIFTKETTLE_GEOM_STRIDE 7
 #define RIFTKETTLE_HEIGHT_STRIDE 3
@@ -152,6 +152,9 @@ uint32_t riftkettle_pose(const uint16_t *words, size_t n, const double *numbers,
 /* The borders of the lanes of the section at s: three numbers a lane (t of its inner border, t of its outer border, its width), the
  * left lanes from the center outward, then the right ones from the center outward. Writes them from list[0] on and the number of
  * lanes to *lanes; what lies past them stays as it was. RIFTKETTLE_BORDERS numbers are enough for every road: at most 6 lanes a side.
+ * Which item is which lane: the section at s is the last whose start is at most s + 1e-9 (one f64 sum), the first where there is none;
+ * words[RIFTKETTLE_LANES + RIFTKETTLE_LANES_STRIDE * section + 1] is its number of left lanes; the first so many items are lanes
+ * 1, 2, .., the others lanes -1, -2, .. examples/c/example.c does it.
  * Refusals: 3, 4, 5, 7; 11 where k / 3 is less than the section's lanes. */
 uint32_t riftkettle_borders(const uint16_t *words, size_t n, const double *numbers, size_t m, double s, double *list, size_t k,
                             size_t *lanes);
@@ -161,8 +164,8 @@ uint32_t riftkettle_borders(const uint16_t *words, size_t n, const double *numbe
  * Refusals: 3, 4, 5, 7, 8. */
 uint32_t riftkettle_lane_named(const uint16_t *words, size_t n, const double *numbers, size_t m, double s, double t, int32_t *id);
 
-/* ---- calls on a road with its samples: those that riftkettle_samples made of this road. An answer follows what they hold; with other
- * samples it may be NaN */
+/* ---- calls on a road with its samples: those that riftkettle_samples made of this road. Call it first. An answer follows what they
+ * hold: a slice of zeros of the right length is no refusal and gives wrong points on spirals; with other samples it may be NaN */
 
 /* The reference line at s. Writes s, x, y, heading, z, grade (the rate of z along s), bank and the bank's rate to station.
  * Refusals: 3, 4, 5, 6, 7. */
@@ -175,14 +178,17 @@ uint32_t riftkettle_station(const uint16_t *words, size_t n, const double *numbe
 uint32_t riftkettle_axes(const uint16_t *words, size_t n, const double *numbers, size_t m, const double *samples, size_t k, double s,
                          double axes[9]);
 
-/* The surface at s and t, t in the banked plane, positive to the left; a positive bank raises the left. Writes x, y and z, narrowed, to
- * point, and the reference line's heading at s to *heading. Where lanes, profiles or a cross section stand off the road's plane the
- * point does; past the outermost lane its outer height holds. Refusals: 3, 4, 5, 6, 7, 8. */
+/* The surface at s and t, t in the banked plane, positive to the left; a positive bank raises the left. Writes x, y and z, narrowed,
+ * to point, and the reference line's heading at s to *heading. Where lanes, profiles or a cross section stand off the road's plane the
+ * point does; past the outermost lane its outer height holds.
+ * x, y and z are f32, so each is off by up to 0.03 mm at 1 km from the origin, 0.5 mm at 10 km, 4 mm at 100 km and 31 mm at 1,000 km:
+ * lay the origin near the site. riftkettle_station and riftkettle_pose answer in f64.
+ * Refusals: 3, 4, 5, 6, 7, 8. */
 uint32_t riftkettle_surface(const uint16_t *words, size_t n, const double *numbers, size_t m, const double *samples, size_t k,
                             double s, double t, float point[3], double *heading);
 
-/* The same on the surface of the lane of that id (1, 2, .. left and -1, -2, .. right), which runs on straight past its borders. Past the
- * borders of a narrow lane the point may be infinite or NaN, which is no refusal.
+/* The same on the surface of the lane of that id (1, 2, .. left and -1, -2, .. right), which runs on straight past its borders. Past
+ * the borders of a narrow lane the point may be infinite or NaN, which is no refusal.
  * Refusals: 3, 4, 5, 6, 7, 8; 10 where the section at s has no lane of that id, as for 0. */
 uint32_t riftkettle_lane_surface(const uint16_t *words, size_t n, const double *numbers, size_t m, const double *samples, size_t k,
                                  int32_t id, double s, double t, float point[3], double *heading);

@@ -77,6 +77,16 @@ static void lane_surface(int32_t id, double s, double t) {
   }
 }
 
+/* The number of left lanes at s: the first so many borders are those of lanes 1, 2, .., the others those of lanes -1, -2, .. The
+ * section at s is the last whose start is at most s + 1e-9, the first where there is none. */
+static int left_lanes(double s) {
+  size_t section = words[RIFTKETTLE_SECTIONS] - 1; /* a road that was read has one */
+  while (section > 0 && numbers[RIFTKETTLE_SECTION + section] > s + 1e-9) {
+    section--;
+  }
+  return words[RIFTKETTLE_LANES + RIFTKETTLE_LANES_STRIDE * section + 1];
+}
+
 static void borders(double s) {
   double list[RIFTKETTLE_BORDERS];
   size_t lanes;
@@ -85,9 +95,11 @@ static void borders(double s) {
     return;
   }
   printf("%zu lanes\n", lanes);
-  for (size_t i = 0; i < lanes; i++) {
+  const int left = left_lanes(s);
+  for (int i = 0; i < (int)lanes; i++) {
     const double *lane = list + RIFTKETTLE_BORDER_STRIDE * i;
-    printf("  inner %.4f outer %.4f width %.4f\n", lane[0], lane[1], lane[2]);
+    const int id = i < left ? i + 1 : left - i - 1;
+    printf("  lane %d: inner %.4f outer %.4f width %.4f\n", id, lane[0], lane[1], lane[2]);
   }
 }
 

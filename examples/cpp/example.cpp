@@ -11,7 +11,6 @@
 #include <fstream>
 #include <iomanip>
 #include <iostream>
-#include <iterator>
 #include <vector>
 
 #include <xmmintrin.h>
@@ -67,10 +66,12 @@ bool read_job(const char *path, Road &road, std::size_t &count) {
     std::cerr << path << ": cannot be opened\n";
     return false;
   }
-  const std::vector<std::uint8_t> text(std::istreambuf_iterator<char>{file}, {});
+  std::vector<char> text(RIFTKETTLE_TEXT + 1); // one byte more than a job may have, so that too long a file is refused
+  file.read(text.data(), text.size());
+  const auto bytes = reinterpret_cast<const std::uint8_t *>(text.data()); // not null, for an empty file too
   std::size_t made = 0;
   std::cout << "job: ";
-  if (refused(riftkettle_read(text.data(), text.size(), road.words.data(), road.words.size(), road.numbers.data(), road.numbers.size(),
+  if (refused(riftkettle_read(bytes, file.gcount(), road.words.data(), road.words.size(), road.numbers.data(), road.numbers.size(),
                               road.wants.data(), road.wants.size(), &count)) ||
       refused(road.ask(riftkettle_samples, road.samples.data(), road.samples.size(), &made))) {
     return false;
@@ -101,6 +102,16 @@ void lane_surface(const Road &road, std::int32_t id, double s, double t) {
   }
 }
 
+// The number of left lanes at s: the first so many borders are those of lanes 1, 2, .., the others those of lanes -1, -2, .. The
+// section at s is the last whose start is at most s + 1e-9, the first where there is none.
+int left_lanes(const Road &road, double s) {
+  std::size_t section = road.words[RIFTKETTLE_SECTIONS] - 1; // a road that was read has one
+  while (section > 0 && road.numbers[RIFTKETTLE_SECTION + section] > s + 1e-9) {
+    section--;
+  }
+  return road.words[RIFTKETTLE_LANES + RIFTKETTLE_LANES_STRIDE * section + 1];
+}
+
 void borders(const Road &road, double s) {
   std::array<double, RIFTKETTLE_BORDERS> list;
   std::size_t lanes;
@@ -109,9 +120,11 @@ void borders(const Road &road, double s) {
     return;
   }
   std::cout << lanes << " lanes\n";
-  for (std::size_t i = 0; i < lanes; i++) {
+  const int left = left_lanes(road, s);
+  for (int i = 0; i < static_cast<int>(lanes); i++) {
     const double *lane = &list[RIFTKETTLE_BORDER_STRIDE * i];
-    std::cout << "  inner " << lane[0] << " outer " << lane[1] << " width " << lane[2] << '\n';
+    const int id = i < left ? i + 1 : left - i - 1;
+    std::cout << "  lane " << id << ": inner " << lane[0] << " outer " << lane[1] << " width " << lane[2] << '\n';
   }
 }
 

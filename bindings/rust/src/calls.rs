@@ -1,6 +1,7 @@
 //! The calls on slices of the caller's. Every one is sound for slices of every length and content.
 use crate::answers::{Axes, Located, Pose, Station, SurfacePoint};
 use crate::ffi;
+use crate::layout::{LANES, LANES_STRIDE, SECTION, SECTIONS};
 use crate::refusal::Refusal;
 
 /// A road in memory of the caller's, laid out as `include/riftkettle.h` says (the places are in [`layout`](crate::layout)). Each call
@@ -143,7 +144,8 @@ pub fn pose(road: Lent<'_>, samples: &[f64], geometry: usize, s: f64) -> Result<
 
 /// The borders of the lanes of the section at `s`, three numbers a lane from `list[0]` on (`t` of its inner border, `t` of its outer
 /// border, its width), the left lanes from the center outward, then the right ones from the center outward; answers how many lanes. What
-/// lies past them stays as it was. [`BORDERS`](crate::layout::BORDERS) numbers are enough for every road.
+/// lies past them stays as it was. [`BORDERS`](crate::layout::BORDERS) numbers are enough for every road. [`left_lanes`] tells which
+/// lane an item is.
 ///
 /// Refuses also [`Refusal::Station`], [`Refusal::BorderSpace`].
 pub fn borders(road: Lent<'_>, s: f64, list: &mut [f64]) -> Result<usize, Refusal> {
@@ -165,6 +167,19 @@ pub fn borders(road: Lent<'_>, s: f64, list: &mut [f64]) -> Result<usize, Refusa
     answered(code).map(|()| lanes)
 }
 
+/// The number of left lanes of the section at `s`. It tells which lane an item of [`borders`] is: the first so many are lanes
+/// 1, 2, .., the others lanes -1, -2, .. The section at `s` is the last whose start is at most `s + 1e-9` (one f64 sum), the first
+/// where there is none.
+///
+/// The road is not checked: every slice has an answer, which means something where [`borders`] answered for the same road and `s`.
+pub fn left_lanes(road: Lent<'_>, s: f64) -> usize {
+    let Lent { words, numbers } = road;
+    let word = |at| words.get(at).map_or(0, |&word| usize::from(word));
+    let mut starts = numbers.get(SECTION..).unwrap_or_default().iter().take(word(SECTIONS));
+    let section = starts.rposition(|&start| start <= s + 1e-9).unwrap_or(0);
+    word(LANES + LANES_STRIDE * section + 1)
+}
+
 /// The id of the lane at `s` and `t`, beyond all borders the outermost: 1, 2, .. on the left and -1, -2, .. on the right, from the center
 /// outward. `None`, the C interface's 0, where `t` is at the base or on a side without lanes.
 ///
@@ -179,8 +194,10 @@ pub fn lane_named(road: Lent<'_>, s: f64, t: f64) -> Result<Option<i32>, Refusal
 
 /// The reference line at `s`.
 ///
-/// Here and below, `samples` are those that [`samples`] made of this road: an answer follows what they hold, and with others it may be
-/// NaN. Refuses also [`Refusal::SampleSpace`], [`Refusal::Station`].
+/// Here and below, `samples` are those that [`samples`] made of this road: call it first. An answer follows what they hold: a
+/// slice of zeros of the right length is no refusal and gives wrong points on spirals, and with others the answer may be NaN.
+///
+/// Refuses also [`Refusal::SampleSpace`], [`Refusal::Station`].
 pub fn station(road: Lent<'_>, samples: &[f64], s: f64) -> Result<Station, Refusal> {
     let Lent { words, numbers } = road;
     let mut station = [0.0; 8];

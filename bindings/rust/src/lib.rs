@@ -44,8 +44,8 @@ mod road;
 
 pub use answers::{Axes, Border, Borders, Located, Pose, Station, SurfacePoint};
 pub use calls::{
-    Lent, admit, axes, borders, cos, counts, hypot, lane_named, lane_surface, locate, narrow, pose, read, root, samples, sin,
-    station, surface, tan,
+    Lent, admit, axes, borders, cos, counts, hypot, lane_named, lane_surface, left_lanes, locate, narrow, pose, read, root,
+    samples, sin, station, surface, tan,
 };
 pub use environment::environment;
 pub use layout::VERSION;

@@ -116,11 +116,11 @@ impl Road {
         calls::pose(self.lent(), self.samples(), geometry, s)
     }
 
-    /// [`borders`](crate::borders), in a list of their own.
+    /// [`borders`](crate::borders), in a list of their own, with the lanes' ids.
     pub fn borders(&self, s: f64) -> Result<Borders, Refusal> {
         let mut list = [0.0; BORDERS];
         let lanes = calls::borders(self.lent(), s, &mut list)?;
-        Ok(Borders::of(&list, lanes))
+        Ok(Borders::of(&list, lanes, calls::left_lanes(self.lent(), s)))
     }
 
     /// [`lane_named`](crate::lane_named).

@@ -96,6 +96,8 @@ fn ask_all(road: Lent<'_>, made: &[f64], refused: &mut BTreeSet<u32>) {
             same(told(borders(road, s, &mut list[..k])), raw::borders(road, s, &mut raw_list[..k]));
             assert_eq!((list.bits(), list[k..].bits()), (raw_list.bits(), [MARK; 3].bits()));
         }
+        let left = left_lanes(road, s); // answers for any slices
+        assert!(borders(road, s, &mut [0.0; BORDERS]).map_or(true, |lanes| left <= lanes));
     }
 }
 

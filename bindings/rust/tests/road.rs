@@ -1,8 +1,12 @@
 //! `Road` against the functions on slices: the same answers, and what it holds after reading, a refusal, and a road put in by hand.
 mod common;
 
+use std::iter::successors;
+
 use common::{Bits, job, jobs, road_of, told};
-use riftkettle::layout::{BORDERS, GEOM, GEOM_STRIDE, GEOMS, KIND, LENGTH, NUMBERS, SAMPLES, SECTIONS, WANTS, WORDS};
+use riftkettle::layout::{
+    BORDERS, GEOM, GEOM_STRIDE, GEOMS, KIND, LANES, LANES_STRIDE, LENGTH, NUMBERS, SAMPLES, SECTION, SECTIONS, WANTS, WORDS,
+};
 use riftkettle::*;
 
 fn same_answers(road: &Road) {
@@ -91,9 +95,58 @@ fn a_road_by_hand() {
 fn borders_are_a_slice() {
     let borders = road_of(&job("lanes_width")).borders(50.0).unwrap();
     assert_eq!(borders.len(), 4);
-    assert_eq!(borders[2], Border { inner: 0.25, outer: -3.25, width: 3.5 });
+    assert_eq!(borders[2], Border { id: -1, inner: 0.25, outer: -3.25, width: 3.5 });
     assert_eq!(borders, borders.clone());
     assert!(road_of(&job("line")).borders(0.0).unwrap().is_empty());
+}
+
+/// Stations of the road at each section's start and 1e-9 before it, where it comes into use, with their neighbours among the f64.
+fn around_sections(road: &Road) -> Vec<f64> {
+    let starts = road.lent().numbers[SECTION..].iter().take(road.lent().words[SECTIONS].into());
+    let places = starts.flat_map(|start| [start - 1e-6, start - 1e-9, *start, start + 1e-6]);
+    let lowest = places.map(|place| (0..9).fold(place, |s, _| s.next_down()));
+    let stations = lowest.flat_map(|s| successors(Some(s), |s| Some(s.next_up())).take(19));
+    stations.filter(|s| (0.0..=road.length()).contains(s)).collect()
+}
+
+/// The ids at `s` are those of the lanes that the library has there, each at its lane's place.
+fn ids_are_right(road: &Road, s: f64) {
+    let borders = road.borders(s).unwrap();
+    let there = (1..9).chain((1..9).map(|id| -id)).filter(|id| road.lane_surface(*id, s, 0.0) != Err(Refusal::Lane));
+    assert!(borders.iter().map(|lane| lane.id).eq(there), "at {s}: {borders:?}");
+    for lane in borders.iter() {
+        let middle = (lane.inner + lane.outer) / 2.0;
+        // a lane may be so narrow that no f64 lies between its borders
+        if middle != lane.inner && middle != lane.outer {
+            assert_eq!(road.lane_named(s, middle), Ok(Some(lane.id)), "at {s}: {borders:?}");
+        }
+    }
+}
+
+#[test]
+fn ids_of_the_sample_jobs() {
+    for (_, text) in jobs() {
+        let road = road_of(&text);
+        for s in around_sections(&road).into_iter().chain([road.length() / 2.0, road.length()]) {
+            ids_are_right(&road, s);
+        }
+    }
+}
+
+/// Sixteen sections, each with another number of left lanes than the one before. A start just past a power of two tells the sum
+/// `s + 1e-9` from the difference `start - 1e-9`, since the f64 lie closer below it.
+#[test]
+fn ids_of_sections_by_hand() {
+    let mut road = Box::new(Road::new());
+    (road.numbers_mut()[LENGTH], road.numbers_mut()[GEOM + 4]) = (9000.0, 9000.0);
+    (road.words_mut()[GEOMS], road.words_mut()[SECTIONS]) = (1, 16);
+    for i in 0..16 {
+        road.numbers_mut()[SECTION + i] = if i == 0 { 0.0 } else { 2_f64.powi(i as i32 - 2).next_up() };
+        road.words_mut()[LANES + LANES_STRIDE * i..][..LANES_STRIDE].copy_from_slice(&[0, 3 * i as u16 % 7, 5 * i as u16 % 7]);
+    }
+    for s in around_sections(&road) {
+        ids_are_right(&road, s);
+    }
 }
 
 #[test]

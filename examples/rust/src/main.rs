@@ -35,7 +35,7 @@ fn borders(road: &Road, s: f64) {
     let borders = road.borders(s);
     println!("borders at s {s:.4}: {}", told(borders, |list| format!("{} lanes", list.len())));
     for lane in borders.iter().flat_map(|list| list.iter()) {
-        println!("  inner {:.4} outer {:.4} width {:.4}", lane.inner, lane.outer, lane.width);
+        println!("  lane {}: inner {:.4} outer {:.4} width {:.4}", lane.id, lane.inner, lane.outer, lane.width);
     }
 }
 
