@@ -1,4 +1,6 @@
 //! What the subcommands share: their arguments, the FILE that they read, and how they end.
+use crate::decimal;
+use riftkettle::Refusal;
 use std::io::{self, Read, Write};
 use std::process::ExitCode;
 use std::{fs, str::FromStr};
@@ -19,6 +21,13 @@ impl Failure {
     /// What was read is wrong, or the answer cannot be written: status 1.
     pub fn of_content(message: impl Into<String>) -> Self {
         Self { message: message.into(), status: 1 }
+    }
+
+    /// The library refuses the job that was read from that file; who can say more of it.
+    pub fn of_refusal(name: &str, file: &str, job: &[u8], refusal: Refusal) -> Self {
+        let decimal = refusal == Refusal::Form && decimal::to_hex(job).is_ok();
+        let hex = if decimal { format!(", `desk hex {file}` makes a job of it") } else { String::new() };
+        Self::of_content(format!("{name} is refused: {refusal}; `desk check {file}` explains it{hex}"))
     }
 }
 

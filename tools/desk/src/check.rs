@@ -2,6 +2,7 @@
 //! second text of document 01's rules (package `second`), which is held to the same number each time.
 mod explanation;
 mod form;
+mod look;
 mod places;
 mod reasons;
 mod summary;
@@ -17,9 +18,16 @@ pub const HELP: &str = "\
 desk check JOB
 
 Says what the library answers for a job text (`-`: standard input). For an admitted road: its length,
-geometries, sections, lanes, lines of its tables and samples, then each want's point. For a refused job:
-the number of the refusal, the place in the text and the reason, with the number that is wrong in decimal
-and as it stands in the text, and its limit.
+geometries, sections, lanes, lines of its tables and samples, then each want's point. x, y and z are f32
+numbers, written as the exact f64. For a refused job: the number of the refusal, the place in the text and
+the reason, with the number that is wrong in decimal and as it stands in the text, and its limit.
+
+Of an admitted road it then says what is worth a look, if there is anything; the status stays 0:
+
+- Where a geometry ends and the next begins: a gap or a length in s that differs by over 0.001 m, a turn of
+  over 0.05 degrees. A geometry starts at its own x, y and heading, so that none of this is refused. Whole
+  turns of heading do not count.
+- A site 8,192 m or more from the origin, where f32 points lie on a grid of 0.98 mm or coarser.
 
 The number is the library's own. The reason comes from a second text of the rules, written
 independently; if the two do not agree on the number, that is said, and the status is 3.

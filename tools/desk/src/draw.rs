@@ -16,7 +16,7 @@ mod plane;
 mod profile;
 mod progress;
 mod sampled;
-mod scale;
+pub(crate) mod scale;
 mod steps;
 mod style;
 mod subject;
@@ -44,12 +44,13 @@ Draws the road of a job text as a picture (SVG, A4 or A3 landscape), to standard
 - Elevation and bank of the reference line along s.
 - The cross section at S: that of --at, else of the first want on the road, else the middle of the road.
 - The wants, with their points or the numbers of their refusals, and the jumps of the reference line:
-  over 1 mm away, up or down, 1 degree of heading or 0.1 of bank. What jumps is drawn as a step or a
-  gap, never as a slope.
+  over 1 mm away, up or down, 0.05 degrees of heading or 0.1 of bank; and where s runs over 1 mm past a
+  geometry's length, or ends before it. What jumps is drawn as a step or a gap, never as a slope.
 
 Every point, border, height and angle is the library's answer. The plan's are those of the same road
 moved to the origin, since points are f32 numbers, which far from it are centimetres apart; the wants'
-are those of the road as it is. Status 0; 1 for a refused job; 2 for wrong arguments.
+are those of the road as it is. Status 0; 1 for a refused job; 2 for wrong arguments or a file that
+cannot be read.
 ";
 
 /// Draws the job and answers the exit status.
@@ -84,8 +85,7 @@ pub fn picture(file: &str, text: &[u8], at: Option<f64>) -> Result<String, Failu
 
 fn drawn(file: &str, text: &[u8], at: Option<f64>, mut progress: Progress) -> Result<String, Failure> {
     let name = shown_name(file);
-    let refused = |why| Failure::of_content(format!("{name} is refused: {why}; `desk check {file}` explains it"));
-    let subject = Subject::read(&name, text).map_err(refused)?;
+    let subject = Subject::read(&name, text).map_err(|refusal| Failure::of_refusal(&name, file, text, refusal))?;
     let at = at.unwrap_or_else(|| picture::default_at(&subject.wants(), subject.length()));
     if !(0.0..=subject.length()).contains(&at) {
         return Err(Failure::of_arguments(format!("`--at` {at} is off the road: s is 0 to {}", subject.length())));

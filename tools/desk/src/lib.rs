@@ -4,4 +4,6 @@ pub mod arguments;
 pub mod check;
 pub mod decimal;
 pub mod draw;
+pub mod grid;
+pub mod joints;
 pub mod points;

@@ -6,6 +6,7 @@ struct Subcommand {
     name: &'static str,
     usage: &'static str,
     what: &'static str,
+    help: &'static str,
     run: fn(&[String]) -> ExitCode,
 }
 
@@ -13,31 +14,36 @@ const SUBCOMMANDS: [Subcommand; 5] = [
     Subcommand {
         name: "check",
         usage: "JOB",
-        what: "what the library answers for a job, and why it refuses one",
+        what: "what the library answers for a job, why it refuses one, and what of a road is worth a look",
+        help: check::HELP,
         run: check::run,
     },
     Subcommand {
         name: "draw",
         usage: "JOB [--at S] [--out FILE]",
         what: "the road as a picture (SVG): plan, elevation and bank, the cross section at S",
+        help: draw::HELP,
         run: draw::run,
     },
     Subcommand {
         name: "decimal",
         usage: "JOB",
         what: "a job with its numbers in decimals, for people",
+        help: decimal::DECIMAL_HELP,
         run: decimal::run_decimal,
     },
     Subcommand {
         name: "hex",
         usage: "FILE",
         what: "a job from such a text: exactly what `decimal` was given, or what was written by hand",
+        help: decimal::HEX_HELP,
         run: decimal::run_hex,
     },
     Subcommand {
         name: "points",
         usage: "JOB --every METRES --lane ID [--border inner|outer|middle] [--from S] [--to S]",
         what: "surface points along a lane's border, as CSV",
+        help: points::HELP,
         run: points::run,
     },
 ];
@@ -46,8 +52,23 @@ fn help() -> String {
     let line = |c: &Subcommand| format!("    desk {} {}\n        {}\n", c.name, c.usage, c.what);
     let lines: String = SUBCOMMANDS.iter().map(line).collect();
     format!(
-        "usage:\n{lines}\n`-` for a JOB or FILE is standard input; `desk SUBCOMMAND --help` says more. Status: 0; 1 for a job that is refused or\nbreaks its form; 2 for wrong arguments; 3 where the library and the second reader differ.\n"
+        "usage:\n{lines}\n`-` for a JOB or FILE is standard input; `desk help SUBCOMMAND` says more, `desk --version` which version it is.\n\
+         Status: 0; 1 for a job that is refused or breaks its form; 2 for wrong arguments or a file that cannot be read;\n\
+         3 where the library and the second reader differ.\n"
     )
+}
+
+/// A text to standard output.
+fn written(text: &str) -> ExitCode {
+    arguments::run("help", text, &["--help".into()], |_| Ok(()))
+}
+
+/// By its name, or what is said where there is none.
+fn subcommand(name: &str) -> Result<&'static Subcommand, ExitCode> {
+    SUBCOMMANDS.iter().find(|c| c.name == name).ok_or_else(|| {
+        eprint!("desk: there is no subcommand `{name}`\n\n{}", help());
+        ExitCode::from(2)
+    })
 }
 
 fn main() -> ExitCode {
@@ -56,18 +77,14 @@ fn main() -> ExitCode {
         eprintln!("desk: an argument is not UTF-8");
         return ExitCode::from(2);
     };
-    match words.first().map(String::as_str) {
-        Some("help" | "--help" | "-h") => arguments::run("help", &help(), &["--help".into()], |_| Ok(())),
-        Some(name) => match SUBCOMMANDS.iter().find(|c| c.name == name) {
-            Some(c) => (c.run)(&words[1..]),
-            None => {
-                eprint!("desk: there is no subcommand `{name}`\n\n{}", help());
-                ExitCode::from(2)
-            }
-        },
-        None => {
+    match &words.iter().map(String::as_str).collect::<Vec<_>>()[..] {
+        [] => {
             eprint!("{}", help());
             ExitCode::from(2)
         }
+        ["--version" | "-V", ..] => written(&format!("desk (riftkettle) {}\n", riftkettle::VERSION)),
+        ["help", name] => subcommand(name).map_or_else(|status| status, |c| written(c.help)),
+        ["help" | "--help" | "-h", ..] => written(&help()),
+        [name, ..] => subcommand(name).map_or_else(|status| status, |c| (c.run)(&words[1..])),
     }
 }

@@ -1,7 +1,8 @@
 //! Surface points along a lane's border as CSV (`desk points`). The stations are counted here; every other number is the library's.
 use crate::arguments::{self, Arguments, Failure};
-use riftkettle::layout::{LANES, LANES_STRIDE, SECTION, SECTIONS};
-use riftkettle::{Lent, Road};
+use crate::grid::Farthest;
+use riftkettle::layout::{LANES, LANES_STRIDE, SECTIONS};
+use riftkettle::{Lent, Road, SurfacePoint};
 use std::io::{self, BufWriter, IsTerminal, Write};
 use std::process::ExitCode;
 use std::time::{Duration, Instant};
@@ -19,12 +20,13 @@ otherwise) as CSV: s,t,x,y,z,heading, in metres and radians. JOB is a job text (
   the sum of inner and outer.
 - x, y, z and heading (the reference line's, not the border's) are the library's `lane_surface` of
   that lane at s and t: where two lanes meet at different heights, the point is on the lane asked for.
-- s, t and heading are f64 numbers, x, y and z f32 numbers: each is the shortest decimal that is read
-  as the same number of its type.
+- Each number is the shortest decimal that is read as the same f64. x, y and z are f32 numbers, which
+  are f64 numbers too: nothing is rounded. Where x or y is 8,192 m or more from 0, it lies on a grid of
+  0.98 mm or coarser; how coarse is said on standard error.
 
 A station whose section has no such lane gets no line; how many there are and where is said on standard
 error. A long run says there how far it is, if that is a terminal and the CSV goes elsewhere. At most
-10,000,000 points. Status 0; 1 for a refused job; 2 for wrong arguments.
+10,000,000 points. Status 0; 1 for a refused job; 2 for wrong arguments or a file that cannot be read.
 ";
 
 /// The most points.
@@ -42,9 +44,8 @@ fn points(arguments: &[String]) -> Result<(), Failure> {
     let (every, lane) = (every(&arguments)?, lane(&arguments)?);
     let border = Border::of(&arguments)?;
     let road = road(&arguments)?;
-    let sections = sections(road.lent());
-    has_lane(&sections, lane)?;
-    let line = Line { road: &road, sections: &sections, lane, border };
+    has_lane(road.lent(), lane)?;
+    let line = Line { road: &road, lane, border };
     line.write(&Stations::of(&arguments, every, road.length())?)
 }
 
@@ -106,43 +107,18 @@ fn road(arguments: &Arguments) -> Result<Box<Road>, Failure> {
     let (job, mut road) = (arguments.read()?, Box::new(Road::new()));
     match road.read(&job) {
         Ok(()) => Ok(road),
-        Err(refusal) => Err(Failure::of_content(format!(
-            "{} is refused: {refusal}; `desk check {}` explains it",
-            arguments.file_name(),
-            arguments.file
-        ))),
+        Err(refusal) => Err(Failure::of_refusal(arguments.file_name(), arguments.file, &job, refusal)),
     }
 }
 
-/// What of a section says which lanes it has.
-struct Section {
-    start: f64,
-    left: usize,
-    right: usize,
-}
-
-fn sections(road: Lent) -> Vec<Section> {
-    let section = |i: usize| {
-        let [left, right] = [1, 2].map(|k| usize::from(road.words[LANES + i * LANES_STRIDE + k]));
-        Section { start: road.numbers[SECTION + i], left, right }
-    };
-    (0..usize::from(road.words[SECTIONS])).map(section).collect()
-}
-
-impl Section {
-    /// The place of a lane in the section's list of borders, if it has that lane.
-    fn place(&self, lane: i32) -> Option<usize> {
-        let outward = (lane.unsigned_abs() as usize).checked_sub(1)?;
-        if lane > 0 { (outward < self.left).then_some(outward) } else { (outward < self.right).then_some(self.left + outward) }
-    }
-}
-
-fn has_lane(sections: &[Section], lane: i32) -> Result<(), Failure> {
-    if sections.iter().any(|section| section.place(lane).is_some()) {
+/// Whether a section of the road has the lane, by how many each has on the left and on the right.
+fn has_lane(road: Lent, lane: i32) -> Result<(), Failure> {
+    let sections = road.words[LANES..].chunks(LANES_STRIDE).take(road.words[SECTIONS].into());
+    let most = |side: usize| sections.clone().map(|section| i32::from(section[side])).max().unwrap_or(0);
+    let (left, right) = (most(1), most(2));
+    if (-right..=left).contains(&lane) {
         return Ok(());
     }
-    let most = |count: fn(&Section) -> usize| sections.iter().map(count).max().unwrap_or(0);
-    let (left, right) = (most(|section| section.left), most(|section| section.right));
     Err(Failure::of_arguments(format!(
         "no section of the road has a lane {lane}: at most {left} are on the left (1, 2, ..), {right} on the right (-1, -2, ..)"
     )))
@@ -189,7 +165,6 @@ impl Stations {
 /// A border of a lane, along the road.
 struct Line<'a> {
     road: &'a Road,
-    sections: &'a [Section],
     lane: i32,
     border: Border,
 }
@@ -198,11 +173,17 @@ impl Line<'_> {
     fn write(&self, stations: &Stations) -> Result<(), Failure> {
         let mut out = BufWriter::with_capacity(1 << 16, io::stdout().lock());
         let (mut progress, mut left_out, mut count) = (Progress::new(), LeftOut::default(), 0);
+        let mut farthest = Farthest::default();
         writeln!(out, "s,t,x,y,z,heading")?;
         for s in stations.each() {
             count += 1;
             match self.point(s)? {
-                Some(point) => writeln!(out, "{point}")?,
+                Some((t, point)) => {
+                    // As f64, so that whoever reads f64 numbers has the same.
+                    let [x, y, z] = [point.x, point.y, point.z].map(f64::from);
+                    writeln!(out, "{s:?},{t:?},{x:?},{y:?},{z:?},{:?}", point.heading)?;
+                    farthest.add(x, y);
+                }
                 None => left_out.add(count, s),
             }
             progress.show(|| stations.percent_done(s));
@@ -210,18 +191,19 @@ impl Line<'_> {
         out.flush()?;
         drop(progress);
         left_out.tell(self.lane, count);
+        if let Some(note) = farthest.note() {
+            let _ = writeln!(io::stderr(), "desk points: {note}");
+        }
         Ok(())
     }
 
-    /// The CSV line of a station, if its section has the lane.
-    fn point(&self, s: f64) -> Result<Option<String>, Failure> {
-        // The library's rule: the last section that starts at most a nanometre after s, else the first.
-        let section = self.sections.iter().rposition(|section| section.start <= s + 1e-9).unwrap_or(0);
-        let Some(place) = self.sections[section].place(self.lane) else { return Ok(None) };
+    /// t and the point of a station, if its section has the lane.
+    fn point(&self, s: f64) -> Result<Option<(f64, SurfacePoint)>, Failure> {
         let refused = |refusal| Failure::of_content(format!("at s = {s:?}: {refusal}"));
-        let t = self.border.t(&self.road.borders(s).map_err(refused)?[place]);
-        let point = self.road.lane_surface(self.lane, s, t).map_err(refused)?;
-        Ok(Some(format!("{s:?},{t:?},{:?},{:?},{:?},{:?}", point.x, point.y, point.z, point.heading)))
+        let borders = self.road.borders(s).map_err(refused)?;
+        let Some(border) = borders.iter().find(|border| border.id == self.lane) else { return Ok(None) };
+        let t = self.border.t(border);
+        Ok(Some((t, self.road.lane_surface(self.lane, s, t).map_err(refused)?)))
     }
 }
 

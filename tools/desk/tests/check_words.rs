@@ -46,8 +46,9 @@ fn admitted_with_wants() {
         across(&[wants]),
         "admitted: a road of 100 m
   geometries: 1 line
+  the reference line ends at x = 100, y = 0, heading 0
   1 section, 0 lanes
-  lines: road 1, geom 1, section 1, want 3
+  lines of tables: road 1, geom 1, section 1, want 3
   samples needed: 0 of 2,000
 wants:
   s = 50, t = 2.5: x = 50, y = 2.5, z = 0, heading 0
@@ -104,9 +105,29 @@ fn digits_that_are_none() {
        ^
   found `.` in `100.5`
   expected 16 lowercase hexadecimal digits for column length of table road
-  decimals are not read; `desk hex` turns them into digits
+  decimals, comments and aligned columns are not read; `desk hex` makes a job of such a text
 "
     );
+}
+
+#[test]
+fn the_decimal_form_is_told() {
+    let job = format!("{ROAD}{GEOM}{SECTION}");
+    let decimal = desk::decimal::to_decimal(job.as_bytes()).unwrap();
+    assert_eq!(
+        said(&decimal),
+        "refused 1: a line breaks the job form
+  line 1, byte 6:
+    road  length
+         ^
+  found a space
+  expected a column of table road that the line does not have yet: length
+  decimals, comments and aligned columns are not read; `desk hex` makes a job of such a text
+"
+    );
+    for text in [format!("# a road\n{job}"), format!(" {job}"), job.replace("road length\n", "road length\n # metres\n")] {
+        assert!(said(&text).ends_with("`desk hex` makes a job of such a text\n"), "{}", said(&text));
+    }
 }
 
 #[test]

@@ -181,7 +181,9 @@ fn jumps_are_told_and_not_bridged() {
     let second = (40.0, 40.0, 1.5, 0.0, 60.0, "line", 0.0);
     let text = Text { length: 100.0, geoms: &[LINE, second], sections: &[(0.0, &[3.5], &[3.5])], wants: &[] };
     let svg = text.drawn();
-    assert!(well_formed(&svg).contains(&"s 40: 1.500 m away"));
+    let words = well_formed(&svg);
+    assert!(words.contains(&"Reference line, worth a look: 2"));
+    assert!(words.contains(&"s 40: 1.500 m away") && words.contains(&"s 40: the line before is cut 60 m short"));
     // The lanes' outlines are split in two, and no line of the road rises.
     assert_eq!(svg.matches("<path class=\"left-a\"").count(), 2);
     let level = |d: &str| d.split(' ').map(|p| p.rsplit(',').next().unwrap().to_string()).collect::<Vec<_>>();
@@ -189,6 +191,21 @@ fn jumps_are_told_and_not_bridged() {
         let heights = level(path.split('"').next().unwrap());
         assert!(heights.windows(2).all(|h| h[0] == h[1]), "{heights:?}");
     }
+}
+
+#[test]
+fn kinks_and_overruns_are_told() {
+    let (spiral, turned) = ((0.0, 0.0, 0.0, 0.0, 30.0, "spiral", 0.0), 0.44_f64.to_radians());
+    let geoms = &[spiral, (40.0, 30.0, 0.0, turned, 50.0, "arc", 0.01)];
+    let job = Text { length: 100.0, geoms, sections: &[(0.0, &[], &[])], wants: &[] };
+    let svg = job.drawn();
+    let words = well_formed(&svg);
+    for row in ["turns 0.44°", "the spiral before stays at its end for 10 m"] {
+        assert!(words.contains(&format!("s 40: {row}").as_str()), "{row}");
+    }
+    assert!(words.contains(&"s 100: the arc before runs on for 10 m") && words.contains(&"Reference line, worth a look: 3"));
+    // One ring at each end of the kink, none where s runs on, and the one of the legend.
+    assert_eq!(svg.matches("<circle class=\"jump\"").count(), 3);
 }
 
 #[test]
@@ -274,6 +291,9 @@ fn a_refused_job_draws_nothing_and_says_where_to_ask() {
     let (status, why) = failed(&["-"], b"no road\n");
     assert_eq!(status, 1);
     assert!(why.contains("refusal 1") && why.contains("`desk check -`"), "{why}");
+    let (status, why) = failed(&["-"], b"road  length\n      10\n");
+    assert_eq!(status, 1);
+    assert!(why.ends_with("`desk check -` explains it, `desk hex -` makes a job of it\n"), "{why}");
     let (status, why) = failed(&["-"], &Text { length: 0.0, geoms: &[LINE], sections: &[(0.0, &[], &[])], wants: &[] }.written());
     assert_eq!(status, 1);
     assert!(why.contains("refusal 4"), "{why}");

@@ -63,6 +63,23 @@ fn stations_left_out_are_told() {
     assert_eq!((out.lines().count(), err.as_str()), (1 + 1, ""));
 }
 
+/// 899996.1 is the shortest decimal of the f32, but another f64.
+#[test]
+fn far_points_are_exact_and_their_grid_is_told() {
+    let job = fs::read(sample_job("lanes_width.job")).unwrap();
+    let mut lines: Vec<String> = String::from_utf8(job).unwrap().lines().map(String::from).collect();
+    let geom = lines.iter().position(|line| line.starts_with("geom ")).unwrap() + 1;
+    let mut cells: Vec<String> = lines[geom].split(' ').map(String::from).collect();
+    cells[1] = format!("{:016x}", 899_996.1_f64.to_bits());
+    lines[geom] = cells.join(" ");
+    let output = points((lines.join("\n") + "\n").as_bytes(), "--every 1000 --lane -2 --to 0");
+    let [out, err] = [output.stdout, output.stderr].map(|bytes| String::from_utf8(bytes).unwrap());
+    assert_eq!(out, "s,t,x,y,z,heading\n0.0,-4.75,899996.125,-4.75,0.125,0.0\n");
+    let note = "at x = 899996.125 they lie on a grid of 0.0625 m; an origin near the site makes it finer";
+    assert_eq!(err, format!("desk points: points are f32: {note}\n"));
+    assert_eq!(output.status.code(), Some(0));
+}
+
 fn stations(arguments: &str) -> Vec<f64> {
     let (out, err, status) = sample("lanes_width.job", &format!("--lane 1 {arguments}"));
     assert_eq!((err.as_str(), status), ("", 0), "{arguments}");
@@ -116,7 +133,7 @@ fn lines_are_the_answers_of_the_library() {
 fn compare(road: &Road, lane: i32, border: &str, [from, every]: [f64; 2], output: &Output) -> [usize; 2] {
     assert_eq!(output.status.code(), Some(0));
     let out = str::from_utf8(&output.stdout).unwrap();
-    let (mut lines, mut counts, end) = (out.lines().skip(1), [0, 0], road.length());
+    let (mut lines, mut counts, mut far, end) = (out.lines().skip(1), [0, 0], false, road.length());
     let stations = (0..).map(|k| from + k as f64 * every).take_while(|s| *s < end - 1e-9).chain([end]);
     for s in stations {
         if road.lane_surface(lane, s, 0.0) == Err(Refusal::Lane) {
@@ -125,18 +142,25 @@ fn compare(road: &Road, lane: i32, border: &str, [from, every]: [f64; 2], output
         }
         counts[0] += 1;
         let cells: Vec<&str> = lines.next().unwrap().split(',').collect();
-        let [s_read, t, heading] = [0, 1, 5].map(|i| cells[i].parse::<f64>().unwrap());
-        let [x, y, z] = [2, 3, 4].map(|i| cells[i].parse::<f32>().unwrap().to_bits());
+        let [s_read, t, x, y, z, heading] = [0, 1, 2, 3, 4, 5].map(|i| cells[i].parse::<f64>().unwrap());
         let point = road.lane_surface(lane, s, t).unwrap();
         assert_eq!((s_read.to_bits(), heading.to_bits()), (s.to_bits(), point.heading.to_bits()));
-        assert_eq!([x, y, z], [point.x, point.y, point.z].map(f32::to_bits));
+        assert_eq!([x, y, z].map(f64::to_bits), [point.x, point.y, point.z].map(|x| f64::from(x).to_bits()));
         on_border(road, lane, border, s, t);
+        far |= x.abs() >= 8192.0 || y.abs() >= 8192.0;
     }
     assert_eq!(lines.next(), None);
-    let err = str::from_utf8(&output.stderr).unwrap();
-    let told = format!("desk points: no lane {lane} at {} of {} stations, left out: s = ", counts[1], counts[0] + counts[1]);
-    assert!(if counts[1] == 0 { err.is_empty() } else { err.starts_with(&told) }, "{err}");
+    told(str::from_utf8(&output.stderr).unwrap(), lane, counts, far);
     counts
+}
+
+/// What is said beside the points: stations left out, then the grid of far points, nothing else.
+fn told(err: &str, lane: i32, [some, none]: [usize; 2], far: bool) {
+    let left_out = format!("desk points: no lane {lane} at {none} of {} stations, left out: s = ", some + none);
+    let expected = [(none > 0, left_out.as_str()), (far, "desk points: points are f32: at ")];
+    let expected: Vec<&str> = expected.into_iter().filter(|(there, _)| *there).map(|(_, words)| words).collect();
+    assert_eq!(err.lines().count(), expected.len(), "{err}");
+    assert!(err.lines().zip(expected).all(|(line, words)| line.starts_with(words)), "{err}");
 }
 
 /// t is that border of a lane of the list, and that lane is the one named inside it where it is not too thin to tell.
@@ -213,6 +237,14 @@ fn refused_jobs_are_told() {
         assert!(said.starts_with("desk points: standard input is refused: "), "{said}");
         assert!(said.ends_with(&format!("(refusal {number}); `desk check -` explains it\n")), "{said}");
     }
+}
+
+#[test]
+fn the_decimal_form_is_told() {
+    let decimal = desk::decimal::to_decimal(&fs::read(sample_job("lanes_width.job")).unwrap()).unwrap();
+    let output = points(decimal.as_bytes(), "--every 1 --lane 1");
+    let said = String::from_utf8(output.stderr).unwrap();
+    assert!(said.ends_with("(refusal 1); `desk check -` explains it, `desk hex -` makes a job of it\n"), "{said}");
 }
 
 /// A reader that closes the pipe early, and a full disk.

@@ -24,6 +24,8 @@ struct There<'a> {
 /// How much of a long line is shown on either side of the byte.
 const AROUND: usize = 70;
 
+const DECIMAL: &str = "decimals, comments and aligned columns are not read; `desk hex` makes a job of such a text";
+
 fn readable(bytes: &[u8]) -> String {
     bytes.iter().map(|&byte| if (b' '..=b'~').contains(&byte) { char::from(byte) } else { '\u{fffd}' }).collect()
 }
@@ -115,6 +117,7 @@ impl There<'_> {
         match expected {
             _ if word.ends_with(b"\r") => Some("lines end in LF alone, not in CR LF"),
             _ if word.contains(&b'\t') => Some("words are parted by one space, not by a tab"),
+            _ if word.starts_with(b"#") || self.line.get(self.at) == Some(&b' ') && word.is_empty() => Some(DECIMAL),
             _ if word.starts_with(b"\xef\xbb\xbf") => Some("the text begins with a byte order mark; it must have none"),
             Expected::Cell { .. } if first_word && is_table(word) => {
                 Some("an empty line has to end the table before the next one's names")
@@ -134,9 +137,7 @@ impl There<'_> {
         let decimal = || str::from_utf8(word).is_ok_and(|word| word.parse::<f64>().is_ok());
         match self.line.get(self.at) {
             Some(b'A'..=b'F') if word.iter().all(u8::is_ascii_hexdigit) => Some("digits are lowercase"),
-            _ if (word.contains(&b'.') || word.len() < 8) && decimal() => {
-                Some("decimals are not read; `desk hex` turns them into digits")
-            }
+            _ if (word.contains(&b'.') || word.len() < 8) && decimal() => Some(DECIMAL),
             _ => None,
         }
     }

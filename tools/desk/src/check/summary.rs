@@ -1,4 +1,5 @@
 //! An admitted job: the road in short, and the answer to each want.
+use super::look;
 use super::wording::{counted, decimal, meaning, thousands};
 use riftkettle::Road;
 use second::model::{self, Shape};
@@ -8,17 +9,17 @@ pub fn of(road: &Road) -> String {
     let lists = model::Road::read(lent.words, lent.numbers);
     let samples = road.samples().len() / 4;
     let mut text = format!("admitted: a road of {} m\n", decimal(road.length()));
-    text += &format!("  geometries: {}\n", geometries(&lists));
+    text += &format!("  geometries: {}\n{}", geometries(&lists), end(road));
     text += &format!(
         "  {}, {}\n",
         counted(lists.sections.len(), "section", "sections"),
         counted(lists.lanes().count(), "lane", "lanes")
     );
-    text += &format!("  lines: {}\n", lines(&lists, road.wants().len()));
+    text += &format!("  lines of tables: {}\n", lines(&lists, road.wants().len()));
     text += &format!("  samples needed: {} of 2,000\n", thousands(samples));
     text += if road.wants().len() == 0 { "no wants\n" } else { "wants:\n" };
     text.extend(road.wants().map(|(s, t)| format!("  s = {}, t = {}: {}\n", decimal(s), decimal(t), want(road, s, t))));
-    text
+    text + &look::of(road, &lists)
 }
 
 fn geometries(road: &model::Road) -> String {
@@ -30,6 +31,12 @@ fn geometries(road: &model::Road) -> String {
     ];
     let there: Vec<String> = kinds.into_iter().filter(|kind| !kind.starts_with("0 ")).collect();
     there.join(", ")
+}
+
+/// Where the next geometry would begin, in f64: whoever chains geometries by hand asks for it.
+fn end(road: &Road) -> String {
+    let said = |[x, y, heading]: [String; 3]| format!("  the reference line ends at x = {x}, y = {y}, heading {heading}\n");
+    road.station(road.length()).map_or(String::new(), |end| said([end.x, end.y, end.heading].map(decimal)))
 }
 
 /// The tables that have lines, with how many.
@@ -58,7 +65,10 @@ fn lines(road: &model::Road, wants: usize) -> String {
 
 fn want(road: &Road, s: f64, t: f64) -> String {
     match road.surface(s, t) {
-        Ok(point) => format!("x = {}, y = {}, z = {}, heading {}", point.x, point.y, point.z, decimal(point.heading)),
+        Ok(point) => {
+            let [x, y, z] = [point.x, point.y, point.z].map(|x| decimal(x.into()));
+            format!("x = {x}, y = {y}, z = {z}, heading {}", decimal(point.heading))
+        }
         Err(refusal) => format!("refused {}: {}", refusal.number(), reason(refusal.number(), road.length(), s, t)),
     }
 }

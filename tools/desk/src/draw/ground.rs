@@ -62,10 +62,8 @@ impl Ground<'_> {
             let station = self.subject.station(geom.s);
             svg.circle("geometry", self.view.paper(Point::new(station.x, station.y)), DOT);
         }
-        for jump in jumps.iter().filter(|j| j.in_plan() && self.has(j.s)) {
-            for end in [jump.from, jump.to] {
-                svg.circle("jump", self.view.paper(end), RING);
-            }
+        for end in jumps.iter().filter(|j| self.has(j.s)).flat_map(|j| j.ends).flatten() {
+            svg.circle("jump", self.view.paper(end), RING);
         }
     }
 

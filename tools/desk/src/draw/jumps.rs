@@ -1,73 +1,65 @@
-//! Where the reference line, its elevation or its bank does not go on from one record to the next.
+//! Where the reference line, its elevation or its bank does not go on from one record to the next, or a geometry's length is not kept.
+use second::model::Shape;
+
 use super::plane::Point;
 use super::sampled::{Cut, Sampled};
-use super::scale::fixed;
+use super::scale::{fixed, short};
 use super::subject::Subject;
+use crate::joints::{Joint, STEP};
 
-/// What is no jump yet: metres, degrees of heading, degrees of bank.
-const STEP: f64 = 0.001;
-const TURN: f64 = 1.0;
+/// Degrees of bank that are no jump yet. The other limits are those of joints.
 const TILT: f64 = 0.1;
 
 pub struct Jump {
     pub s: f64,
-    pub from: Point,
-    pub to: Point,
-    turn: f64,
-    up: f64,
-    bank: f64,
+    pub text: String,
+    /// Its ends, if it is one in the plan.
+    pub ends: Option<[Point; 2]>,
 }
 
-impl Jump {
-    fn between(before: &Cut, after: &Cut) -> Self {
-        let (a, b) = (&before.station, &after.station);
-        Self {
-            s: b.s,
-            from: before.center(),
-            to: after.center(),
-            turn: least_turn((b.heading - a.heading).to_degrees()),
-            up: b.z - a.z,
-            bank: (b.bank - a.bank).to_degrees(),
-        }
-    }
-
-    /// Whether it is one in the plan.
-    pub fn in_plan(&self) -> bool {
-        self.from.distance(self.to) > STEP || self.turn.abs() > TURN
-    }
-
-    /// What jumps; nothing where all goes on.
-    fn parts(&self) -> Vec<String> {
-        let aside = self.from.distance(self.to);
-        let mut parts = Vec::new();
-        if aside > STEP {
-            parts.push(format!("{} m away", fixed(aside, 3)));
-        }
-        if self.turn.abs() > TURN {
-            parts.push(format!("turns {}°", fixed(self.turn, 1)));
-        }
-        if self.up.abs() > STEP {
-            parts.push(format!("{} m {}", fixed(self.up.abs(), 3), if self.up > 0.0 { "up" } else { "down" }));
-        }
-        if self.bank.abs() > TILT {
-            parts.push(format!("bank {}°", fixed(self.bank, 1)));
-        }
-        parts
-    }
-
-    pub fn text(&self) -> String {
-        self.parts().join(", ")
-    }
-}
-
-/// A turn of degrees without its whole turns.
-fn least_turn(degrees: f64) -> f64 {
-    (degrees + 180.0).rem_euclid(360.0) - 180.0
-}
-
-pub fn of(sampled: &Sampled) -> Vec<Jump> {
+/// In the order of s; at one s the plan before elevation and bank.
+pub fn of(subject: &Subject, sampled: &Sampled) -> Vec<Jump> {
     let pairs = sampled.pieces.windows(2).filter_map(|p| Some((p[0].cuts.last()?, p[1].cuts.first()?)));
-    pairs.map(|(before, after)| Jump::between(before, after)).filter(|j| !j.parts().is_empty()).collect()
+    let joints = subject.joints();
+    let plan = joints.iter().flat_map(|joint| [in_plan(joint), overrun(joint)]);
+    let mut jumps: Vec<Jump> = plan.chain(pairs.map(|(before, after)| upright(before, after))).flatten().collect();
+    jumps.sort_by(|a, b| a.s.total_cmp(&b.s));
+    jumps
+}
+
+fn in_plan(joint: &Joint) -> Option<Jump> {
+    let away = joint.apart().map(|apart| format!("{} m away", fixed(apart, 3)));
+    let turns = joint.turn().map(|turn| format!("turns {}°", fixed(turn, 2)));
+    let ends = [joint.from, joint.to].map(|pose| Point::new(pose.x, pose.y));
+    let text = said([away, turns])?;
+    Some(Jump { s: joint.s, text, ends: Some(ends) })
+}
+
+fn overrun(joint: &Joint) -> Option<Jump> {
+    let past = joint.past()?;
+    let length = short(past.abs());
+    let name = ["line", "arc", "spiral"][super::ground::kind(joint.shape)];
+    let text = match joint.shape {
+        _ if past < 0.0 => format!("the {name} before is cut {length} m short"),
+        Shape::Spiral(..) => format!("the {name} before stays at its end for {length} m"),
+        _ => format!("the {name} before runs on for {length} m"),
+    };
+    Some(Jump { s: joint.s, text, ends: None })
+}
+
+fn upright(before: &Cut, after: &Cut) -> Option<Jump> {
+    let (a, b) = (&before.station, &after.station);
+    let (up, bank) = (b.z - a.z, (b.bank - a.bank).to_degrees());
+    let direction = if up > 0.0 { "up" } else { "down" };
+    let up = (up.abs() > STEP).then(|| format!("{} m {direction}", fixed(up.abs(), 3)));
+    let bank = (bank.abs() > TILT).then(|| format!("bank {}°", fixed(bank, 1)));
+    Some(Jump { s: b.s, text: said([up, bank])?, ends: None })
+}
+
+/// The parts that jump; nothing where all goes on.
+fn said(parts: [Option<String>; 2]) -> Option<String> {
+    let parts: Vec<String> = parts.into_iter().flatten().collect();
+    (!parts.is_empty()).then(|| parts.join(", "))
 }
 
 /// How far two points may lie apart, in metres, and still be one: a millimetre, less on a short road, but no less than points that
@@ -82,20 +74,18 @@ pub fn tolerance(subject: &Subject, sampled: &Sampled, scale: f64) -> f64 {
 #[cfg(test)]
 mod tests {
     use super::*;
+    use riftkettle::Station;
 
-    fn jump(to: Point, turn: f64, up: f64) -> Jump {
-        Jump { s: 40.0, from: Point::new(0.0, 0.0), to, turn, up, bank: 0.0 }
+    fn cut(z: f64, bank: f64) -> Cut {
+        let station = Station { s: 40.0, x: 0.0, y: 0.0, heading: 0.0, z, grade: 0.0, bank, bank_rate: 0.0 };
+        Cut { station, left: Vec::new(), right: Vec::new() }
     }
 
     #[test]
-    fn what_jumps_is_said() {
-        assert_eq!(jump(Point::new(0.3, 0.4), 0.0, -0.02).text(), "0.500 m away, 0.020 m down");
-        assert_eq!(jump(Point::new(0.0, 0.0), -2.0, 0.0).text(), "turns -2.0°");
-        assert_eq!(jump(Point::new(0.0, 0.0005), 0.5, 0.0).text(), "");
-    }
-
-    #[test]
-    fn whole_turns_are_none() {
-        assert_eq!([0.0, 360.0, -361.0, 190.0].map(least_turn), [0.0, 0.0, -1.0, -170.0]);
+    fn what_jumps_upright_is_said() {
+        let said = |z, bank| upright(&cut(1.0, 0.0), &cut(z, bank)).map(|jump| (jump.s, jump.text));
+        assert_eq!(said(0.98, 0.0), Some((40.0, "0.020 m down".into())));
+        assert_eq!(said(1.5, -0.01), Some((40.0, "0.500 m up, bank -0.6°".into())));
+        assert_eq!(said(1.0005, 0.001), None);
     }
 }

@@ -52,7 +52,7 @@ pub fn summary(subject: &Subject) -> String {
 pub fn draw(subject: &Subject, at: f64, progress: &mut Progress) -> String {
     let wants = subject.wants();
     let sampled = sample(subject, 0.0, subject.length(), progress);
-    let jumps = jumps::of(&sampled);
+    let jumps = jumps::of(subject, &sampled);
     let mut svg = Svg::new(WIDTH, HEIGHT, &format!("{}: {}", subject.name, summary(subject)), STYLE);
     title(&mut svg, subject);
     let scene = Scene { subject, wants: &wants, jumps: &jumps, at };

@@ -63,15 +63,17 @@ fn draw_one(svg: &mut Svg, panel: Rect, curve: &Curve, subject: &Subject, sample
         svg.line("step", *step.0, *step.1);
     }
     svg.lines("curve", &lines);
-    section_numbers(svg, &graph, subject);
+    section_numbers(svg, &graph, subject, |s| sampled.cuts().find(|c| c.station.s >= s).map_or(0.0, curve.value));
 }
 
-/// Beside the start of each section that has room for its number.
-fn section_numbers(svg: &mut Svg, graph: &Graph, subject: &Subject) {
+/// Beside the start of each section that has room for its number, at the end of the frame that is farther from the curve there.
+fn section_numbers(svg: &mut Svg, graph: &Graph, subject: &Subject, value: impl Fn(f64) -> f64) {
     const APART: f64 = 14.0;
     let mut last = f64::NEG_INFINITY;
     for (number, section) in subject.model.sections.iter().enumerate() {
-        let at = Point::new(graph.x(section.start) + 3.0, graph.frame.top + 11.0);
+        let high = graph.y(value(section.start)) < graph.frame.center().y;
+        let down = if high { graph.frame.height - 4.0 } else { 11.0 };
+        let at = Point::new(graph.x(section.start) + 3.0, graph.frame.top + down);
         if at.x - last > APART && at.x + APART < graph.frame.right() {
             svg.words("small halo", Anchor::Start, at, &number.to_string());
             last = at.x;

@@ -4,6 +4,7 @@ use riftkettle::{Border, Refusal, Road, Station, SurfacePoint};
 use second::model;
 
 use super::plane::{Point, Rect};
+use crate::joints::{self, Joint};
 
 /// A record is in use from this much before its start.
 const EARLY: f64 = 1e-9;
@@ -99,8 +100,7 @@ impl Subject {
 
     pub fn sides(&self, s: f64) -> Sides {
         let borders = self.moved.borders(s).expect("a station of the road");
-        let left = self.model.sections[self.section(s)].left.len();
-        let (left, right) = borders.split_at(left.min(borders.len()));
+        let (left, right) = borders.split_at(borders.partition_point(|border| border.id > 0));
         Sides { left: side(left), right: side(right) }
     }
 
@@ -110,6 +110,11 @@ impl Subject {
 
     pub fn geometry(&self, s: f64) -> usize {
         in_use(self.model.geoms.iter().map(|g| g.s), s)
+    }
+
+    /// The odd joints of geometries, x and y from the picture's origin.
+    pub fn joints(&self) -> Vec<Joint> {
+        joints::odd(&self.moved, &self.model)
     }
 
     /// The t that the road speaks of where it has no lanes: of its wants and of its profiles' shapes.

@@ -46,7 +46,7 @@ impl Column<'_> {
             (KINDS[1], "arc"),
             (KINDS[2], "spiral"),
             ("base", "base"),
-            ("section", "section start"),
+            ("section", "section start, number"),
             ("at", "cross section"),
             ("mark", "mark of s"),
         ];
@@ -139,12 +139,12 @@ impl Column<'_> {
         if jumps.is_empty() || self.rows_left() < 3 {
             return;
         }
-        self.heading(&format!("Jumps of the reference line: {}", jumps.len()));
+        self.heading(&format!("Reference line, worth a look: {}", jumps.len()));
         let room = self.rows_left();
         let shown = if jumps.len() > room { room.saturating_sub(1) } else { jumps.len() };
         for jump in &jumps[..shown] {
             let at = self.row();
-            self.svg.words("small", Anchor::Start, at, &format!("s {}: {}", short(jump.s), jump.text()));
+            self.svg.words("small", Anchor::Start, at, &format!("s {}: {}", short(jump.s), jump.text));
         }
         if shown < jumps.len() {
             let at = self.row();
