@@ -12,7 +12,7 @@ use Rattle.records.specs.Roads.{roadOf, wordAt, geomIndex}
 use Rattle.records.proofs.RoadLaws.{geom-count, section-count}
 use Rattle.admission_structure.specs.Structure.{slicesOk, countsOk, kindsOk, sectionOk, profileOk, stripOk, structured}
 use Rattle.admission.specs.Limits.{limited}
-use Rattle.admission_laws.proofs.LimitParts.{and-fst, and-snd, true-T}
+use Rattle.records_lent.proofs.TestLaws.{and-fst, and-snd, true-T}
 use Rattle.admission_laws.proofs.Fitting.{Fitting, road-fits}
 use Rattle.admission_laws.proofs.RoadBounds.{OnRoad}
 use Rattle.admission.specs.Admission.{admitted}

@@ -1,6 +1,6 @@
 -- The limits carried to the values: where a list of cubics passes its tests, the station lies within the active cubic's reach D, so its value is at most B in size, and its slope at most its bound.
 -- Upwards by monotone rounding (s is before the next start, or the list's end); downwards by the error of the one sum s + 1e-9, far below the 0.001 of D. All starts are finite by their range, D by B.
-use Prim.Native.Nat.{ℕ, zero, _+_, _-_, _*_, _^_, _<_, _≤_}
+use Prim.Native.Nat.{ℕ, _+_, _-_, _*_, _^_, _<_, _≤_}
 use native.Mathlib.Omega.{arith}
 use native.Mathlib.Nat.{le-of-eq, lt-of-le-of-lt}
 use mathlib.Core.Path.{_≡_, refl, sym, _∙_, subst}
@@ -32,7 +32,7 @@ use Rattle.arithmetic_ranges.specs.Ranges.{atLeastZero}
 use Rattle.admission_bounds.specs.Bounds.{endAt, reachMargin, reachAt, boundOf, boundAt, slopeBoundOf, cubicWithin, cubicsWithin, slopesWithin}
 use Rattle.admission_laws.proofs.Fitting.{Fits64, CubicFits, CubicsFit}
 use Rattle.admission_laws.proofs.ActiveRecord.{Active, active-at}
-use Rattle.admission_laws.proofs.LimitParts.{all-at, and-fst, and-snd, true-T}
+use Rattle.records_lent.proofs.TestLaws.{all-at, and-fst, and-snd, true-T}
 
 -- ---- the constants: 20,000, and the margins of the active record and of D, 1e-9 and 0.001
 
@@ -334,12 +334,12 @@ pub record Ready (cs : List Cubic) (lo hi end limit s : Float) : Type 0 where
 slope-passes : (cs : List Cubic) (end m : Float) → slopesWithin cs end m ≡ true → (i : ℕ) → i < length cs → T (le (slopeBoundOf (cubicAt cs i) (reachAt cs end i)) m)
 unfolding slopesWithin
 slope-passes cs end m p i h =
-    true-T (le (slopeBoundOf (cubicAt cs i) (reachAt cs end i)) m) (all-at (λ k. le (slopeBoundOf (cubicAt cs k) (reachAt cs end k)) m) (length cs) i p h)
+    true-T (le (slopeBoundOf (cubicAt cs i) (reachAt cs end i)) m) (all-at (λ k. le (slopeBoundOf (cubicAt cs k) (reachAt cs end k)) m) (length cs) p i h)
 
 module _ (cs : List Cubic) (lo hi end limit s : Float) (r : Ready cs lo hi end limit s) where
   passes : (i : ℕ) → i < length cs → cubicWithin cs lo hi end limit i ≡ true
   unfolding cubicsWithin
-  passes i h = all-at (cubicWithin cs lo hi end limit) (length cs) i (r .passed) h
+  passes i h = all-at (cubicWithin cs lo hi end limit) (length cs) (r .passed) i h
 
   start-real : (i : ℕ) → i < length cs → Real binary64 (cubicAt cs i .start)
   unfolding cubicWithin

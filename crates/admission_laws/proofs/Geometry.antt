@@ -31,7 +31,8 @@ use Rattle.arithmetic_ranges.specs.Ranges.{inRange, sized}
 use Rattle.admission.specs.Limits.{greatestLength, greatestPlace, greatestHeading, leastArcCurvature, greatestArcCurvature, shapeLimited, limited}
 use Rattle.admission_laws.proofs.Fitting.{RoadFits}
 use Rattle.admission_laws.proofs.ActiveRecord.{found-at}
-use Rattle.admission_laws.proofs.LimitParts.{and-fst, true-T, arc-parts}
+use Rattle.records_lent.proofs.TestLaws.{and-fst, true-T}
+use Rattle.admission_laws.proofs.LimitParts.{arc-parts}
 use Rattle.admission_laws.proofs.RoadBounds.{OnRoad, station-within, geom-start-in}
 
 -- ---- the constants

@@ -1,40 +1,19 @@
 -- What passing row 4 says, part by part. A test at every index passes at each; a conjunction's parts pass.
-use Prim.Native.Nat.{ℕ, zero, suc, _+_, _<_}
-use native.Mathlib.Nat.{le-of-suc-le-suc, not-suc-le-zero, eq-or-lt-of-le}
-use mathlib.Core.Path.{_≡_, refl, sym, subst}
+use Prim.Native.Nat.{ℕ, _+_, _<_}
+use mathlib.Core.Path.{_≡_, refl}
 use mathlib.Core.Bool.{Bool, true, false, _&&_, _||_, cond}
-use mathlib.Core.Logic.{_⊎_, ⊎-elim, inl, inr}
+use mathlib.Core.Logic.{_⊎_, inl, inr}
 use lib.ListN.{length}
-use lib.Dec.{T}
 use lib.Ieee.{Float, le, neg}
 use Rattle.float_laws.specs.Binary64.{absOf}
 use Rattle.records.specs.declared.points.GeomShape.the-variants.{Arc, Spiral}
 use Rattle.records.specs.declared.points.HeightDef.{HeightDef}
 use Rattle.records_lent.specs.Lists.{allBelow}
+use Rattle.records_lent.proofs.TestLaws.{and-fst, and-snd, all-at}
 use Rattle.records.specs.Roads.{Road, Lane, Strip, straightCurvature, geomAt, unusedZero, sectionOf, laneOf, profileAt, stripAt, columnOf, heightDefAt}
 use Rattle.arithmetic_ranges.specs.Ranges.{inRange, sized, largest, finite64}
 use Rattle.admission_bounds.specs.Bounds.{cubicsWithin, slopesWithin}
 use Rattle.admission.specs.Limits.{greatestShapeStart, greatestPlace, greatestHeading, leastArcCurvature, greatestArcCurvature, greatestSpiralCurvature, greatestLaneHeight, shapesEnd, greatestElevation, greatestBank, greatestOffset, greatestShift, greatestWidth, greatestBorder, greatestShape, greatestStripWidth, greatestGrade, greatestStripHeight, lengthOk, geomLengthOk, onRoad, roadCubicsWithin, shapeLimited, geomLimited, sectionExtent, heightLimited, heightsLimited, laneLimited, sectionLimited, profileLimited, termsBound, stripLimited, limited}
-
-pub and-fst : (a b : Bool) → a && b ≡ true → a ≡ true
-and-fst true b e = refl
-and-fst false b e = e
-
-pub and-snd : (a b : Bool) → a && b ≡ true → b ≡ true
-and-snd true b e = e
-and-snd false b e = absurd (no e)
-  where
-    no : false ≡ true → ⊥
-    no e = subst (λ (b : Bool). T b) (sym e) tt
-
-pub true-T : (a : Bool) → a ≡ true → T a
-true-T a e = subst T (sym e) tt
-
-pub all-at : (p : ℕ → Bool) (n i : ℕ) → allBelow p n ≡ true → i < n → p i ≡ true
-unfolding allBelow
-all-at p zero i e h = absurd (not-suc-le-zero h)
-all-at p (suc n) i e h =
-    ⊎-elim (λ (q : i ≡ n). subst (λ (k : ℕ). p k ≡ true) (sym q) (and-snd (allBelow p n) (p n) e)) (λ l. all-at p n i (and-fst (allBelow p n) (p n) e) l) (eq-or-lt-of-le (le-of-suc-le-suc h))
 
 pub or-parts : (a b : Bool) → a || b ≡ true → (a ≡ true) ⊎ (b ≡ true)
 or-parts true b e = inl refl
@@ -77,15 +56,15 @@ limited-parts road e =
     let eg = and-fst (l && g) v ev in
     record {
       length-ok = and-fst l g eg;
-      geoms = λ i h. all-at (geomLimited road) (length (road .geoms)) i (and-snd l g eg) h;
+      geoms = λ i h. all-at (geomLimited road) (length (road .geoms)) (and-snd l g eg) i h;
       elevations = and-snd (l && g) v ev;
       slopes = and-snd (l && g && v) s es;
       superelevations = and-snd (l && g && v && s) b eb;
       offsets = and-snd (l && g && v && s && b) o eo;
       tshifts = and-snd (l && g && v && s && b && o) t et;
-      sections = λ i h. all-at (sectionLimited road) (length (road .sections)) i (and-snd (l && g && v && s && b && o && t) x ex) h;
-      profiles = λ i h. all-at (profileLimited road) (length (road .profiles)) i (and-snd (l && g && v && s && b && o && t && x) p ep) h;
-      strips = λ i h. all-at (λ i. stripLimited road (stripAt road i)) 4 i (and-snd (l && g && v && s && b && o && t && x && p) y e) h;
+      sections = λ i h. all-at (sectionLimited road) (length (road .sections)) (and-snd (l && g && v && s && b && o && t) x ex) i h;
+      profiles = λ i h. all-at (profileLimited road) (length (road .profiles)) (and-snd (l && g && v && s && b && o && t && x) p ep) i h;
+      strips = λ i h. all-at (λ i. stripLimited road (stripAt road i)) 4 (and-snd (l && g && v && s && b && o && t && x && p) y e) i h;
     }
 
 -- ---- a geometry and its shape
@@ -152,12 +131,12 @@ unfolding sectionLimited
 lane-parts road i true k e h =
     let a = onRoad road (sectionOf road i .start) in
     let p : ℕ → Bool = λ k. laneLimited (sectionExtent road i) (laneOf road i true k) in
-    all-at p (length (sectionOf road i .right)) k (and-snd (a && allBelow (λ k. laneLimited (sectionExtent road i) (laneOf road i false k)) (length (sectionOf road i .left))) (allBelow p (length (sectionOf road i .right))) e) h
+    all-at p (length (sectionOf road i .right)) (and-snd (a && allBelow (λ k. laneLimited (sectionExtent road i) (laneOf road i false k)) (length (sectionOf road i .left))) (allBelow p (length (sectionOf road i .right))) e) k h
 lane-parts road i false k e h =
     let a = onRoad road (sectionOf road i .start) in
     let p : ℕ → Bool = λ k. laneLimited (sectionExtent road i) (laneOf road i false k) in
     let n = length (sectionOf road i .left) in
-    all-at p n k (and-snd a (allBelow p n) (and-fst (a && allBelow p n) (allBelow (λ k. laneLimited (sectionExtent road i) (laneOf road i true k)) (length (sectionOf road i .right))) e)) h
+    all-at p n (and-snd a (allBelow p n) (and-fst (a && allBelow p n) (allBelow (λ k. laneLimited (sectionExtent road i) (laneOf road i true k)) (length (sectionOf road i .right))) e)) k h
 
 abbrev pub laneLimit : Lane → Float
 laneLimit lane = cond (lane .border) greatestBorder greatestWidth
@@ -178,7 +157,7 @@ height-parts extent lane e j l =
     let a = finite64 (h .«s_offset») in
     let b = sized greatestLaneHeight (h .inner) in
     let c = sized greatestLaneHeight (h .outer) in
-    let p = all-at (λ i. heightLimited (heightDefAt (lane .heights) i)) (length (lane .heights)) j (and-snd (cubicsWithin (lane .extents) (neg largest) largest extent (laneLimit lane)) (heightsLimited (lane .heights)) e) l in
+    let p = all-at (λ i. heightLimited (heightDefAt (lane .heights) i)) (length (lane .heights)) (and-snd (cubicsWithin (lane .extents) (neg largest) largest extent (laneLimit lane)) (heightsLimited (lane .heights)) e) j l in
     let q = and-fst (a && b) c p in
     record { start = and-fst a b q; inner = and-snd a b q; outer = and-snd (a && b) c p }
 
@@ -204,4 +183,4 @@ strip-parts road strip e =
     let p : ℕ → Bool = λ term. roadCubicsWithin road (columnOf strip (term + 1)) largest in
     let c = le (termsBound road strip) greatestStripHeight in
     let q = and-fst (a && allBelow p 4) c e in
-    record { width = and-fst a (allBelow p 4) q; terms = λ k h. all-at p 4 k (and-snd a (allBelow p 4) q) h; height = and-snd (a && allBelow p 4) c e }
+    record { width = and-fst a (allBelow p 4) q; terms = λ k h. all-at p 4 (and-snd a (allBelow p 4) q) k h; height = and-snd (a && allBelow p 4) c e }

@@ -7,7 +7,7 @@ use Rattle.records.specs.Roads.{Road}
 use Rattle.admission.specs.Limits.{onRoad}
 use Rattle.admission_arguments.specs.Arguments.{acrossRoad}
 use Rattle.admission_laws.specs.Fractions.{IsF64}
-use Rattle.admission_laws.proofs.LimitParts.{and-fst, and-snd, true-T}
+use Rattle.records_lent.proofs.TestLaws.{and-fst, and-snd, true-T}
 use Rattle.admission_laws.proofs.RoadBounds.{OnRoad, Across}
 
 -- row 7

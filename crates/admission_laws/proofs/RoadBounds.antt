@@ -25,7 +25,8 @@ use Rattle.admission.specs.Limits.{leastLength, greatestLength, greatestShapeSt
 use Rattle.admission_arguments.specs.Arguments.{halfWidth}
 use Rattle.admission_laws.proofs.Fitting.{Fits64, CubicsFit, RoadFits}
 use Rattle.admission_laws.proofs.ActiveRecord.{Active}
-use Rattle.admission_laws.proofs.LimitParts.{and-fst, and-snd, true-T, Limited, limited-parts, GeomLimited, geom-parts, arc-parts, spiral-parts, section-start-on, laneCount, lane-parts, laneLimit, extents-pass, HeightLimited, height-parts, profile-parts, StripLimited, strip-parts}
+use Rattle.records_lent.proofs.TestLaws.{and-fst, and-snd, true-T}
+use Rattle.admission_laws.proofs.LimitParts.{Limited, limited-parts, GeomLimited, geom-parts, arc-parts, spiral-parts, section-start-on, laneCount, lane-parts, laneLimit, extents-pass, HeightLimited, height-parts, profile-parts, StripLimited, strip-parts}
 use Rattle.admission_laws.proofs.CubicBounds.{far, up-to-real, up-to-grows, gap-covers, Ready, value-within, slope-within, constant-within}
 use Rattle.admission_laws.proofs.GreatestBounds.{greatest-within, horner-within}
 

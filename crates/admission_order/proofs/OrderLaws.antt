@@ -15,7 +15,7 @@ use Rattle.records_lent.specs.Lists.{allBelow}
 use Rattle.records_cubic.specs.Cubics.{cubicAt}
 use Rattle.records.specs.Roads.{Road, Lane, Strip, geomAt, noSection, sectionOf, noLane, laneOf, noProfile, profileAt, stripAt, columnOf, heightDefAt}
 use Rattle.admission_order.specs.Order.{leastGap, neverFall, riseStrictly, apart, cubicsInOrder, laneInOrder, sectionInOrder, profilesInOrder, stripInOrder, ordered}
-use Rattle.admission_structure.proofs.TestLaws.{told, chain-at, all-at}
+use Rattle.records_lent.proofs.TestLaws.{true-T, chain-at, all-at}
 
 -- ---- the neighbours of a list in order
 
@@ -25,15 +25,15 @@ below i n l = omega arith
 module _ (start : ℕ → Float) (n : ℕ) where
   pub neverFall-at : neverFall start n ≡ true → (i : ℕ) → i + 1 < n → T (le (start i) (start (i + 1)))
   unfolding neverFall
-  neverFall-at e i l = told (all-at (λ k. le (start k) (start (k + 1))) (n - 1) e i (below i n l))
+  neverFall-at e i l = true-T _ (all-at (λ k. le (start k) (start (k + 1))) (n - 1) e i (below i n l))
 
   pub riseStrictly-at : riseStrictly start n ≡ true → (i : ℕ) → i + 1 < n → T (lt (start i) (start (i + 1)))
   unfolding riseStrictly
-  riseStrictly-at e i l = told (all-at (λ k. lt (start k) (start (k + 1))) (n - 1) e i (below i n l))
+  riseStrictly-at e i l = true-T _ (all-at (λ k. lt (start k) (start (k + 1))) (n - 1) e i (below i n l))
 
   pub apart-at : apart start n ≡ true → (i : ℕ) → i + 1 < n → T (le leastGap (start (i + 1) ⊖ start i))
   unfolding apart
-  apart-at e i l = told (all-at (λ k. le leastGap (start (k + 1) ⊖ start k)) (n - 1) e i (below i n l))
+  apart-at e i l = true-T _ (all-at (λ k. le leastGap (start (k + 1) ⊖ start k)) (n - 1) e i (below i n l))
 
 -- ---- what a road in order has
 
@@ -141,8 +141,8 @@ ordered-is road e =
     in
     let p = chain-at far (shapes ∷ []) (t 9) in
     record {
-      geom-zero = told (t 0);
-      section-zero = told (t 1);
+      geom-zero = true-T _ (t 0);
+      section-zero = true-T _ (t 1);
       geoms = neverFall-at geom (length (road .geoms)) (t 2);
       sections = riseStrictly-at section (length (road .sections)) (t 3);
       elevations = cubics-rise (road .elevations) (t 4);

@@ -1,3 +1,3 @@
 pub mod StructureLaws
-pub mod TestLaws
+pub mod RangeLaws
 pub mod WordLaws

@@ -15,7 +15,8 @@ use Rattle.records_cubic.proofs.CubicTables.{cubic-count}
 use Rattle.records.proofs.CubicLaws.{height-count}
 use Rattle.records.proofs.RoadLaws.{geom-count, section-count, section-past, left-count, right-count, left-lane-in, right-lane-in, left-lane-past, right-lane-past, no-lane, profile-count, profile-in, column-in, column-absent, column-over, column-past}
 use Rattle.admission_structure.specs.Structure.{countsOk, kindsOk, laneOk, sectionOk, profileOk, columnOk, stripOk, structured}
-use Rattle.admission_structure.proofs.TestLaws.{chain-at, all-at, range-is}
+use Rattle.records_lent.proofs.TestLaws.{chain-at, all-at}
+use Rattle.admission_structure.proofs.RangeLaws.{range-is}
 
 -- ---- how many numbers a span has, and how many lines
 

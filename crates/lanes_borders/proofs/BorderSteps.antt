@@ -1,5 +1,5 @@
 -- The steps of a side's borders as the code takes them: a side's lanes, a lane's width by its kind, the running outer border, and a side's numbers written into a list.
-use mathlib.Core.Path.{_≡_, refl, sym, ap, _∙_, subst}
+use mathlib.Core.Path.{_≡_, refl, sym, ap, _∙_}
 use mathlib.Core.Bool.{Bool, true, false, not, cond}
 use mathlib.Core.List.{List, [], _∷_, _++_, append-nil, append-assoc}
 use mathlib.Core.Logic.{⊎-elim}
@@ -9,10 +9,11 @@ use native.Mathlib.Omega.{arith}
 use native.Mathlib.Numerals.{add-one}
 use lib.Dec.{T, leb, ltb, ltb→lt, nltb→le}
 use borrow.Author.Tests.{le-leb, lt-leb}
-use lib.ListN.{length, getD, take, drop, set, length-append, length-drop, take-append-drop, List·getD-append}
-use lib.Seq.{sets-eq, take-at, drop-append-add, drop-drop, length-take-le, getD-append-add}
+use lib.ListN.{length, getD, take, drop, set, length-append, take-append-drop, List·getD-append}
+use lib.Seq.{take-at, length-take-le, getD-append-add}
 use lib.Ieee.{Float, lt, ofBits}
 use Rattle.float_laws.specs.Binary64.{_⊖_, _⊗_, zero64}
+use Rattle.records_lent.proofs.StoreLaws.{past-head, three-stores}
 use Rattle.records_cubic.specs.declared.cubics.Cubic.{Cubic}
 use Rattle.records.specs.declared.points.Found.the-variants.{At, Nothing}
 use Rattle.records_cubic.specs.Cubics.{cubicAt, evalAt}
@@ -93,26 +94,6 @@ unfolding bordersAt
 borders-of road i s right k p q e f = rw (f, e, q, p)
 
 -- ---- a side written into a list: what stands before it, its numbers, and the old list from there on
-
-past-head : (p old : List Float) (m n : ℕ) → length p ≡ m → drop (m + n) (p ++ drop m old) ≡ drop (m + n) old
-past-head p old m n e = subst (λ (k : ℕ). drop (k + n) (p ++ drop m old) ≡ drop n (drop m old)) e (drop-append-add p (drop m old) n) ∙ drop-drop n m old
-
-three-stores :
-    (p old : List Float) (i : ℕ) (a b c : Float) → length p ≡ i → i + 3 ≤ length old
-    → set (set (set (p ++ drop i old) i a) (i + 1) b) (i + 2) c ≡ (p ++ (a ∷ b ∷ c ∷ [])) ++ drop (i + 3) old
-three-stores p old i a b c e h =
-    let l = p ++ drop i old in
-    let vs = a ∷ b ∷ c ∷ [] in
-    let one : i + 1 ≡ suc i = omega arith in
-    let two : i + 2 ≡ suc (suc i) = omega arith in
-    let d = length-drop i old in
-    let n = length-append p (drop i old) in
-    let room : i + 3 ≤ length l = omega arith in
-    ap (λ (m : ℕ). set (set (set l i a) m b) (i + 2) c) one
-    ∙ ap (λ (m : ℕ). set (set (set l i a) (suc i) b) m c) two
-    ∙ sets-eq vs l i room
-    ∙ ap (λ (r : List Float). (r ++ vs) ++ drop (i + 3) l) (take-at p (drop i old) i e)
-    ∙ ap (λ (r : List Float). (p ++ vs) ++ r) (past-head p old i 3 e)
 
 pub side-length : (b : ℕ → LaneBorders) (n : ℕ) → length (sideList b n) ≡ n * 3
 unfolding sideList

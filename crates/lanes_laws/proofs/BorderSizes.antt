@@ -20,7 +20,7 @@ use Rattle.admission_laws.proofs.Places.{on-road}
 use Rattle.lanes_laws.proofs.AdmittedRoad.{Admits, admits, section-there, into, in-section}
 use Rattle.admission_laws.specs.Fractions.{IsF64, AllF64, AtMost}
 use Rattle.admission_laws.proofs.FractionLaws.{within-at-most, le-not-over}
-use Rattle.admission_laws.proofs.LimitParts.{and-fst, and-snd}
+use Rattle.records_lent.proofs.TestLaws.{and-fst, and-snd}
 use Rattle.admission_laws.proofs.RoadBounds.{OnRoad, offset-within, width-within, border-within}
 use Rattle.admission.specs.Admission.{admitted}
 use Rattle.admission.proofs.RowLaws.{pass-checked, checked-pass}

@@ -10,9 +10,6 @@ use lib.Seq.{sets}
 use lib.Ieee.{binary32, toBits}
 use borrow.Author.Tests.{lt-ltb, le-ltb}
 use Rattle.refusals.specs.Answer.{Answer, value, refused}
-use Rattle.refusals.specs.Refusal.{numberOf}
-use Rattle.refusals.specs.declared.refusals.Refusal.{Refusal}
-use Rattle.refusals.specs.declared.refusals.Refusal.the-variants.{Form, Capacity, Structure, Range, SampleBudget, SampleSpace, Station, Offset, Target, Lane, BorderSpace, CountRange}
 use Rattle.records.specs.declared.points.Point.{Point}
 use Rattle.surface_points.specs.declared.points.SurfacePoint32.{SurfacePoint32}
 use Rattle.reader_hex.specs.Digits.{hexOf, decimalOf}
@@ -20,20 +17,6 @@ use Rattle.program_output.specs.Lines.{numberLine, digitsOf, pointLine, 
 use Rattle.program_output.proofs.Writing.{length-hex, word-then}
 
 -- ---- the number of a refusal
-
-pub number-few : (r : Refusal) → numberOf r ≤ 12
-number-few Form = omega arith
-number-few Capacity = omega arith
-number-few Structure = omega arith
-number-few Range = omega arith
-number-few SampleBudget = omega arith
-number-few SampleSpace = omega arith
-number-few Station = omega arith
-number-few Offset = omega arith
-number-few Target = omega arith
-number-few Lane = omega arith
-number-few BorderSpace = omega arith
-number-few CountRange = omega arith
 
 module _ {m n : ℕ} (e : m ≡ n) (l : List ℕ) (at : ℕ) where
   pub number-short : m < 10 → (at + 2 ≡ at + length (numberLine n)) × (set (set l at (48 + m)) (at + 1) 10 ≡ sets l at (numberLine n))

@@ -46,11 +46,11 @@ module _ (text : List ℕ) (at : ℕ) where
     unfolding digitsValue
     value-more h = rw (add-one, ← h, ← f)
 
-    digits-stop : 16 ≤ d → digitsOk text at (suc n) ≡ false
+    pub digits-stop : 16 ≤ d → digitsOk text at (suc n) ≡ false
     unfolding digitsOk
     digits-stop k = rw (← f, le-ltb d 16 k) (and-false (digitsOk text at n))
 
-  digits-keep : (m n : ℕ) → m ≤ n → digitsOk text at m ≡ false → digitsOk text at n ≡ false
+  pub digits-keep : (m n : ℕ) → m ≤ n → digitsOk text at m ≡ false → digitsOk text at n ≡ false
   unfolding digitsOk
   digits-keep m zero l h = rw (zero-only m l) at h
     where

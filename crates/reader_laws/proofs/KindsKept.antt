@@ -11,7 +11,7 @@ use lib.Dec.{eqb, ltb, leb}
 use lib.Ieee.{Float}
 use borrow.Author.Tests.{ltb-true, leb-true, eqb-true, eqb-false, ne-eqb}
 use Rattle.records_lent.specs.Lists.{allBelow}
-use Rattle.admission_structure.proofs.TestLaws.{all-at}
+use Rattle.records_lent.proofs.TestLaws.{all-at}
 use Rattle.reader_schema.specs.Schema.{nameOf, limits, limitOf}
 use Rattle.reader_cells.specs.Cells.{byteAt, nameSpan}
 use Rattle.reader_lines.specs.NamesLine.{headAt}

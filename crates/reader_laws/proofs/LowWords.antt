@@ -9,7 +9,7 @@ use lib.Seq.{getD-set-other}
 use lib.Dec.{eqb, ltb, leb}
 use borrow.Author.Tests.{ltb-true, leb-true}
 use Rattle.records_lent.specs.Lists.{allBelow}
-use Rattle.admission_structure.proofs.TestLaws.{all-at}
+use Rattle.records_lent.proofs.TestLaws.{all-at}
 use Rattle.reader_lines.specs.Columns.{cellOf}
 use Rattle.reader_lines.specs.declared.columns.Cells.{Cells}
 use Rattle.reader_store.specs.Layout.{placeAt, wordPlace, codeOf, oneMore, wordPut, wordsBelow, rules, ruleOf, bases, baseOf, strideOf}

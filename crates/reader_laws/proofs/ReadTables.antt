@@ -9,7 +9,7 @@ use lib.Dec.{leb, ltb}
 use lib.Ieee.{Float}
 use borrow.Author.Tests.{leb-true}
 use Rattle.refusals.specs.Answer.{Answer, value, refused}
-use Rattle.admission_structure.proofs.TestLaws.{chain-at}
+use Rattle.records_lent.proofs.TestLaws.{chain-at}
 use Rattle.admission.specs.Admission.{admitCall}
 use Rattle.reader_store.specs.Progress.{startProgress}
 use Rattle.reader_store.specs.declared.progress.Progress.{Progress}

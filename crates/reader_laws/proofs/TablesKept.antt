@@ -11,7 +11,7 @@ use lib.Dec.{eqb, ltb, leb}
 use lib.Ieee.{Float, nan, binary64, ofBits}
 use borrow.Author.Tests.{ltb-true, ltb-false, leb-true, eqb-true, ne-eqb, eq-eqb, lt-leb}
 use Rattle.records_lent.specs.Lists.{allBelow}
-use Rattle.admission_structure.proofs.TestLaws.{all-at}
+use Rattle.records_lent.proofs.TestLaws.{all-at}
 use Rattle.reader_schema.specs.Schema.{limits, limitOf}
 use Rattle.reader_lines.specs.Columns.{cellOf, noCells}
 use Rattle.reader_lines.specs.declared.columns.Cells.{Cells}

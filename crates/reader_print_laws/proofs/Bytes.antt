@@ -8,7 +8,7 @@ use lib.ListN.{length, getD, List·getD-eq-default}
 use lib.Dec.{ltb}
 use borrow.Author.Tests.{ltb-true, ltb-false}
 use Rattle.records_lent.specs.Lists.{allBelow}
-use Rattle.admission_structure.proofs.TestLaws.{all-at}
+use Rattle.records_lent.proofs.TestLaws.{all-at}
 use Rattle.reader_schema.specs.Schema.{wordCount, columnKind}
 use Rattle.reader_cells.specs.Cells.{byteAt}
 use Rattle.reader_lines.specs.Columns.{noCells, cellOf}

@@ -8,7 +8,7 @@ use lib.ListN.{length, drop, length-append}
 use lib.Dec.{ltb, eqb}
 use borrow.Author.Tests.{eqb-true, lt-leb, ltb-true, ltb-false, lt-ltb, le-ltb, ne-eqb}
 use Rattle.records_lent.specs.Lists.{allBelow}
-use Rattle.admission_structure.proofs.TestLaws.{all-at}
+use Rattle.records_lent.proofs.TestLaws.{all-at}
 use Rattle.reader_cells.specs.Cells.{byteAt, digitOf, spanOf, decimalFrom, naturalAt, negative, positive, wholeAt, hexFrom, hexAt}
 use Rattle.reader_cells.specs.declared.values.Cell.the-variants.{Value}
 use Rattle.reader_lines.specs.ValuesLine.{stopOf}

@@ -8,7 +8,7 @@ use lib.ListN.{length, getD, drop, List·getD-eq-default}
 use lib.Dec.{ltb, eqb}
 use borrow.Author.Tests.{eqb-true, ltb-true, ltb-false, lt-ltb, ne-eqb}
 use Rattle.records_lent.specs.Lists.{allBelow}
-use Rattle.admission_structure.proofs.TestLaws.{all-at, chain-at}
+use Rattle.records_lent.proofs.TestLaws.{all-at, chain-at}
 use Rattle.reader_schema.specs.Schema as schema
 use Rattle.reader_schema.specs.Schema.{wordCount, placeOf}
 use Rattle.reader_cells.specs.Cells.{byteAt, nameFrom, nameSpan, listedAt, cellAt}

@@ -9,7 +9,7 @@ use lib.ListN.{getD, set}
 use lib.Dec.{eqb, ltb, leb}
 use borrow.Author.Tests.{ltb-true, lt-leb, ne-eqb}
 use Rattle.records_lent.specs.Lists.{allBelow}
-use Rattle.admission_structure.proofs.TestLaws.{all-at}
+use Rattle.records_lent.proofs.TestLaws.{all-at}
 use Rattle.reader_schema.specs.Schema.{nameOf, limitOf, counts, wordCount, kinds, columnKind, placeOf}
 use Rattle.reader_cells.specs.Cells.{byteAt, nameSpan, hexAt, wholeAt, listedAt, cellAt}
 use Rattle.reader_cells.specs.declared.values.Cell.{Cell}

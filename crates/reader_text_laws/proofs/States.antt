@@ -11,7 +11,7 @@ use lib.Dec.{eqb, leb}
 use lib.Ieee.{Float}
 use borrow.Author.Tests.{lt-leb, eq-eqb}
 use Rattle.records_lent.specs.Lists.{allBelow}
-use Rattle.admission_structure.proofs.TestLaws.{all-at}
+use Rattle.records_lent.proofs.TestLaws.{all-at}
 use Rattle.reader_schema.specs.Schema.{limits, limitOf}
 use Rattle.reader_lines.specs.Columns.{cellOf, noCells}
 use Rattle.reader_lines.specs.declared.columns.Cells.{Cells}

@@ -9,6 +9,11 @@ pub data Answer (A : Type 0) : Type 0 where
   value : A → Answer A
   refused : ℕ → Answer A
 
+-- the call refuses not, and of what it answers P holds
+abbrev pub Answers : {A : Type 0} → Answer A → (A → Type 0) → Type 0
+Answers (value a) P = P a
+Answers (refused n) P = ⊥
+
 -- a row of the table as a call checks it: the refusal, and whether the row passes
 pub record Row : Type 0 where
   pub refusal : Refusal

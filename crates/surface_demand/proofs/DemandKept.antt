@@ -8,7 +8,7 @@ use mathlib.Core.List.{List}
 use lib.Ieee.{Float, nan}
 use lib.ListN.{length, getD, drop, List·getD-append}
 use borrow.Author.Tests.{lt-ltb}
-use Rattle.refusals.specs.Answer.{Answer, value}
+use Rattle.refusals.specs.Answer.{Answer, value, Answers}
 use Rattle.records.specs.Roads.{Road, roadOf, sectionIndex}
 use Rattle.admission.specs.Limits.{onRoad}
 use Rattle.admission_arguments.specs.Arguments.{acrossRoad}
@@ -35,7 +35,7 @@ use Rattle.surface_calls.specs.SurfaceCalls.{placeOfId, laneThere, isLane, onRi
 use Rattle.surface_laws.proofs.CallsKept.{axes-kept, surface-kept, lane-surface-kept, axes-answered, surface-answered, lane-surface-answered}
 use Rattle.surface_station.specs.Axes.{axesAt}
 use Rattle.surface_laws.proofs.LocateLaws.{locate-kept}
-use Rattle.surface_demand.specs.Demand.{Answers, PointKept, UnitKept, AxesKept, idOn, Kept, Demand3}
+use Rattle.surface_demand.specs.Demand.{PointKept, UnitKept, AxesKept, idOn, Kept, Demand3}
 
 -- a call whose value is known
 answers : {A : Type 0} (P : A → Type 0) {r : Answer A} (a : A) → r ≡ value a → P a → Answers r P

@@ -9,6 +9,7 @@ use lib.Ieee.{Float, binary64, ofBits, add, sub, mul, div, le, lt, eq, neg}
 use lib.Ieee.Fits.{nan-fits}
 use lib.Ieee.Bits.{ofBits-fits}
 use Rattle.float_laws.specs.Binary64.{f64, zero64}
+use Rattle.refusals.specs.Answer.{Answers}
 use Rattle.records_cubic.specs.Cubics.{cubicsOf}
 use Rattle.records_lent.specs.Lists.{tabulate, allBelow}
 use Rattle.records.specs.Roads.{roadOf, heightsOf}
@@ -21,7 +22,7 @@ use Rattle.admission.specs.Admission.{admitted}
 use Rattle.line_calls.specs.SampleCall.{samplesList}
 use Rattle.surface_calls.specs.SurfaceCalls.{surfaceCall}
 use Rattle.admission_laws.specs.Fractions.{AllF64}
-use Rattle.surface_demand.specs.Demand.{Answers, PointKept, Kept}
+use Rattle.surface_demand.specs.Demand.{PointKept, Kept}
 use Rattle.surface_demand.proofs.DemandKept.{demand-3}
 
 abbrev ten : Float

@@ -9,7 +9,7 @@ use lib.IntN.{ℤ, pos, negsuc}
 use lib.Ieee.{Float}
 use lib.Ieee.Scale.{finite}
 use lib.ListN.{length}
-use Rattle.refusals.specs.Answer.{Answer, value, refused}
+use Rattle.refusals.specs.Answer.{value, Answers}
 use Rattle.records.specs.Roads.{roadOf}
 use Rattle.admission.specs.Limits.{onRoad}
 use Rattle.admission_arguments.specs.Arguments.{acrossRoad}
@@ -28,11 +28,6 @@ use Rattle.surface_calls.specs.LocateCall.{locateCall}
 use Rattle.surface_laws.specs.Positions.{MetKept}
 
 -- ---- what is answered
-
--- the call refuses not, and of what it answers P holds
-abbrev pub Answers : {A : Type 0} → Answer A → (A → Type 0) → Type 0
-Answers (value a) P = P a
-Answers (refused n) P = ⊥
 
 -- "x, y and z are the f32 numbers": finite, x and y at most 2,000,000 in size, z at most 20,000
 pub record PointKept (p : SurfacePoint32) : Type 0 where

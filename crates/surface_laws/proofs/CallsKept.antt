@@ -17,7 +17,7 @@ use Rattle.line_samples.proofs.SpiralLaws.{length-samples-of}
 use Rattle.admission.specs.Limits.{onRoad}
 use Rattle.admission_arguments.specs.Arguments.{stationRow, acrossRow, acrossRoad}
 use Rattle.admission_laws.proofs.Fitting.{Fits64, Fitting}
-use Rattle.admission_laws.proofs.LimitParts.{and-fst, and-snd}
+use Rattle.records_lent.proofs.TestLaws.{and-fst, and-snd}
 use Rattle.admission.specs.Admission.{pass, roadRows, admitted}
 use Rattle.line_calls.specs.SampleCall.{sampleRow, samplesCall, samplesList}
 use Rattle.admission.proofs.RowLaws.{checked-pass, pass-checked}

@@ -8,7 +8,7 @@ use mathlib.Core.List.{List}
 use lib.Dec.{T, leb}
 use lib.Ieee.{Float, binary64, low, fits, le, neg, ofBits}
 use lib.ListN.{length}
-use borrow.Author.Tests.{le-leb, leb-true}
+use borrow.Author.Tests.{leb-true}
 use Rattle.float_laws.specs.Binary64.{zero64}
 use Rattle.float_laws.proofs.Value.{mag, pl, mi, Real, le→units}
 use Rattle.float_laws.proofs.Interval.{in-of-le, le→parts}
@@ -20,7 +20,7 @@ use Rattle.admission_arguments.specs.Arguments.{halfWidth, acrossRoad}
 use Rattle.line_samples.specs.Samples.{samplesNeeded}
 use Rattle.admission_laws.specs.Fractions.{IsF64, AllF64}
 use Rattle.admission_laws.proofs.FractionLaws.{at-most-of, not-over, below-none}
-use Rattle.admission_laws.proofs.LimitParts.{and-fst, and-snd, true-T}
+use Rattle.records_lent.proofs.TestLaws.{and-fst, and-snd, true-T}
 use Rattle.admission_laws.proofs.RoadBounds.{length-in, sized-within}
 use Rattle.admission.specs.Admission.{admitted, pass}
 use Rattle.admission.proofs.RowLaws.{pass-checked, checked-pass}

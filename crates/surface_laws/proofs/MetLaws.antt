@@ -7,7 +7,7 @@ use Rattle.float_laws.proofs.Value.{Real}
 use Rattle.records.specs.Roads.{Road}
 use Rattle.admission.specs.Limits.{onRoad}
 use Rattle.admission_arguments.specs.Arguments.{acrossRoad}
-use Rattle.admission_laws.proofs.LimitParts.{and-fst, and-snd, true-T}
+use Rattle.records_lent.proofs.TestLaws.{and-fst, and-snd, true-T}
 use Rattle.surface_locate.specs.Meeting.{meeting}
 use Rattle.arithmetic_distance.proofs.MissLaws.{Under}
 use Rattle.surface_laws.proofs.Micrometre.{micrometre}

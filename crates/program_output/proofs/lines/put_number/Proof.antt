@@ -1,7 +1,8 @@
--- `put_number`: one digit below 10, else two; the number of a refusal is at most 12.
+-- `put_number`: one digit below 10, else two; a refusal's number has no more (`number-few`).
 use native.Mathlib.Omega.{arith}
 use lib.ListN.{length-set}
-use Rattle.program_output.proofs.LineLaws.{number-few, number-short, number-long}
+use Rattle.refusals.proofs.NumberLaws.{number-few}
+use Rattle.program_output.proofs.LineLaws.{number-short, number-long}
 use borrow.Author.Needs.{needs}
 use Rattle.program_output.proofs.lines.put_number.Statement.{statement}
 use Rattle.program_output.proofs.lines.put_number.Tie as tie
