@@ -19,9 +19,9 @@ use Rattle.arithmetic.proofs.RootRounded.{root-pattern, pattern-lt}
 use Rattle.arithmetic.proofs.Fields.{fields-value, fields-low}
 use Rattle.arithmetic.proofs.RootTests.{positive-is, sign-plus, root-of-value}
 
--- ---- the places from the leading digit of m up to prec, by the zeros of a word of v digits that stand before it
+-- ---- the places from the leading digit of m up to the p-th, by the zeros of a word of v digits that stand before it
 
-module _ (p v m j z : ℕ) (P : 0 < p) (Q : p ≤ v) (e : z + suc j ≡ v) (lo : 2 ^ j ≤ m) (hi : m < 2 ^ suc j) (h : m < 2 ^ p) where
+module _ (p v m j z : ℕ) (Q : p ≤ v) (e : z + suc j ≡ v) (lo : 2 ^ j ≤ m) (hi : m < 2 ^ suc j) (h : m < 2 ^ p) where
   place-le : suc j ≤ p
   place-le = lt-of-not-le (λ (g : p ≤ j). not-le-of-lt h (le-trans (pow-mono g) lo))
 
@@ -30,7 +30,7 @@ module _ (p v m j z : ℕ) (P : 0 < p) (Q : p ≤ v) (e : z + suc j ≡ v) (lo :
   enough = let l = place-le in omega arith
 
   -- and the others move m's leading digit to its place
-  pub placed : (z - (v - p) ≤ p - 1) × (2 ^ (p - 1) ≤ m * 2 ^ (z - (v - p))) × (m * 2 ^ (z - (v - p)) < 2 ^ p)
+  pub placed : (z - (v - p) < p) × (2 ^ (p - 1) ≤ m * 2 ^ (z - (v - p))) × (m * 2 ^ (z - (v - p)) < 2 ^ p)
   placed =
       let l = place-le in
       let k = z - (v - p) in

@@ -1,22 +1,22 @@
--- A root digit by digit, at any number of places: two digits of the number n under the root come down at a time, and after i of p places `RootOf` holds of the digits of n that came down.
+-- A root digit by digit: two digits of the number n under the root come down at a time, and with k places left `RootOf` holds of the digits of n that came down.
 -- One step (`digit`) is `omega`'s: from root² + rem to (2 * root + b)² + rem' of four times that number and two digits more.
 use mathlib.Core.Path.{_≡_, sym, ap, _∙_, subst}
-use Prim.Native.Nat.{ℕ, suc, _+_, _-_, _*_, _/_, _%_, _^_, _≤_, _<_}
-use native.Mathlib.Nat.{pow-suc, lt-trans, div-eq-of-lt, div-one, div-div-eq-div-mul, div-add-mod'}
-use native.Mathlib.Numerals.{add-one}
+use mathlib.Core.Logic.{_⊎_}
+use Prim.Native.Nat.{ℕ, suc, _+_, _*_, _/_, _%_, _^_, _≤_, _<_}
+use native.Mathlib.Nat.{le-trans, lt-of-lt-of-le, lt-of-le-of-lt, le-of-suc-le-suc, div-eq-of-lt, div-one, div-div-eq-div-mul, div-add-mod'}
 use native.Mathlib.Omega.{arith}
-use lib.Pow.{pow-lt, pow-add}
+use lib.Pow.{pow-add, pow-mono}
 use Rattle.arithmetic.specs.RootSteps.{RootOf}
+use Rattle.arithmetic.proofs.RootRounded.{sq-lt, root-whole}
 
--- ---- the digits of m
-
-pub two-is : (m i : ℕ) {u : ℕ} → i < 27 → u ≡ 2 ^ (52 - 2 * i) → m / u % 4 ≡ m / 2 ^ (2 * (26 - i)) % 4
-two-is m i h e = let s : 52 - 2 * i ≡ 2 * (26 - i) = omega arith in rw (e, s)
+-- what `next_digit` promises
+abbrev pub Digit : ℕ → ℕ → ℕ → Type 0
+Digit trial rem d = ((d ≡ 1) × (trial ≤ rem)) ⊎ ((d ≡ 0) × (rem < trial))
 
 pub two-small : (n : ℕ) → n % 4 < 4
 two-small n = omega arith
 
--- ---- i of p places of n have come down
+-- ---- k places of n are left
 
 -- before the first place
 pub root-none : (n p : ℕ) → n < 2 ^ (2 * p) → RootOf (n / 2 ^ (2 * p)) 0 0
@@ -39,9 +39,14 @@ root-next n k r q {r'} {q'} {two} h e g =
     let b : (r * r + q) * 4 + two ≡ w = ap (λ (z : ℕ). z * 4 + two) (h .square ∙ a) ∙ ap (λ (z : ℕ). w / 4 * 4 + z) e ∙ quarter w in
     subst (λ (z : ℕ). RootOf z r' q') b g
 
--- one digit more
-pub grows : (i r r' : ℕ) → r < 2 ^ i → r' ≤ 2 * r + 1 → r' < 2 ^ (i + 1)
-grows i r r' h k = rw (add-one, pow-suc) (omega arith)
+-- ---- how large a root is
 
-pub within : (i r : ℕ) → i < 27 → r < 2 ^ i → r < 2 ^ 54
-within i r h k = let p : 2 ^ i < 2 ^ 54 = pow-lt (let l : i < 54 = omega arith in l) in lt-trans k p
+-- at most 27 digits, of a number w that is no more than an m of twice as many
+pub root-small : (m n w r q : ℕ) → n ≤ 27 → m < 2 ^ (2 * n) → w ≤ m → RootOf w r q → r < 2 ^ 27
+root-small m n w r q N M W R =
+    let l : 2 * n ≤ 54 = omega arith in
+    sq-lt r (2 ^ 27) (lt-of-le-of-lt (le-trans (root-whole R .at-most) W) (lt-of-lt-of-le M (pow-mono l)))
+
+-- and no less than a number whose square is no more than m
+pub root-least : (h m r q : ℕ) → h * h ≤ m → RootOf m r q → h ≤ r
+root-least h m r q l R = le-of-suc-le-suc (sq-lt h (suc r) (lt-of-le-of-lt l (root-whole R .above)))

@@ -1,4 +1,4 @@
--- What the private functions of `square_root` promise one another. Nothing public is said in these words: see Root.antt.
+-- What the private functions of `root_digits`, `square_root` and `square_root32` promise one another. Nothing public is said in these words: see Root.antt.
 use Prim.Native.Nat.{ℕ, _+_, _*_, _^_, _≤_, _<_}
 use mathlib.Core.Path.{_≡_}
 use lib.Ieee.{Format, ofBits, hid, ones}

@@ -1,6 +1,6 @@
 -- The root's pattern by `pattern-is`, from the leading digit at bit 52 (`places`) and 54 digits of the root (`digits`). The other needs are that nothing overflows 64 bits.
 use lib.Ieee.{binary64}
-use Prim.Native.Nat.{suc-le-suc, _+_, _-_, _%_, _*_, _^_}
+use Prim.Native.Nat.{_+_, _-_, _%_, _*_, _^_}
 use native.Mathlib.Nat.{le-trans}
 use native.Mathlib.Omega.{arith}
 use Rattle.arithmetic.proofs.RootCases.{doubled, pattern-is}
@@ -38,7 +38,7 @@ digits-requires c κs =
     let a = c .before .before .args in
     let z = c .before .places .result in
     let d = doubled 53 (a .m * 2 ^ z) ((a .j + 1020 - z) % 2) (omega arith) (c .before .places .ensures .2) in
-    rw (c .power .ensures) (le-trans (c .before .places .ensures .1) (d .0), d .1)
+    rw (c .power .ensures) (omega arith, d .1, omega arith, le-trans (c .before .places .ensures .1) (d .0))
 
 add-result : tie.Need-add-result
 add-result c = search needs
@@ -57,7 +57,7 @@ returns c =
     let s = c .before .before .before in
     let a = s .before .args in
     let p = s .places in
-    pattern-is binary64 (a .m) (a .j) (p .result) (c .before .before .power .result) (c .before .digits .result .root) (c .before .digits .result .rem) (s .before .pre .2) (suc-le-suc (p .ensures .0)) (c .before .before .power .ensures) (p .ensures .1) (p .ensures .2) (c .before .digits .ensures .0)
+    pattern-is binary64 (a .m) (a .j) (p .result) (c .before .before .power .result) (c .before .digits .result .root) (c .before .digits .result .rem) (s .before .pre .2) (p .ensures .0) (c .before .before .power .ensures) (p .ensures .1) (p .ensures .2) (c .before .digits .ensures .0)
 
 pub pattern-spec : {M : Type 1} → statement M
 pattern-spec =

@@ -1,8 +1,8 @@
 -- The test decides the digit.
 use mathlib.Core.Path.{refl}
 use mathlib.Core.Logic.{inl, inr}
-use Rattle.arithmetic.proofs.square_root.next_digit.Statement.{statement}
-use Rattle.arithmetic.proofs.square_root.next_digit.Tie as tie
+use Rattle.arithmetic.proofs.root_digits.next_digit.Statement.{statement}
+use Rattle.arithmetic.proofs.root_digits.next_digit.Tie as tie
 
 returns : tie.Need-returns
 returns c = inl (refl, c .if1 .taken)

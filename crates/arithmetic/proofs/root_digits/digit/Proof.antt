@@ -1,15 +1,12 @@
 -- One case for each digit: with it the trial is taken off, or nothing is.
 use Prim.Native.Nat.{ℕ, _+_, _-_, _*_, _≤_, _<_}
 use native.Mathlib.Omega.{arith}
-use mathlib.Core.Path.{_≡_}
-use mathlib.Core.Logic.{_⊎_, inl, inr}
+use mathlib.Core.Logic.{inl, inr}
 use Rattle.arithmetic.specs.RootSteps.{RootOf}
+use Rattle.arithmetic.proofs.RootDigits.{Digit}
 use borrow.Author.Needs.{needs}
-use Rattle.arithmetic.proofs.square_root.digit.Statement.{statement}
-use Rattle.arithmetic.proofs.square_root.digit.Tie as tie
-
-abbrev Digit : ℕ → ℕ → ℕ → Type 0
-Digit trial rem d = ((d ≡ 1) × (trial ≤ rem)) ⊎ ((d ≡ 0) × (rem < trial))
+use Rattle.arithmetic.proofs.root_digits.digit.Statement.{statement}
+use Rattle.arithmetic.proofs.root_digits.digit.Tie as tie
 
 small : (t q d : ℕ) → Digit t q d → d ≤ 1
 small t q d (inl h) = omega (arith, h .0)
@@ -84,8 +81,7 @@ returns c =
     let d = c .before .next-digit .result in
     let e = c .before .next-digit .ensures in
     let p = at .pre in
-    let m = small (r * 4 + 1) (q * 4 + two) d e in
-    (grown r q two d (p .1) (p .2) e, omega arith)
+    grown r q two d (p .1) (p .2) e
 
 pub digit-spec : {M : Type 1} → statement M
 digit-spec = tie.close (tie.spec mul-rem add-rem mul-trial add-trial next-digit-requires mul-t6 add-t7 mul-t8 sub-t9 returns)
