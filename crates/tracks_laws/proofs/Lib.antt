@@ -1,0 +1,14 @@
+pub mod Admitted
+pub mod ArcLengths
+pub mod Leading
+pub mod Fractions
+pub mod UnitVectors
+pub mod Finite
+pub mod Flat
+pub mod Projected
+pub mod Along
+pub mod NearestSegment
+pub mod NanPoses
+pub mod WrittenTangents
+pub mod TracksKept
+pub mod WorkedTracks
