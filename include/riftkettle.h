@@ -1,6 +1,6 @@
-/* Riftkettle: road surface points and poses for marking carts. Metres and radians.
+/* Riftkettle: road surface points and poses for marking carts; track lines. Metres and radians.
  *
- * What the words mean (s, t, heading, curvature, base, lanes, heights), each number's unit and limit, and a worked example:
+ * What the words mean (s, t, heading, curvature, base, lanes, heights, tracks), each number's unit and limit, and worked examples:
  * docs/ROAD.md.
  *
  * Every function answers for every argument, allocates nothing, keeps nothing between calls, and reads and writes only what is
@@ -27,12 +27,12 @@
 extern "C" {
 #endif
 
-#define RIFTKETTLE_VERSION "1.0.0"
+#define RIFTKETTLE_VERSION "1.1.0"
 #define RIFTKETTLE_VERSION_MAJOR 1
-#define RIFTKETTLE_VERSION_MINOR 0
+#define RIFTKETTLE_VERSION_MINOR 1
 #define RIFTKETTLE_VERSION_PATCH 0
 
-/* ---- refusals: the numbers of document 01. Which call answers which: docs/ROAD.md, "Refusals" */
+/* ---- refusals: the numbers of documents 01 and 02. Which call answers which: docs/ROAD.md, "Refusals" */
 
 #define RIFTKETTLE_REFUSED_FORM 1          /* a line of the job text breaks its form */
 #define RIFTKETTLE_REFUSED_CAPACITY 2      /* the text, or a table of it, is too long, or a slice to read it into is too short */
@@ -46,6 +46,8 @@ extern "C" {
 #define RIFTKETTLE_REFUSED_LANE 10         /* the section at s has no lane of that id */
 #define RIFTKETTLE_REFUSED_BORDER_SPACE 11 /* the lent list is shorter than the section's lanes */
 #define RIFTKETTLE_REFUSED_COUNT_RANGE 12  /* the value is outside -80..80 */
+#define RIFTKETTLE_REFUSED_TRACK_COUNT 13  /* the track is not 2 to 512 points of three f32, or the lent list is shorter than it */
+#define RIFTKETTLE_REFUSED_TRACK_RANGE 14  /* a coordinate of the track or of the point is outside -2,000,000..2,000,000 */
 
 /* ---- a road in lent memory
  *
@@ -102,17 +104,22 @@ extern "C" {
 #define RIFTKETTLE_SHAPES_STRIDE 2
 #define RIFTKETTLE_STRIP_STRIDE 11
 
-/* ---- what calls write into lent slices: numbers an item, and as many as any road needs */
+/* ---- lent slices besides the road's: numbers an item, and as many as any road or track needs */
 
 #define RIFTKETTLE_SAMPLE_STRIDE 4 /* a sample: distance from the geometry's start, x, y, heading */
 #define RIFTKETTLE_SAMPLES 8000    /* 2,000 samples */
 #define RIFTKETTLE_BORDER_STRIDE 3 /* a lane: t of its inner border, t of its outer border, its width */
 #define RIFTKETTLE_BORDERS 36      /* 12 lanes */
+#define RIFTKETTLE_POINT_STRIDE 3  /* a point of a track, or its tangent: x, y, z, as f32 */
+#define RIFTKETTLE_TRACK 1536      /* 512 points */
 
 /* ---- arithmetic: answers for every argument, NaN and the infinities included */
 
 /* The f64 nearest the exact root; NaN below 0. */
 double riftkettle_root(double x);
+
+/* The f32 nearest the exact root; NaN below 0. */
+float riftkettle_root32(float x);
 
 /* The root of a*a + b*b, each operation rounded once. */
 double riftkettle_hypot(double a, double b);
@@ -199,6 +206,36 @@ uint32_t riftkettle_lane_surface(const uint16_t *words, size_t n, const double *
  * end. Refusals: 3, 4, 5, 6; 7 where the guess is not finite; 9 where x or y is outside -2,000,000..2,000,000. */
 uint32_t riftkettle_locate(const uint16_t *words, size_t n, const double *numbers, size_t m, const double *samples, size_t k, double x,
                            double y, double guess, double pair[2], uint32_t *moves, uint32_t *met);
+
+/* ---- calls on a track line: each checks it whole
+ *
+ * A track is one slice of f32: x, y and z of its first point, then of the next, 2 to 512 points; n counts the f32, three a point. The
+ * line runs straight from point to point, and s is the distance along it from its first point, in space. Points may repeat; the line
+ * may turn back, cross itself or stand upright. A direction is x, y and z of a vector in plan, its z 0; it is zero where the line has
+ * none. It is scaled to length 1, but that length is not promised: where the line all but turns straight back, rounding can leave it
+ * well off 1. All arithmetic is f32, each operation rounded once: lay the origin near the site.
+ *
+ * Refusals: 13 where n is not three times 2..512; then 14 where a coordinate is outside -2,000,000..2,000,000. */
+
+/* The direction at each point: halfway between those of the two segments that meet there; where only one has a direction, as at the
+ * ends, that one's; zero where neither has. Where the line turns straight back it is zero or, by rounding, any. Writes three f32 a
+ * point from list[0] on; what lies past them stays as it was. RIFTKETTLE_TRACK numbers are enough for every track.
+ * Refusals: 13, also where k / 3 is less than the points; 14. */
+uint32_t riftkettle_track_tangents(const float *points, size_t n, float *list, size_t k);
+
+/* The place and the direction at s. Below 0 and beyond the line's length s is held to the ends, infinities too. The direction lies
+ * between those at the two ends of the segment, by how far along it s is, so that it has no step at a corner. At the line's end the
+ * place may miss the last point by rounding. Writes x, y and z of the place, then of the direction, to pose; for every s but NaN all
+ * are finite. A NaN s is no refusal: the place is NaN and the direction zero, or both are the first point's where the first segment is
+ * no longer than 1e-6. Refusals: 13, 14. */
+uint32_t riftkettle_track_pose(const float *points, size_t n, float s, float pose[6]);
+
+/* The place of the line nearest in space to the point x, y, z; of equally near places (by the squares of their distances in f32) that
+ * of the earliest segment. Writes s, x, y and z of the place, then the offset, to projection; all are finite, and s is in 0..length.
+ * The offset is how far the point lies from that segment's direction in plan, positive to its left. It is measured across the segment
+ * only: not up or down, nor along, where the point lies past an end of the line or outside a corner. An upright segment has no
+ * direction: the offset is 0 there, however far the point is. Refusals: 13; 14, also for x, y and z. */
+uint32_t riftkettle_track_project(const float *points, size_t n, float x, float y, float z, float projection[5]);
 
 /* ---- reading */
 

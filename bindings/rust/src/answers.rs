@@ -89,6 +89,27 @@ pub struct Border {
     pub width: f64,
 }
 
+/// A place on a track and the track's direction there.
+#[derive(Debug, Clone, Copy, PartialEq)]
+pub struct TrackPose {
+    /// x, y and z of the place.
+    pub position: [f32; 3],
+    /// The direction in plan, a vector whose z is 0; zero where the track has none. It is scaled to length 1, but that length is not
+    /// promised: where the track all but turns straight back, rounding can leave it well off 1.
+    pub heading: [f32; 3],
+}
+
+/// The place of a track that is nearest to a point.
+#[derive(Debug, Clone, Copy, PartialEq)]
+pub struct Projection {
+    /// The distance along the track, in space.
+    pub s: f32,
+    /// x, y and z of the place.
+    pub position: [f32; 3],
+    /// How far the point lies from the segment's direction in plan, positive to its left.
+    pub offset: f32,
+}
+
 const MOST_LANES: usize = BORDERS / BORDER_STRIDE;
 
 /// The borders of a section's lanes, at most 12: the left lanes from the center outward, then the right ones from the center outward.

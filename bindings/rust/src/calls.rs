@@ -14,9 +14,9 @@ pub struct Lent<'a> {
     pub numbers: &'a [f64],
 }
 
-/// What a return code says: 0 is an answer, 1 to 12 a refusal. Any other is no code of this version, so nothing that the call wrote can
+/// What a return code says: 0 is an answer, 1 to 14 a refusal. Any other is no code of this version, so nothing that the call wrote can
 /// be trusted.
-fn answered(code: u32) -> Result<(), Refusal> {
+pub(crate) fn answered(code: u32) -> Result<(), Refusal> {
     match Refusal::from_number(code) {
         _ if code == 0 => Ok(()),
         Some(refusal) => Err(refusal),
@@ -27,6 +27,11 @@ fn answered(code: u32) -> Result<(), Refusal> {
 /// The f64 nearest the exact root; NaN below 0.
 pub fn root(x: f64) -> f64 {
     ffi::riftkettle_root(x)
+}
+
+/// The f32 nearest the exact root; NaN below 0.
+pub fn root32(x: f32) -> f32 {
+    ffi::riftkettle_root32(x)
 }
 
 /// The root of `a * a + b * b`, each operation rounded once.

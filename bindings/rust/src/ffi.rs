@@ -9,6 +9,7 @@
 
 unsafe extern "C" {
     pub safe fn riftkettle_root(x: f64) -> f64;
+    pub safe fn riftkettle_root32(x: f32) -> f32;
     pub safe fn riftkettle_hypot(a: f64, b: f64) -> f64;
     pub safe fn riftkettle_sin(h: f64) -> f64;
     pub safe fn riftkettle_cos(h: f64) -> f64;
@@ -109,6 +110,10 @@ unsafe extern "C" {
         moves: *mut u32,
         met: *mut u32,
     ) -> u32;
+
+    pub fn riftkettle_track_tangents(points: *const f32, n: usize, list: *mut f32, k: usize) -> u32;
+    pub fn riftkettle_track_pose(points: *const f32, n: usize, s: f32, pose: *mut [f32; 6]) -> u32;
+    pub fn riftkettle_track_project(points: *const f32, n: usize, x: f32, y: f32, z: f32, projection: *mut [f32; 5]) -> u32;
 
     pub fn riftkettle_read(
         text: *const u8,

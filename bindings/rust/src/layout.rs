@@ -4,9 +4,9 @@
 // `include/riftkettle.h` says what each is.
 #![allow(missing_docs)]
 
-pub const VERSION: &str = "1.0.0";
+pub const VERSION: &str = "1.1.0";
 pub const VERSION_MAJOR: u32 = 1;
-pub const VERSION_MINOR: u32 = 0;
+pub const VERSION_MINOR: u32 = 1;
 pub const VERSION_PATCH: u32 = 0;
 
 // ---- a road: elements of the two slices
@@ -50,11 +50,13 @@ pub const LANE_STRIDE: usize = 6;
 pub const SHAPES_STRIDE: usize = 2;
 pub const STRIP_STRIDE: usize = 11;
 
-// ---- what calls write: numbers an item, and as many as any road needs
+// ---- slices besides the road's: numbers an item, and as many as any road or track needs
 pub const SAMPLE_STRIDE: usize = 4;
 pub const SAMPLES: usize = 8000;
 pub const BORDER_STRIDE: usize = 3;
 pub const BORDERS: usize = 36;
+pub const POINT_STRIDE: usize = 3;
+pub const TRACK: usize = 1536;
 
 // ---- reading
 pub const TEXT: usize = 65536;

@@ -1,7 +1,8 @@
 //! Road surface points and poses for marking carts: the verified library Riftkettle, from Rust. Metres and radians.
 //!
-//! [`Road`] owns the memory of a road and has a method for every call. The functions at the root are the same calls on slices of the
-//! caller's. [`ffi`] has the C interface as it is; `include/riftkettle.h` is the reference for all three.
+//! [`Road`] owns the memory of a road and has a method for every call on one. The functions at the root are the same calls on slices of
+//! the caller's, and those on a track line, a line of points: [`track_project`] tells how far a dot lies from it, [`track_pose`] and
+//! [`track_tangents`] where it runs. [`ffi`] has the C interface as it is; `include/riftkettle.h` is the reference for all three.
 //!
 //! A call returns its answer or a [`Refusal`]. It allocates nothing, keeps nothing between calls, and is sound for slices of every length
 //! and content.
@@ -41,13 +42,15 @@ pub mod ffi;
 pub mod layout;
 mod refusal;
 mod road;
+mod tracks;
 
-pub use answers::{Axes, Border, Borders, Located, Pose, Station, SurfacePoint};
+pub use answers::{Axes, Border, Borders, Located, Pose, Projection, Station, SurfacePoint, TrackPose};
 pub use calls::{
     Lent, admit, axes, borders, cos, counts, hypot, lane_named, lane_surface, left_lanes, locate, narrow, pose, read, root,
-    samples, sin, station, surface, tan,
+    root32, samples, sin, station, surface, tan,
 };
 pub use environment::environment;
 pub use layout::VERSION;
 pub use refusal::Refusal;
 pub use road::Road;
+pub use tracks::{track_pose, track_project, track_tangents};

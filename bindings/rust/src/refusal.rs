@@ -1,7 +1,8 @@
 use core::fmt;
 
-/// Why a call gives no answer. The numbers are those of the C interface.
+/// Why a call gives no answer. The numbers are those of the C interface; later versions may add some.
 #[repr(u32)]
+#[non_exhaustive]
 #[derive(Debug, Clone, Copy, PartialEq, Eq, Hash)]
 pub enum Refusal {
     /// A line of the job text breaks its form.
@@ -28,11 +29,15 @@ pub enum Refusal {
     BorderSpace = 11,
     /// The value is outside -80..80.
     CountRange = 12,
+    /// The track is not 2 to 512 points of three f32, or the lent list is shorter than it.
+    TrackCount = 13,
+    /// A coordinate of the track or of the point is outside -2,000,000..2,000,000.
+    TrackRange = 14,
 }
 
 impl Refusal {
     /// All of them, by number.
-    pub const ALL: [Self; 12] = [
+    pub const ALL: &'static [Self] = &[
         Self::Form,
         Self::Capacity,
         Self::Structure,
@@ -45,9 +50,11 @@ impl Refusal {
         Self::Lane,
         Self::BorderSpace,
         Self::CountRange,
+        Self::TrackCount,
+        Self::TrackRange,
     ];
 
-    /// Its number in the C interface, 1 to 12.
+    /// Its number in the C interface, 1 to 14.
     pub const fn number(self) -> u32 {
         self as u32
     }
@@ -55,7 +62,7 @@ impl Refusal {
     /// The refusal of that number.
     pub const fn from_number(number: u32) -> Option<Self> {
         match number {
-            1..=12 => Some(Self::ALL[number as usize - 1]),
+            1..=14 => Some(Self::ALL[number as usize - 1]),
             _ => None,
         }
     }
@@ -75,6 +82,8 @@ impl Refusal {
             Self::Lane => "the section at s has no lane of that id",
             Self::BorderSpace => "the lent list is shorter than the section's lanes",
             Self::CountRange => "the value is outside -80..80",
+            Self::TrackCount => "the track is not 2 to 512 points of three f32, or the lent list is shorter than it",
+            Self::TrackRange => "a coordinate of the track or of the point is outside -2,000,000..2,000,000",
         }
     }
 }

@@ -19,6 +19,7 @@ fn arithmetic() {
         [0.0, -0.0, 1.0, 1.0 / 32.0, -79.99995, 80.0, 81.0, 2.0, 1e-310, 11999.5, -12001.0, 1e300, f64::INFINITY, f64::NAN];
     for v in values {
         assert_eq!(root(v).to_bits(), ffi::riftkettle_root(v).to_bits());
+        assert_eq!(root32(v as f32).to_bits(), ffi::riftkettle_root32(v as f32).to_bits());
         assert_eq!(sin(v).to_bits(), ffi::riftkettle_sin(v).to_bits());
         assert_eq!(cos(v).to_bits(), ffi::riftkettle_cos(v).to_bits());
         assert_eq!(tan(v).to_bits(), ffi::riftkettle_tan(v).to_bits());
@@ -29,6 +30,8 @@ fn arithmetic() {
         }
     }
     assert_eq!((root(2.0), hypot(3.0, 4.0), sin(0.0), cos(0.0), tan(0.0)), (2_f64.sqrt(), 5.0, 0.0, 1.0, 0.0));
+    assert_eq!((root32(2.0), root32(-0.0).to_bits()), (2_f32.sqrt(), (-0.0_f32).to_bits()));
+    assert!(root32(-1.0).is_nan());
     assert_eq!((narrow(0.1), counts(1.0 / 32.0), counts(81.0)), (0.1, Ok(313), Err(Refusal::CountRange)));
 }
 
@@ -184,6 +187,8 @@ fn every_refusal() {
         lane_surface(lent, made, 1, 0.0, 0.0).unwrap_err(),
         borders(road_of(&job("lanes_width")).lent(), 0.0, &mut [0.0; 11]).unwrap_err(),
         counts(-80.5).unwrap_err(),
+        track_pose(&[0.0; 3], 0.0).unwrap_err(),
+        track_pose(&[f32::NAN; 6], 0.0).unwrap_err(),
     ];
     assert_eq!(refused, Refusal::ALL);
 }

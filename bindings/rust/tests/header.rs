@@ -120,13 +120,13 @@ fn refusals_have_the_numbers_and_words() {
     let refused: Vec<_> =
         defines().into_iter().filter_map(|(n, v, words)| Some((n.strip_prefix("REFUSED_")?, v, words))).collect();
     assert_eq!(refused.len(), Refusal::ALL.len());
-    for ((name, number, words), refusal) in refused.into_iter().zip(Refusal::ALL) {
+    for ((name, number, words), &refusal) in refused.into_iter().zip(Refusal::ALL) {
         assert_eq!(format!("{refusal:?}").to_uppercase(), name.replace('_', ""));
         assert_eq!(refusal.to_string(), format!("{words} (refusal {number})"));
         assert_eq!(Refusal::from_number(number.parse().unwrap()), Some(refusal));
         assert_eq!(refusal.number().to_string(), number);
     }
-    assert_eq!([0, 13, u32::MAX].map(Refusal::from_number), [None; 3]);
+    assert_eq!([0, 15, u32::MAX].map(Refusal::from_number), [None; 3]);
 }
 
 #[test]

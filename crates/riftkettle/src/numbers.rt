@@ -1,7 +1,7 @@
 // Functions of numbers.
 use arithmetic_counts::Counted;
 ghost use mathlib.Core.Path.{_≡_};
-ghost use lib.Ieee.{binary64};
+ghost use lib.Ieee.{binary32, binary64};
 ghost use Rattle.arithmetic.specs.Root.{rootOf, hypotOf};
 ghost use Rattle.arithmetic_sine.specs.Sine.{sineOf, cosineOf, tanOf};
 ghost use Rattle.arithmetic.specs.Narrow.{narrowed};
@@ -13,6 +13,13 @@ pub extern "C" fn riftkettle_root(x: f64) -> f64
     ensures { λ r. ⌜ r ≡ rootOf binary64 x ⌝ }
 {
     arithmetic::root(x)
+}
+
+#[no_mangle]
+pub extern "C" fn riftkettle_root32(x: f32) -> f32
+    ensures { λ r. ⌜ r ≡ rootOf binary32 x ⌝ }
+{
+    arithmetic::root32(x)
 }
 
 #[no_mangle]

@@ -54,6 +54,8 @@ fields! {
     SurfacePoint: x y z heading;
     Located: s t moves met;
     Border: inner outer width;
+    TrackPose: position heading;
+    Projection: s position offset;
 }
 
 impl Bits for () {
@@ -118,11 +120,12 @@ pub fn road_of(text: &[u8]) -> Box<Road> {
 /// Numbers that answers never have: what a call leaves is told from what it writes.
 pub const MARK: f64 = f64::from_bits(0x5a5a_5a5a_5a5a_5a5a);
 
+/// The same in f32.
+pub const MARK_F32: f32 = f32::from_bits(0x5a5a_5a5a);
+
 /// The C interface as it is. A refusal is seen to leave the marks.
 pub mod raw {
     use super::*;
-
-    const MARK_F32: f32 = f32::from_bits(0x5a5a_5a5a);
 
     fn left<T: Bits>(code: u32, before: T, after: T) -> Told {
         if code == 0 {
@@ -224,5 +227,28 @@ pub mod raw {
         let mut answer = ([MARK; 2], 99_u32, 99_u32);
         let code = on_samples!(riftkettle_locate(road, samples, x, y, guess, &mut answer.0, &mut answer.1, &mut answer.2));
         left(code, ([MARK; 2], 99, 99), answer)
+    }
+
+    /// No number: the list shows what was written.
+    pub fn track_tangents(points: &[f32], list: &mut [f32]) -> Told {
+        let before = list.bits();
+        // SAFETY: pointers and lengths are those of slices, the list's borrowed mutably.
+        let code = unsafe { ffi::riftkettle_track_tangents(points.as_ptr(), points.len(), list.as_mut_ptr(), list.len()) };
+        assert!(code == 0 || list.bits() == before);
+        left(code, (), ())
+    }
+
+    pub fn track_pose(points: &[f32], s: f32) -> Told {
+        let mut pose = [MARK_F32; 6];
+        // SAFETY: pointer and length are those of a slice; the answer goes to a local.
+        let code = unsafe { ffi::riftkettle_track_pose(points.as_ptr(), points.len(), s, &mut pose) };
+        left(code, [MARK_F32; 6], pose)
+    }
+
+    pub fn track_project(points: &[f32], [x, y, z]: [f32; 3]) -> Told {
+        let mut projection = [MARK_F32; 5];
+        // SAFETY: pointer and length are those of a slice; the answer goes to a local.
+        let code = unsafe { ffi::riftkettle_track_project(points.as_ptr(), points.len(), x, y, z, &mut projection) };
+        left(code, [MARK_F32; 5], projection)
     }
 }
