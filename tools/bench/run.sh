@@ -1,6 +1,6 @@
 #!/usr/bin/env bash
-# Times the library against the Rust with document 01's stand-ins, same inputs, one run, both built for release; prints the tables
-# of docs/PERFORMANCE.md.
+# Times the library against the Rust with the stand-ins of documents 01 and 02, same inputs, one run, both built for release; prints
+# the tables of docs/PERFORMANCE.md.
 #
 #     tools/bench/run.sh [--source DIR] [--library DIR]
 #

@@ -4,7 +4,7 @@
 #     tools/comparison/run.sh [full] [--source DIR] [--library DIR] [--program FILE] [--seed N] [--only NAME].. [--steps N]
 #
 #   full       the full form (minutes); without it the short one (seconds)
-#   --source   the folder with the published road.rs and coords.rs, or with src/ that holds them (default ../shared/docs/src)
+#   --source   the folder with the published road.rs, coords.rs and geometry.rs, or with src/ that holds them (default ../shared/docs/src)
 #   --library  the folder of the library to compare and of the functions inside it, libriftkettle.a and libtest_probes.a (default:
 #              target/staticlib, built by `rt staticlib`)
 #   --program  the program `surface` (default: target/bin/surface, built by `rt check surface`)

@@ -1,6 +1,6 @@
-// Takes road.rs and coords.rs of the published Rust from PUBLISHED_SOURCE, or from the folder shared/docs/src beside the checkout;
-// they stand there or in src/ of it. Files whose SHA-256 is not the pinned one are refused. Copies go into the build's own folder,
-// that of road.rs with document 01's stand-ins in it (patch.rs).
+// Takes road.rs, coords.rs and geometry.rs of the published Rust from PUBLISHED_SOURCE, or from the folder shared/docs/src beside
+// the checkout; they stand there or in src/ of it. Files whose SHA-256 is not the pinned one are refused. Copies go into the build's
+// own folder, with the stand-ins of documents 01 and 02 in them (patch.rs).
 mod patch;
 
 use std::path::{Path, PathBuf};
@@ -8,6 +8,7 @@ use std::process::{Command, exit};
 
 const ROAD: &str = "d42cac4382bda1c9374d782228313742b776bc52efd9f3eda3b5097e977b837b";
 const COORDS: &str = "00e45f842bf808a4aaa26003661a51b39faf8b4eb2ca601f58802e85668b5e0a";
+const GEOMETRY: &str = "3a600a68e67df362f18a365453c57b68098eb78c8f854699f93820e9e218c564";
 
 fn fail(why: String) -> ! {
     println!("cargo::error={}", why.replace('\n', " "));
@@ -39,13 +40,20 @@ fn published(folder: &Path, name: &str, pinned: &str) -> String {
     text.lines().map(|line| line.replacen("//!", "//", usize::from(line.starts_with("//!"))) + "\n").collect()
 }
 
+/// What takes a published text and puts the stand-ins into it.
+type Patch = fn(&str) -> Result<String, String>;
+
 fn main() {
     let folder = folder();
-    let road = patch::patched(&published(&folder, "road.rs", ROAD)).unwrap_or_else(|why| fail(format!("road.rs: {why}")));
     let to = PathBuf::from(std::env::var_os("OUT_DIR").expect("set by cargo"));
     let write = |name: &str, text: &str| std::fs::write(to.join(name), text).unwrap_or_else(|e| fail(format!("{name}: {e}")));
-    write("coords.rs", &published(&folder, "coords.rs", COORDS));
-    // src/own.rs has stand-ins of its own
-    write("own_road.rs", &road.replace("crate::stand_ins", "crate::own::stand_ins"));
-    write("road.rs", &road);
+    let files: [(&str, &str, Patch); 3] =
+        [("road.rs", ROAD, patch::road), ("coords.rs", COORDS, patch::coords), ("geometry.rs", GEOMETRY, patch::geometry)];
+    for (name, pinned, patch) in files {
+        let text = patch(&published(&folder, name, pinned)).unwrap_or_else(|why| fail(format!("{name}: {why}")));
+        // src/own.rs has stand-ins of its own, and so a line of its own
+        let own = text.replace("crate::stand_ins", "crate::own::stand_ins").replace("crate::coords", "crate::own::coords");
+        write(&format!("own_{name}"), &own);
+        write(name, &text);
+    }
 }

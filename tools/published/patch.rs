@@ -1,4 +1,4 @@
-// Puts document 01's stand-ins into a copy of the published road.rs. Part of build.rs.
+// Puts the stand-ins of documents 01 and 02 into copies of the published road.rs, coords.rs and geometry.rs. Part of build.rs.
 //
 // Each entry below is a whole line of the published file, how often it must stand there, and what takes its place. A line that
 // is not found that often is an error, and so is a call of a library function that is left over.
@@ -12,7 +12,7 @@ const fn change(line: &'static str, times: usize, by: &'static str) -> Change {
     Change { line, times, by }
 }
 
-const CHANGES: &[Change] = &[
+const ROAD: &[Change] = &[
     // 01, "Stand-ins": sine, cosine, tangent, root and hypot.
     change(
         "                let x = self.x + (h.sin() - self.hdg.sin()) / curvature;",
@@ -89,20 +89,47 @@ const CHANGES: &[Change] = &[
     change("            (s, t) = (next, t + dt);", 1, "            (s, t) = (next, t + dt); crate::stand_ins::count_move();"),
 ];
 
-// What 01 replaces and may not be left. atan2 is called by ParamPoly3 alone, which is no part of the base.
+// 02, Point 1: the f32 root is the f32 nearest the exact root, and "the Rust side uses it too". Nothing that road.rs calls takes a
+// root here, so one copy serves both files.
+const COORDS: &[Change] =
+    &[change("        self.length_squared().sqrt()", 1, "        crate::stand_ins::root32(self.length_squared())")];
+
+// No change of behaviour: how an error is shown comes from a package that is not built here.
+const GEOMETRY: &[Change] = &[
+    change("#[derive(Debug, Clone, Copy, PartialEq, Eq, thiserror::Error)]", 1, "#[derive(Debug, Clone, Copy, PartialEq, Eq)]"),
+    change("#[error(\"a polyline needs at least two points\")]", 1, ""),
+];
+
+// What 01 and 02 replace and may not be left. atan2 is called by ParamPoly3 alone, which is no part of the base.
 const LEFT_OUT: [&str; 6] = [".sin()", ".cos()", ".sin_cos()", ".tan()", ".sqrt()", ".hypot("];
 
-/// The published text with the stand-ins in it, or why they could not be put in.
-pub fn patched(source: &str) -> Result<String, String> {
-    for c in CHANGES {
+// Only `rotate_about` of coords.rs takes a sine pair, and no function that is asked here calls it.
+const ROTATION: &str = "        let (sin, cos) = radians.sin_cos();";
+
+/// The published road.rs, coords.rs or geometry.rs with the stand-ins in it, or why they could not be put in.
+pub fn road(source: &str) -> Result<String, String> {
+    patched(source, ROAD)
+}
+
+pub fn coords(source: &str) -> Result<String, String> {
+    patched(source, COORDS)
+}
+
+pub fn geometry(source: &str) -> Result<String, String> {
+    patched(source, GEOMETRY)
+}
+
+fn patched(source: &str, changes: &[Change]) -> Result<String, String> {
+    for c in changes {
         let found = source.lines().filter(|line| *line == c.line).count();
         if found != c.times {
             return Err(format!("{} of this line expected, {found} found:\n{}", c.times, c.line));
         }
     }
-    let by = |line| CHANGES.iter().find(|c| c.line == line).map_or(line, |c| c.by);
+    let by = |line| changes.iter().find(|c| c.line == line).map_or(line, |c| c.by);
     let patched: Vec<&str> = source.lines().map(by).collect();
-    for (i, line) in patched.iter().enumerate().filter(|(_, line)| !line.trim_start().starts_with("//")) {
+    let is_read = |line: &str| !line.trim_start().starts_with("//") && line != ROTATION;
+    for (i, line) in patched.iter().enumerate().filter(|(_, line)| is_read(line)) {
         if let Some(call) = LEFT_OUT.iter().find(|call| line.contains(**call)) {
             return Err(format!("line {}: `{call}` is left over: {}", i + 1, line.trim()));
         }

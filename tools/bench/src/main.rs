@@ -1,4 +1,4 @@
-// Times the library and the Rust with document 01's stand-ins on the same inputs, in one run, both built for release.
+// Times the library and the Rust with the stand-ins of documents 01 and 02 on the same inputs, in one run, both built for release.
 //
 // Each measurement alternates between the two and takes the median over the rounds, in the processor's time of this process, so
 // that other work on the machine shows little. The Rust's functions are kept from being inlined, since a call through the C
@@ -18,6 +18,7 @@ use std::hint::black_box;
 
 mod lanes;
 mod surface;
+mod tracks;
 
 const ROUNDS: usize = 21;
 const ROUND_NANOS: f64 = 5e6;
@@ -126,13 +127,15 @@ fn poses(what: &str, shape: Shape, length: f64, stations: &[f64]) {
     row(what, times);
 }
 
-/// Without words all tables; with `surface` that of the surface layer; with three numbers one side of one case of it, for counts.sh.
+/// Without words all tables; with `surface` or `tracks` that of the surface layer or of tracks; with three numbers one side of one case
+/// of the surface layer, for counts.sh.
 fn main() {
     let words: Vec<String> = std::env::args().skip(1).collect();
     let number = |i: usize| words[i].parse().expect("a whole number");
     match words.len() {
         0 => tables(),
         3 => surface::one(number(0), number(1), number(2)),
+        _ if words[0] == "tracks" => tracks::tracks(),
         _ => surface::surface(),
     }
 }
@@ -189,6 +192,7 @@ fn tables() {
 
     lanes::lanes(&stations);
     surface::surface();
+    tracks::tracks();
 
     println!(
         "\n| What | ours, ns | a second text in Rust, ns | ratio | ours, in 100 sine pairs of ours |\n|---|---|---|---|---|"

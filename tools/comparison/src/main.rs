@@ -13,6 +13,7 @@ mod program;
 mod reading;
 mod surfaces;
 mod tally;
+mod tracks;
 
 use archive::riftkettle as ours;
 use places::on_road;
@@ -66,6 +67,11 @@ const COMPARISONS: &[Comparison] = &[
     ("read bytes", 18 * SAMPLE_BYTES, 256 * SAMPLE_BYTES, reading::bytes),
     ("read cuts", reading::CUTS, reading::CUTS, reading::cuts),
     ("program", 200, 52_000, program::program),
+    ("root32", 300_000, 50_000_000, tracks::root32),
+    ("track tangents", 3_000, 160_000, tracks::tangents),
+    ("track pose", 3_000, 300_000, tracks::pose),
+    ("track project", 3_000, 300_000, tracks::project),
+    ("tracks refused", 6_000, 240_000, tracks::refusals),
 ];
 
 // ---- arithmetic

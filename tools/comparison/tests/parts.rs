@@ -1,8 +1,9 @@
 // Tests of the comparison's own parts, without the library: the stand-ins against the standard library within a tolerance, the
-// layout there and back, the generator, and the second admission on document 01's own examples.
+// layout there and back, the generators, the second admission on document 01's own examples, and tracks on worked inputs.
 use published::oracle::{Oracle, Records};
 use published::second_program::output;
 use published::stand_ins;
+use published::tracks::Track;
 use second::admission::{admit, spiral_samples};
 use second::arguments::{exact_counts, exact_root};
 use second::exact::{Squares, between, equal, ordered, outward, placed, sized};
@@ -11,6 +12,7 @@ use second::model::*;
 use second::random::Rng;
 use second::reader::{self, TABLES, WANTS};
 use second::texts::{self, SAMPLE_BYTES, SAMPLE_LINES};
+use second::tracks::{self, refused};
 
 /// 12,000 is some 7,640 quarters, and Q is good to 2^-87 or so: what is left is the rounding of a sum near 1.
 const TOLERANCE: f64 = 4.0e-16;
@@ -342,4 +344,120 @@ fn made_texts() {
         accepted += usize::from(answer.is_ok());
     }
     println!("{accepted} of 1000 roads read back from their texts");
+}
+
+// ---- tracks
+
+/// The f32 root in whole numbers is the machine's: every significand under an even and an odd exponent, subnormals of each length, and
+/// patterns spread over all.
+#[test]
+fn root_of_f32() {
+    let check = |bits: u32| {
+        let (x, y) = (f32::from_bits(bits), stand_ins::root32(f32::from_bits(bits)));
+        assert!(y.to_bits() == x.sqrt().to_bits() || y.is_nan() && x.sqrt().is_nan(), "{bits:08x}: {y} {}", x.sqrt());
+    };
+    (0x3f80_0000..0x4080_0000).for_each(check);
+    (0..23).flat_map(|k| (0..64).map(move |i| 1 << k | i)).for_each(check);
+    (0..1_000_000u32).map(|i| i.wrapping_mul(0x9e37_79b9)).for_each(check);
+    [0, 1 << 31, 0x7f7f_ffff, 0x7f80_0000, 0xff80_0000, 0x8000_0001].into_iter().for_each(check);
+}
+
+/// Rows 13 and 14, and tracks without a direction, on inputs whose answers are known.
+#[test]
+fn worked_tracks() {
+    let (nan, next) = (f32::NAN, f32::from_bits(0x49f4_2401));
+    assert_eq!((next, tracks::LIMIT.next_up()), (2_000_000.125, next));
+    let of = |n: usize| vec![1.0; n];
+    let tangents = |points: &[f32], list| refused(points, Some(list), &[]);
+    for (row, expected) in [
+        (refused(&of(7), None, &[]), Some(13)),
+        (refused(&of(3), None, &[]), Some(13)),
+        (refused(&of(6), None, &[]), None),
+        (refused(&of(1536), None, &[]), None),
+        (refused(&of(1539), None, &[]), Some(13)),
+        (tangents(&of(9), 8), Some(13)),
+        (tangents(&of(9), 9), None),
+        (tangents(&of(9), 10), None),
+        (refused(&[nan; 4], None, &[]), Some(13)),
+        (tangents(&[1.0, 1.0, nan, 1.0, 1.0, 1.0], 5), Some(13)),
+        (tangents(&[1.0, 1.0, nan, 1.0, 1.0, 1.0], 6), Some(14)),
+        (refused(&[2e6, -2e6, -0.0, 0.0, 1.0, 2.0], None, &[-2e6, 2e6, -0.0]), None),
+        (refused(&[2e6, -2e6, -0.0, 0.0, 1.0, next], None, &[]), Some(14)),
+        (refused(&of(6), None, &[0.0, 0.0, -next]), Some(14)),
+        (refused(&of(6), None, &[f32::INFINITY, 0.0, 0.0]), Some(14)),
+        (refused(&of(6), None, &[0.0, nan, 0.0]), Some(14)),
+    ] {
+        assert_eq!(row, expected);
+    }
+    assert_eq!(tracks::WRONG.iter().map(|p| refused(p, None, &[])).collect::<Vec<_>>(), [13, 13, 13, 13, 13, 14, 14].map(Some));
+    assert!(tracks::KNOWN.iter().all(|p| refused(p, None, &[]).is_none()));
+    let [alike, back, upright, twice, corner, short] = [0, 1, 2, 3, 4, 5].map(|i| Track::new(tracks::KNOWN[i]));
+    for s in [0.0, -1.0, 7.0, f32::NAN, f32::INFINITY] {
+        assert_eq!(alike.pose_at(s), [3.0, 4.0, 5.0, 0.0, 0.0, 0.0]);
+    }
+    assert_eq!((alike.project([9.0, 9.0, 9.0]), alike.length()), ([0.0, 3.0, 4.0, 5.0, 0.0], 0.0));
+    assert_eq!(upright.project([3.0, 4.0, 2.0]), [2.0, 0.0, 0.0, 2.0, 0.0]);
+    assert_eq!(back.tangents(), [1.0, 0.0, 0.0, 0.0, 0.0, 0.0, -1.0, 0.0, 0.0]);
+    // as far from both segments: the earlier
+    assert_eq!(back.project([2.0, 1.0, 0.0]), [2.0, 2.0, 0.0, 0.0, 1.0]);
+    assert_eq!(corner.project([3.0, 1.0, 0.0]), [3.0, 3.0, 0.0, 0.0, 1.0]);
+    assert_eq!(corner.project([6.0, -2.0, 9.0]), [4.0, 4.0, 0.0, 0.0, -2.0]);
+    let middle = &short.tangents()[3..6];
+    assert!(middle[0] == 0.0 && (middle[1] - 0.7213).abs() < 0.0001 && middle[2] == 0.0, "{middle:?}");
+    // no sum is at most NaN, so the first segment is meant; its fraction is NaN if it is long enough
+    let lost = corner.pose_at(f32::NAN);
+    assert!(lost[..3].iter().all(|x| x.is_nan()) && lost[3..] == [0.0; 3]);
+    assert_eq!(twice.pose_at(f32::NAN), [1.0, 1.0, 0.0, 0.0, 0.0, 0.0]);
+    // a repeated first point: s = 0 is in the segment after its last copy
+    assert_eq!(twice.pose_at(0.0), [1.0, 1.0, 0.0, 0.0, 1.0, 0.0]);
+}
+
+/// Of the generated tracks: taken by the rows, and how many have each feature.
+#[test]
+fn made_tracks() {
+    type Has = fn(&[f32], &[f32], &[f32]) -> bool;
+    let rng = &mut Rng::new(1, "made tracks");
+    let features: &[(&str, Has)] = &[
+        ("512 points", |p, _, _| p.len() == 3 * 512),
+        ("2 points", |p, _, _| p.len() == 6),
+        ("9 to 511 points", |p, _, _| (27..3 * 512).contains(&p.len())),
+        ("all points alike", |p, _, _| p.chunks(3).all(|q| q == &p[..3])),
+        ("a repeated point", |p, s, _| s[s.len() - 1] > 0.0 && p.windows(6).step_by(3).any(|w| w[..3] == w[3..])),
+        ("repeated first point", |p, s, _| s[s.len() - 1] > 0.0 && p[..3] == p[3..6]),
+        ("upright", |p, _, _| p.windows(6).step_by(3).any(|w| w[..2] == w[3..5] && w[2] != w[5])),
+        ("straight back", |p, _, t| {
+            let turns =
+                |i: usize| p[3 * i - 3..3 * i - 1] != p[3 * i..3 * i + 2] && p[3 * i..3 * i + 2] != p[3 * i + 3..3 * i + 5];
+            (1..p.len() / 3 - 1).any(|i| turns(i) && t[3 * i..3 * i + 3] == [0.0; 3])
+        }),
+        ("lost in the sum", |p, s, _| {
+            (1..s.len()).any(|i| s[i] == s[i - 1] && s[i] > 0.0 && p[3 * i - 3..3 * i] != p[3 * i..3 * i + 3])
+        }),
+        ("shortened in the sum", |p, s, _| (1..s.len()).any(|i| s[i] - s[i - 1] != tracks::lengths(&p[3 * i - 3..3 * i + 3])[1])),
+        ("at the limit", |p, _, _| p.iter().any(|x| x.abs() == tracks::LIMIT)),
+        ("squares underflow", |p, s, _| {
+            (1..s.len()).any(|i| s[i] == s[i - 1] && p[3 * i - 3..3 * i] != p[3 * i..3 * i + 3] && s[i] == 0.0)
+        }),
+        ("subnormal steps", |p, _, _| p.windows(4).any(|w| (w[3] - w[0]).is_subnormal())),
+        ("no unit", |_, _, t| t.chunks(3).map(|t| t[0].hypot(t[1])).any(|size| size > 0.0 && (size - 1.0).abs() > 0.01)),
+        ("1e-6 long", |_, s, _| s.windows(2).any(|w| w[1] - w[0] == 1e-6)),
+        ("a metre a point", |p, s, _| p.len() > 6 && s.windows(2).all(|w| (w[1] - w[0] - 1.0).abs() < 0.1)),
+    ];
+    let mut with = vec![0; features.len()];
+    for _ in 0..5_000 {
+        let points = tracks::track(rng);
+        assert_eq!(refused(&points, Some(points.len()), &[]), None);
+        let track = Track::new(&points);
+        let (sums, tangents) = (tracks::lengths(&points), track.tangents());
+        assert_eq!(sums[sums.len() - 1].to_bits(), track.length().to_bits());
+        features.iter().zip(&mut with).for_each(|((_, has), n)| *n += usize::from(has(&points, &sums, &tangents)));
+        let place = tracks::place(rng, &points);
+        assert_eq!(refused(&points, None, &place), None);
+        assert!(track.project(place).iter().all(|x| x.is_finite()));
+    }
+    println!("5000 tracks");
+    for ((name, _), n) in features.iter().zip(with) {
+        println!("    {name:<20} {n}");
+        assert!(n >= 20, "too few tracks with: {name}");
+    }
 }

@@ -34,6 +34,10 @@ macro_rules! riftkettle_functions {
             riftkettle_read: read(
                 text: [u8], words: [mut u16], numbers: [mut f64], wants: [mut u64], count: (mut usize)
             ) -> u32;
+            riftkettle_root32: root32(x: f32) -> f32;
+            riftkettle_track_tangents: track_tangents(points: [f32], list: [mut f32]) -> u32;
+            riftkettle_track_pose: track_pose(points: [f32], s: f32, pose: (mut [f32; 6])) -> u32;
+            riftkettle_track_project: track_project(points: [f32], x: f32, y: f32, z: f32, projection: (mut [f32; 5])) -> u32;
         }
     };
 }

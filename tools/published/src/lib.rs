@@ -1,9 +1,13 @@
-//! The published Rust, asked through plain types, with document 01's stand-ins in it. The two published files are not part of the
-//! repository: build.rs takes them from outside, holds them against their pinned sums and patches a copy.
+//! The published Rust, asked through plain types, with the stand-ins of documents 01 and 02 in it. The three published files are not
+//! part of the repository: build.rs takes them from outside, holds them against their pinned sums and patches a copy.
 
 #[allow(dead_code)]
 mod coords {
     include!(concat!(env!("OUT_DIR"), "/coords.rs"));
+}
+#[allow(dead_code)]
+mod geometry {
+    include!(concat!(env!("OUT_DIR"), "/geometry.rs"));
 }
 #[allow(dead_code)]
 mod road {
@@ -14,6 +18,7 @@ pub mod oracle;
 pub mod own;
 pub mod second_program;
 pub mod stand_ins;
+pub mod tracks;
 
 // What the published files name of others. None of it has behaviour that is compared.
 pub mod crg {

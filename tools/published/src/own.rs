@@ -1,20 +1,36 @@
-// The published Rust with its own sine, cosine, tangent, root and hypot: the patched file once more, over a module `stand_ins` that
-// calls what the published lines call. So the benchmark can say what document 01's stand-ins cost the Rust.
+// The published Rust with its own sine, cosine, tangent, roots and hypot: the patched files once more, over a module `stand_ins` that
+// calls what the published lines call. So the benchmark can say what the stand-ins of documents 01 and 02 cost the Rust.
+#[allow(dead_code)]
+mod coords {
+    include!(concat!(env!("OUT_DIR"), "/own_coords.rs"));
+}
+#[allow(dead_code)]
+mod geometry {
+    include!(concat!(env!("OUT_DIR"), "/own_geometry.rs"));
+}
 #[allow(dead_code)]
 mod road {
     include!(concat!(env!("OUT_DIR"), "/own_road.rs"));
 }
 
-// The oracle a second time, over this module's road: its types are others.
+// The oracle and the tracks a second time, over this module's road and line: their types are others.
 #[allow(dead_code)]
 #[path = "oracle.rs"]
 pub mod oracle;
+#[allow(dead_code)]
+#[path = "tracks.rs"]
+pub mod tracks;
 
 mod stand_ins {
     use super::road::Across;
 
     #[inline(always)]
     pub fn root(x: f64) -> f64 {
+        x.sqrt()
+    }
+
+    #[inline(always)]
+    pub fn root32(x: f32) -> f32 {
         x.sqrt()
     }
 

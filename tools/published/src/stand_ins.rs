@@ -1,4 +1,5 @@
-// Document 01's stand-ins in Rust, written from 01's "Stand-ins" and "Values". The published source calls them once patched.
+// The stand-ins in Rust, written from document 01's "Stand-ins" and "Values" and from Point 1 of document 02. The published source
+// calls them once patched.
 use crate::road::Across;
 use std::cell::Cell;
 
@@ -6,6 +7,28 @@ use std::cell::Cell;
 #[inline(always)]
 pub fn root(x: f64) -> f64 {
     x.sqrt()
+}
+
+/// The f32 nearest the exact root, by the whole root of the operand's digits: its last digit says where to round, since the root of
+/// an f32 is never halfway between two. Zeros and infinity are their own, below 0 is NaN.
+pub fn root32(x: f32) -> f32 {
+    if x == 0.0 || x.is_nan() || x == f32::INFINITY {
+        return x;
+    }
+    if x < 0.0 {
+        return f32::NAN;
+    }
+    let (field, fraction) = (x.to_bits() >> 23, x.to_bits() & 0x7f_ffff);
+    let digits = if field == 0 { fraction } else { fraction | 1 << 23 };
+    let shift = digits.leading_zeros() as i32 - 8;
+    // x is digits × 2^exponent with 24 digits. 25 zeros behind them, or 26 so that the exponent is even: the root has 25 digits, one
+    // more than the answer.
+    let exponent = field.max(1) as i32 - 150 - shift;
+    let zeros = 25 + ((exponent + 1) & 1);
+    let root = (u64::from(digits) << (shift + zeros)).isqrt() as u32;
+    let power = (exponent - zeros) / 2 + 1;
+    // 2^24 after rounding is the next power of two, and so are the bits
+    f32::from_bits((((power + 149) as u32) << 23) + (root >> 1) + (root & 1))
 }
 
 pub fn hypot(a: f64, b: f64) -> f64 {

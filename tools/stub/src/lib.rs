@@ -11,9 +11,11 @@ use std::sync::OnceLock;
 mod lanes;
 mod probes;
 mod surfaces;
+mod tracks;
 
 use lanes::{borders, lane_named};
 use surfaces::{axes, lane_surface, locate, station, surface};
+use tracks::{root32, track_pose, track_project, track_tangents};
 
 interface::riftkettle_functions!(answers);
 

@@ -1,0 +1,5 @@
+pub mod Stores
+pub mod WordSteps
+pub mod AnswerNumbers
+pub mod Agreement
+pub mod Verdicts
