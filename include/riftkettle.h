@@ -224,10 +224,10 @@ uint32_t riftkettle_locate(const uint16_t *words, size_t n, const double *number
 uint32_t riftkettle_track_tangents(const float *points, size_t n, float *list, size_t k);
 
 /* The place and the direction at s. Below 0 and beyond the line's length s is held to the ends, infinities too. The direction lies
- * between those at the two ends of the segment, by how far along it s is, so that it has no step at a corner. At the line's end the
- * place may miss the last point by rounding. Writes x, y and z of the place, then of the direction, to pose; for every s but NaN all
- * are finite. A NaN s is no refusal: the place is NaN and the direction zero, or both are the first point's where the first segment is
- * no longer than 1e-6. Refusals: 13, 14. */
+ * between those at the two ends of the segment, by how far along it s is, so that it has no step at a corner, but where the line turns
+ * straight back or a point is repeated. At the line's end the place may miss the last point by rounding. Writes x, y and z of the
+ * place, then of the direction, to pose; for every s but NaN all are finite. A NaN s is no refusal: the place is NaN and the direction
+ * zero, or both are the first point's where the first segment is no longer than 1e-6. Refusals: 13, 14. */
 uint32_t riftkettle_track_pose(const float *points, size_t n, float s, float pose[6]);
 
 /* The place of the line nearest in space to the point x, y, z; of equally near places (by the squares of their distances in f32) that

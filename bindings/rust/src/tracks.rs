@@ -34,7 +34,8 @@ pub fn track_tangents(points: &[f32], list: &mut [f32]) -> Result<(), Refusal> {
 
 /// The place and the direction at `s` of a [track](track_tangents#tracks). Below 0 and beyond the line's length `s` is held to the ends,
 /// infinities too. The direction lies between those at the two ends of the segment, by how far along it `s` is, so that it has no step at
-/// a corner. At the line's end the place may miss the last point by rounding.
+/// a corner, but where the line turns straight back or a point is repeated. At the line's end the place may miss the last point by
+/// rounding.
 ///
 /// For every `s` but NaN all numbers are finite. A NaN is no refusal: the place is NaN and the direction zero, or both are the first
 /// point's where the first segment is no longer than 1e-6.

@@ -2,7 +2,7 @@
 use arithmetic::root32;
 use records::Point;
 ghost use mathlib.Core.Path.{_≡_};
-ghost use Rattle.coordinates.specs.Vectors.{fromTo, movedBy, sumOf, lessOf, scaledBy, dotOf, crossOf, lengthOf, unitOf, horizontalOf, leftNormalOf, placeBetween, vectorBetween};
+ghost use Rattle.coordinates.specs.Vectors.{fromTo, movedBy, sumOf, differenceOf, scaledBy, dotOf, crossOf, lengthOf, unitOf, horizontalOf, leftNormalOf, placeBetween, vectorBetween};
 
 // The largest finite f32.
 const LARGEST: f32 = 340282346638528859811704183484516925440.0;
@@ -48,7 +48,7 @@ pub fn sum(a: Vector, b: Vector) -> Vector
 
 // a less b.
 fn difference(a: Vector, b: Vector) -> Vector
-    ensures { λ r. ⌜ r ≡ lessOf a b ⌝ }
+    ensures { λ r. ⌜ r ≡ differenceOf a b ⌝ }
 {
     Vector {
         x: a.x - b.x,

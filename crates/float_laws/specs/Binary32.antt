@@ -19,7 +19,7 @@ x ⊗ y = mul binary32 x y
 abbrev pub _⊘_ : Float → Float → Float
 x ⊘ y = div binary32 x y
 
--- an f32 by its 8 digits
+-- an f32 by its 8 hexadecimal digits
 abbrev pub f32 : ℕ → Float
 f32 b = ofBits binary32 b
 
@@ -36,6 +36,6 @@ largest32 = f32 0x7f7f_ffff
 abbrev pub infinity32 : Float
 infinity32 = f32 0x7f80_0000
 
--- Rust's `clamp`: low below it, high above it, else x; a NaN stays
+-- Rust's `clamp`, where low ≤ high (else it panics): low below it, high above it, else x; a NaN stays
 abbrev pub clampOf : Float → Float → Float → Float
 clampOf low high x = cond (lt x low) low (cond (lt high x) high x)

@@ -1,4 +1,4 @@
-// The refusals of document 01, their numbers, and how rows make an answer.
+// The refusals of documents 01 and 02, their numbers, and how rows make an answer.
 mod refusals;
 
 pub use refusals::Refusal;

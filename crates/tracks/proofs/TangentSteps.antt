@@ -12,7 +12,7 @@ use lib.Ieee.{Float}
 use Rattle.records_lent.proofs.StoreLaws.{three-stores}
 use Rattle.records.specs.declared.points.Point.{Point}
 use Rattle.coordinates.specs.declared.vectors.Vector.{Vector}
-use Rattle.coordinates.specs.Vectors.{zeroVector}
+use Rattle.coordinates.specs.Vectors.{zeroVector, sumOf, unitOf}
 use Rattle.tracks.specs.Tangents.{directionOf, incomingOf, outgoingOf, tangentOf, tangentNumbers}
 
 module _ (p : ℕ → Point) where
@@ -30,6 +30,14 @@ module _ (p : ℕ → Point) where
 
   pub outgoing-next : (n i : ℕ) {a b : Point} {d : Vector} → i + 1 < n → a ≡ p i → b ≡ p (i + 1) → d ≡ directionOf a b → d ≡ outgoingOf p n i
   outgoing-next n i l ha hb h = rw (lt-ltb (i + 1) n l, h, ha, hb)
+
+  -- the direction that leaves a point comes in at the next, where there is one
+  pub incoming-kept : (n k : ℕ) {d : Vector} → d ≡ outgoingOf p n k → k + 1 < n → d ≡ incomingOf p (k + 1)
+  incoming-kept n k h l = rw (h, lt-ltb (k + 1) n l, add-one k)
+
+  pub tangent-made : (n i : ℕ) {before after s t : Vector} → before ≡ incomingOf p i → after ≡ outgoingOf p n i → s ≡ sumOf before after → t ≡ unitOf s → t ≡ tangentOf p n i
+  unfolding tangentOf
+  tangent-made n i hb ha hs h = rw (h, hs, hb, ha)
 
   -- ---- the list
 

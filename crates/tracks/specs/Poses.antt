@@ -1,5 +1,5 @@
 -- Document 02, Point 1: `pose_at` of src/geometry.rs, with `locate`, `segment` and `local_t`, over n points.
--- The Rust looks the segment up by a binary search over the cumulative lengths. These never fall (proofs/), so what it finds is the number of leading ones that are at most s; the definition takes that number for any points.
+-- The Rust looks the segment up by a binary search over the cumulative lengths. Those of a track never fall (tracks_laws, TrackLaws, `search`), so what it finds is the number of leading ones that are at most s; the definition takes that number for any points.
 use Prim.Native.Nat.{ℕ, zero, suc, _+_, _-_, min}
 use mathlib.Core.Bool.{cond}
 use mathlib.Core.List.{List, [], _∷_}

@@ -8,7 +8,6 @@ use Rattle.records.specs.declared.points.Point.{Point}
 use Rattle.coordinates.specs.declared.vectors.Vector.{Vector}
 use Rattle.coordinates.specs.Vectors.{fromTo, movedBy, scaledBy, dotOf, lengthOf, unitOf, horizontalOf, leftNormalOf}
 use Rattle.tracks.specs.declared.projections.Projection.{Projection}
-use Rattle.tracks.specs.declared.projections.Nearest.{Nearest}
 use Rattle.tracks.specs.Lengths.{lengthTo}
 
 -- 1e-9, the f32 nearest to it
@@ -34,20 +33,25 @@ closestOf a b at = movedBy a (scaledBy (fromTo a b) (footOf (fromTo a b) (fromTo
 abbrev pub squareTo : Point → Point → Float
 squareTo closest at = dotOf (fromTo closest at) (fromTo closest at)
 
+-- the nearest place so far, with the square of its distance in space
+pub record Nearest : Type 0 where
+  pub square : Float
+  pub projection : Projection
+
 -- one segment more: "strict comparison"
 unfoldable pub nearerOf : Nearest → Point → Point → Point → Float → Nearest
 unfolding footOf candidateOf dotOf
 nearerOf best a b at from =
-    cond (lt (squareTo (closestOf a b at) at) (best .distance))
+    cond (lt (squareTo (closestOf a b at) at) (best .square))
     (record {
-      distance = squareTo (closestOf a b at) at;
+      square = squareTo (closestOf a b at) at;
       projection = candidateOf (fromTo a b) (footOf (fromTo a b) (fromTo a at)) (closestOf a b at) (fromTo (closestOf a b at) at) from;
     })
     best
 
 -- before the first segment: the first point, and no distance yet, which is the infinity
 abbrev pub nearestNone : (ℕ → Point) → Nearest
-nearestNone p = record { distance = infinity32; projection = record { s = zero32; point = p 0; offset = zero32 } }
+nearestNone p = record { square = infinity32; projection = record { s = zero32; point = p 0; offset = zero32 } }
 
 -- after k segments
 unfoldable pub nearestOf : (ℕ → Point) → Point → ℕ → Nearest

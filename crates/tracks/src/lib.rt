@@ -7,7 +7,6 @@ mod tangents;
 pub use poses::Spot;
 pub use poses::TrackPose;
 pub use poses::pose_on;
-pub use projections::Nearest;
 pub use projections::Projection;
 pub use projections::project_on;
 pub use tangents::list_tangents;

@@ -1,5 +1,5 @@
 -- Document 02, Point 1: the three calls on a track. "Answers: 13, fewer than 2 or more than 512 points, a slice that is not three f32 a point, or a list lent for tangents shorter than the points, checked first;
--- 14, a coordinate outside or NaN, the projected point's included, checked next". What the Rust turns down or panics on beyond these: nothing (proofs/).
+-- 14, a coordinate outside or NaN, the projected point's included, checked next". What the Rust turns down or panics on beyond these: nothing (tracks_laws, TrackLaws).
 use Prim.Native.Nat.{ℕ, _/_, _%_}
 use mathlib.Core.Bool.{Bool, true, _&&_}
 use mathlib.Core.List.{List, [], _∷_}

@@ -46,7 +46,7 @@ pub fn tangents(points: &[f32], list: &mut [f32]) -> Traced
     Traced::Written(n)
 }
 
-// The position and heading at the arc length s, which is held to 0..length; rows 13 and 14. A NaN s goes through: the position is NaN and the heading zero, or the first point's where the first segment is no longer than 1e-6.
+// The position and heading at the arc length s, which is held to 0..length; rows 13 and 14. A NaN s goes through: the position is NaN and the heading zero, or both are the first point's where the first segment is no longer than 1e-6.
 pub fn pose_at(points: &[f32], s: f32) -> TrackPosed
     ensures { λ r. ⌜ trackPoseAnswer r ≡ trackPoseCall (now (points .entry)) s ⌝ }
 {

@@ -8,5 +8,3 @@ pub use calls::TrackPosed;
 pub use calls::pose_at;
 pub use calls::project;
 pub use calls::tangents;
-pub use rows::all_inside;
-pub use rows::counted;

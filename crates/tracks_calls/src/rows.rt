@@ -13,8 +13,8 @@ const MOST_POINTS: usize = 512;
 // The greatest size of a coordinate, in metres.
 const GREATEST_COORDINATE: f32 = 2000000.0;
 
-// Whether a slice of so many f32 holds 2 to 512 points, three each.
-pub fn counted(points: &[f32]) -> bool
+// Whether a slice holds 2 to 512 points, three f32 each.
+pub(crate) fn counted(points: &[f32]) -> bool
     ensures { λ r. ⌜ r ≡ trackCounted (length (now (points .entry))) ⌝ }
 {
     let n = points.len();
@@ -29,7 +29,7 @@ fn inside(x: f32) -> bool
 }
 
 // Whether all coordinates are.
-pub fn all_inside(points: &[f32]) -> bool
+pub(crate) fn all_inside(points: &[f32]) -> bool
     ensures { λ r. ⌜ r ≡ allInside (now (points .entry)) ⌝ }
 {
     let n = points.len();

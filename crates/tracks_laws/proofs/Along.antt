@@ -20,8 +20,7 @@ use Rattle.records.specs.declared.points.Point.{Point}
 use Rattle.coordinates.specs.Vectors.{fromTo}
 use Rattle.tracks.specs.Lengths.{distanceOf, lengthTo}
 use Rattle.tracks.specs.Poses.{leastSpan, spotOf}
-use Rattle.tracks.specs.declared.projections.Nearest.{Nearest}
-use Rattle.tracks.specs.Projections.{footOf, candidateOf, closestOf, squareTo, nearerOf, nearestOf, projectOf}
+use Rattle.tracks.specs.Projections.{Nearest, footOf, candidateOf, closestOf, squareTo, nearerOf, nearestOf, projectOf}
 use Rattle.tracks.proofs.PoseSteps.{segment-off}
 use Rattle.tracks_laws.proofs.Admitted.{Placed}
 use Rattle.tracks_laws.proofs.ArcLengths.{distance-in, lengths, lengths-rise}
@@ -94,9 +93,9 @@ module _ (p : ℕ → Point) (n : ℕ) (placed : (i : ℕ) → i < n → Placed 
 
     nearer-on : (k : ℕ) → suc k < n → (best : Nearest) → OnTrack (best .projection .s) → OnTrack (nearerOf best (p k) (p (suc k)) at (lengthTo p k) .projection .s)
     unfolding nearerOf candidateOf
-    nearer-on k h best o = go (lt (squareTo (closestOf (p k) (p (suc k)) at) at) (best .distance))
+    nearer-on k h best o = go (lt (squareTo (closestOf (p k) (p (suc k)) at) at) (best .square))
       where
-        go : (c : Bool) → OnTrack (cond c (record { distance = squareTo (closestOf (p k) (p (suc k)) at) at; projection = candidateOf (fromTo (p k) (p (suc k))) (footOf (fromTo (p k) (p (suc k))) (fromTo (p k) at)) (closestOf (p k) (p (suc k)) at) (fromTo (closestOf (p k) (p (suc k)) at) at) (lengthTo p k) }) best .projection .s)
+        go : (c : Bool) → OnTrack (cond c (record { square = squareTo (closestOf (p k) (p (suc k)) at) at; projection = candidateOf (fromTo (p k) (p (suc k))) (footOf (fromTo (p k) (p (suc k))) (fromTo (p k) at)) (closestOf (p k) (p (suc k)) at) (fromTo (closestOf (p k) (p (suc k)) at) at) (lengthTo p k) }) best .projection .s)
         go true = along k h
         go false = o
 

@@ -141,6 +141,10 @@ span-mi = refl
 positive : (a b c d : ℕ) → b ≡ 0 → a + d < c + b → 0 < c
 positive a b c d z h = omega arith
 
+pub zero-in : In binary32 nil one32 zero32
+unfolding ofBits
+zero-in = record { low = nil-real binary32; high = one-real; value = nil-real binary32; above = le-refl binary32 nil (nil-real binary32); below = units→le binary32 nil one32 (nil-real binary32) one-real (let a = nil-pl binary32 in let b = one-mi in omega arith) }
+
 -- the fraction of d between two arc lengths that hold it
 pub fraction-in : (from to d : Float) → In binary32 nil top32 from → In binary32 nil top32 to → In binary32 nil top32 d → T (le from d) → T (le d to) → In binary32 nil one32 (fractionAlong from to d)
 fraction-in from to d i j k h l = go (lt leastSpan (to ⊖ from)) refl
@@ -156,9 +160,6 @@ fraction-in from to d i j k h l = go (lt leastSpan (to ⊖ from)) refl
         quotient-in (d ⊖ from) (to ⊖ from) num den (less-plus d from (k .value) (i .value) (num .finite) h)
         (positive (pl binary32 leastSpan) (mi binary32 leastSpan) (pl binary32 (to ⊖ from)) (mi binary32 (to ⊖ from)) span-mi (lt→units binary32 leastSpan (to ⊖ from) span-real den (true-T (lt leastSpan (to ⊖ from)) e)))
         (le→parts binary32 (d ⊖ from) (to ⊖ from) num den (sub-mono binary32 d to from from (k .value) (j .value) (i .value) (i .value) l (le-refl binary32 from (i .value)) (num .finite) (den .finite)) .0)
-
-    zero-in : In binary32 nil one32 zero32
-    zero-in = unfold ofBits in record { low = nil-real binary32; high = one-real; value = nil-real binary32; above = le-refl binary32 nil (nil-real binary32); below = units→le binary32 nil one32 (nil-real binary32) one-real (let a = nil-pl binary32 in let b = one-mi in omega arith) }
 
     go : (b : Bool) → lt leastSpan (to ⊖ from) ≡ b → In binary32 nil one32 (cond b ((d ⊖ from) ⊘ (to ⊖ from)) zero32)
     go true e = some e

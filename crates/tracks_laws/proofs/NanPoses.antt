@@ -62,21 +62,23 @@ unfolding headingAt
 heading-nan p n = ap unitOf (vector-nan (tangentOf p n 0) (tangentOf p n 1)) ∙ unit-nan
 
 -- the pose at a spot
-posed : (ℕ → Point) → ℕ → Spot → TrackPose
+abbrev pub posed : (ℕ → Point) → ℕ → Spot → TrackPose
 posed p n at = record { position = positionAt p (at .segment) (at .t); heading = headingAt p n (at .segment) (at .t) }
 
 posed-at : (p : ℕ → Point) (n : ℕ) (s : Float) → trackPoseOf p n s ≡ posed p n (spotOf p n s)
-unfolding trackPoseOf posed
+unfolding trackPoseOf
 posed-at p n s = refl
 
-abbrev first : Bool → Spot
+abbrev pub first : Bool → Spot
 first c = record { segment = 0; t = cond c nan zero32 }
 
 nan-first : (p : ℕ → Point) (n : ℕ) → NanPose (posed p n (first true))
-unfolding posed
 nan-first p n =
     let q = place-nan (p 0) (p 1) in
     record { x = ap (λ (w : Point). w .x) q; y = ap (λ (w : Point). w .y) q; z = ap (λ (w : Point). w .z) q; heading = heading-nan p n }
+
+pub posed-short : (p : ℕ → Point) (n : ℕ) → lt leastSpan (lengthTo p 1 ⊖ lengthTo p 0) ≡ false → trackPoseOf p n nan ≡ posed p n (first false)
+posed-short p n e = posed-at p n nan ∙ ap (posed p n) (nan-spot p n ∙ ap first e)
 
 pub nan-pose : (p : ℕ → Point) (n : ℕ) → lt leastSpan (lengthTo p 1 ⊖ lengthTo p 0) ≡ true → NanPose (trackPoseOf p n nan)
 nan-pose p n e = subst NanPose (sym (posed-at p n nan ∙ ap (posed p n) (nan-spot p n ∙ ap first e))) (nan-first p n)

@@ -10,10 +10,9 @@ use lib.Ieee.{Float, binary32, le, lt}
 use Rattle.float_laws.proofs.Value.{pl, mi, Real, le→units, units→le, lt→units, units→lt, nlt→units, le-refl}
 use Rattle.records_lent.proofs.TestLaws.{true-T}
 use Rattle.records.specs.declared.points.Point.{Point}
-use Rattle.tracks.specs.declared.projections.Nearest.{Nearest}
 use Rattle.tracks.specs.declared.projections.Projection.{Projection}
 use Rattle.tracks.specs.Lengths.{lengthTo}
-use Rattle.tracks.specs.Projections.{nearerOf, nearestOf, projectOf}
+use Rattle.tracks.specs.Projections.{Nearest, nearerOf, nearestOf, projectOf}
 use Rattle.tracks_laws.specs.TrackLaws.{squareAt, candidateAt}
 use Rattle.tracks_laws.proofs.Admitted.{Placed}
 use Rattle.tracks_laws.proofs.Fractions.{not-T}
@@ -36,7 +35,7 @@ module _ (p : ℕ → Point) (at : Point) where
   pub record Best (k : ℕ) (best : Nearest) : Type 0 where
     pub segment : ℕ
     pub there : segment < k
-    pub distance : best .distance ≡ squareAt p at segment
+    pub square : best .square ≡ squareAt p at segment
     pub is : best .projection ≡ candidateAt p at segment
     pub nearest : (i : ℕ) → i < k → T (le (squareAt p at segment) (squareAt p at i))
     pub earliest : (i : ℕ) → i < segment → T (lt (squareAt p at segment) (squareAt p at i))
@@ -49,15 +48,15 @@ module _ (p : ℕ → Point) (at : Point) where
     unfolding j
     j-real = real j (let h = b .there in omega arith)
 
-    taken : lt (squareAt p at k) (best .distance) ≡ true → Best (suc k) (record { distance = squareAt p at k; projection = candidateAt p at k })
+    taken : lt (squareAt p at k) (best .square) ≡ true → Best (suc k) (record { square = squareAt p at k; projection = candidateAt p at k })
     unfolding j
     taken e =
-        let d : T (lt (squareAt p at k) (squareAt p at j)) = subst (λ (x : Float). T (lt (squareAt p at k) x)) (b .distance) (true-T (lt (squareAt p at k) (best .distance)) e) in
+        let d : T (lt (squareAt p at k) (squareAt p at j)) = subst (λ (x : Float). T (lt (squareAt p at k) x)) (b .square) (true-T (lt (squareAt p at k) (best .square)) e) in
         let farther : (i : ℕ) → i < k → T (lt (squareAt p at k) (squareAt p at i)) = (λ i h. lt-le-lt (squareAt p at k) (squareAt p at j) (squareAt p at i) (real k (omega arith)) j-real (real i (omega arith)) d (b .nearest i h)) in
         record {
           segment = k;
           there = omega arith;
-          distance = refl;
+          square = refl;
           is = refl;
           nearest = λ i h. ⊎-elim
               (λ (q : i ≡ k). subst (λ (m : ℕ). T (le (squareAt p at k) (squareAt p at m))) (sym q) (le-refl binary32 (squareAt p at k) (real k (omega arith))))
@@ -66,14 +65,14 @@ module _ (p : ℕ → Point) (at : Point) where
           earliest = farther;
         }
 
-    left : lt (squareAt p at k) (best .distance) ≡ false → Best (suc k) best
+    left : lt (squareAt p at k) (best .square) ≡ false → Best (suc k) best
     unfolding j
     left e =
-        let d : lt (squareAt p at k) (squareAt p at j) ≡ false = subst (λ (x : Float). lt (squareAt p at k) x ≡ false) (b .distance) e in
+        let d : lt (squareAt p at k) (squareAt p at j) ≡ false = subst (λ (x : Float). lt (squareAt p at k) x ≡ false) (b .square) e in
         record {
           segment = j;
           there = (let h = b .there in omega arith);
-          distance = b .distance;
+          square = b .square;
           is = b .is;
           nearest = λ i h. ⊎-elim
               (λ (q : i ≡ k). subst (λ (m : ℕ). T (le (squareAt p at j) (squareAt p at m))) (sym q) (not-lt-le (squareAt p at k) (squareAt p at j) (real k (omega arith)) j-real d))
@@ -84,9 +83,9 @@ module _ (p : ℕ → Point) (at : Point) where
 
     next : Best (suc k) (nearerOf best (p k) (p (suc k)) at (lengthTo p k))
     unfolding nearerOf
-    next = go (lt (squareAt p at k) (best .distance)) refl
+    next = go (lt (squareAt p at k) (best .square)) refl
       where
-        go : (c : Bool) → lt (squareAt p at k) (best .distance) ≡ c → Best (suc k) (cond c (record { distance = squareAt p at k; projection = candidateAt p at k }) best)
+        go : (c : Bool) → lt (squareAt p at k) (best .square) ≡ c → Best (suc k) (cond c (record { square = squareAt p at k; projection = candidateAt p at k }) best)
         go true e = taken e
         go false e = left e
 
@@ -98,7 +97,7 @@ module _ (p : ℕ → Point) (n : ℕ) (placed : (i : ℕ) → i < n → Placed 
 
   first : 1 < n → Best p at 1 (nearestOf p at 1)
   unfolding nearestOf nearerOf
-  first h = rw (under-infinity (squareAt p at 0) (real 0 h)) (record { segment = 0; there = omega arith; distance = refl; is = refl; nearest = λ i l. subst (λ (m : ℕ). T (le (squareAt p at 0) (squareAt p at m))) (let e : 0 ≡ i = omega arith in e) (le-refl binary32 (squareAt p at 0) (real 0 h)); earliest = λ i l. absurd (omega arith) })
+  first h = rw (under-infinity (squareAt p at 0) (real 0 h)) (record { segment = 0; there = omega arith; square = refl; is = refl; nearest = λ i l. subst (λ (m : ℕ). T (le (squareAt p at 0) (squareAt p at m))) (let e : 0 ≡ i = omega arith in e) (le-refl binary32 (squareAt p at 0) (real 0 h)); earliest = λ i l. absurd (omega arith) })
 
   after : (k : ℕ) → suc k < n → Best p at (suc k) (nearestOf p at (suc k))
   unfolding nearestOf

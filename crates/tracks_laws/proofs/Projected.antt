@@ -17,8 +17,7 @@ use Rattle.coordinates.specs.Vectors.{fromTo, dotOf, crossOf, lengthOf, horizon
 use Rattle.tracks.specs.Lengths.{lengthTo}
 use Rattle.tracks.specs.Tangents.{directionOf}
 use Rattle.tracks.specs.declared.projections.Projection.{Projection}
-use Rattle.tracks.specs.declared.projections.Nearest.{Nearest}
-use Rattle.tracks.specs.Projections.{footOf, candidateOf, closestOf, squareTo, nearerOf, nearestOf, projectOf}
+use Rattle.tracks.specs.Projections.{Nearest, footOf, candidateOf, closestOf, squareTo, nearerOf, nearestOf, projectOf}
 use Rattle.tracks_calls.specs.TrackCalls.{greatestCoordinate}
 use Rattle.tracks_laws.proofs.Admitted.{Coordinate, Placed}
 use Rattle.tracks_laws.proofs.ArcLengths.{reach, distance-in}
@@ -186,9 +185,9 @@ module _ (a b at : Point) (p : Placed a) (q : Placed b) (r : Placed at) (from : 
 
   nearer-real : (best : Nearest) → RealProjection (best .projection) → RealProjection (nearerOf best a b at from .projection)
   unfolding nearerOf
-  nearer-real best h = go (lt (squareTo (closestOf a b at) at) (best .distance))
+  nearer-real best h = go (lt (squareTo (closestOf a b at) at) (best .square))
     where
-      go : (c : Bool) → RealProjection (cond c (record { distance = squareTo (closestOf a b at) at; projection = candidateOf (fromTo a b) (footOf (fromTo a b) (fromTo a at)) (closestOf a b at) (fromTo (closestOf a b at) at) from }) best .projection)
+      go : (c : Bool) → RealProjection (cond c (record { square = squareTo (closestOf a b at) at; projection = candidateOf (fromTo a b) (footOf (fromTo a b) (fromTo a at)) (closestOf a b at) (fromTo (closestOf a b at) at) from }) best .projection)
       go true = candidate-real
       go false = h
 
@@ -214,6 +213,6 @@ module _ (p : ℕ → Point) (n : ℕ) (placed : (i : ℕ) → i < n → Placed 
   project-real = nearest-real (n - 1) (omega arith)
 
   -- the first segment is nearer than the infinity
-  pub project-finds : nearestOf p at 1 .distance ≡ squareTo (closestOf (p 0) (p 1) at) at
+  pub project-finds : nearestOf p at 1 .square ≡ squareTo (closestOf (p 0) (p 1) at) at
   unfolding nearestOf nearerOf
   project-finds = rw (under-infinity (squareTo (closestOf (p 0) (p 1) at) at) (square-real (p 0) (p 1) at (placed 0 (omega arith)) (placed 1 (omega arith)) r))

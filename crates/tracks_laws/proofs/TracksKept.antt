@@ -1,7 +1,7 @@
 -- `track-laws`: the statement of specs/TrackLaws.antt is true. Each clause is a law of another file, of the points that rows 13 and 14 let through (Admitted), carried to the calls' answers.
 use Prim.Native.Nat.{ℕ, suc, _+_, _-_, _*_, _/_, _≤_, _<_}
 use native.Mathlib.Omega.{arith}
-use mathlib.Core.Path.{_≡_, refl, sym, ap, _∙_}
+use mathlib.Core.Path.{_≡_, refl, sym, ap, _∙_, subst}
 use mathlib.Core.Bool.{Bool, true, false, cond, _&&_}
 use mathlib.Core.List.{List, _++_}
 use lib.ListN.{length, getD, drop}
@@ -17,7 +17,7 @@ use Rattle.coordinates.specs.declared.vectors.Vector.{Vector}
 use Rattle.coordinates.specs.Points.{pointAt}
 use Rattle.tracks.specs.Lengths.{lengthTo}
 use Rattle.tracks.specs.Tangents.{tangentOf, tangentNumbers}
-use Rattle.tracks.specs.Poses.{leadingFrom, leastSpan, spotOf, headingAt, trackPoseOf}
+use Rattle.tracks.specs.Poses.{leadingFrom, leastSpan, spotOf, positionAt, headingAt, trackPoseOf}
 use Rattle.tracks.specs.Projections.{nearestOf, projectOf}
 use Rattle.tracks_calls.specs.TrackCalls.{trackCounted, allInside, pointInside, tangentsCall, tangentsList, trackPoseCall, projectCall}
 use Rattle.tracks_calls.proofs.CallSteps.{list-by}
@@ -25,13 +25,13 @@ use Rattle.tracks_laws.specs.TrackLaws.{IsF32, AllF32, PointIsF32, isTra
 use Rattle.tracks_laws.proofs.Admitted.{Placed, placed, point-placed, counted-is}
 use Rattle.tracks_laws.proofs.ArcLengths.{lengths, lengths-rise}
 use Rattle.tracks_laws.proofs.Leading.{parts-at-lead}
-use Rattle.tracks_laws.proofs.Fractions.{segment-small, from-le, spot-last, le-to, spot-in}
+use Rattle.tracks_laws.proofs.Fractions.{segment-small, from-le, spot-last, le-to, spot-in, zero-in}
 use Rattle.tracks_laws.proofs.Finite.{RealPoint, RealVector, bounded-real, unit-bound, tangent-in, position-real, heading-real, foot-in}
 use Rattle.tracks_laws.proofs.Flat.{nil-num, tangent-flat, heading-flat}
 use Rattle.tracks_laws.proofs.Projected.{project-real}
 use Rattle.tracks_laws.proofs.Along.{project-on-track}
 use Rattle.tracks_laws.proofs.NearestSegment.{best-of}
-use Rattle.tracks_laws.proofs.NanPoses.{nan-pose}
+use Rattle.tracks_laws.proofs.NanPoses.{nan-spot, posed-short, nan-pose}
 use Rattle.tracks_laws.proofs.WrittenTangents.{three, listed-at}
 
 -- ---- answers
@@ -117,6 +117,13 @@ module _ (xs : List Float) (fit : AllF32 xs) (ok : isTrack xs ≡ true) where
         let w = spot-in p n there few two s f no in
         record { position = finite-point _ (position-real p n there i h t w); heading = direction (headingAt p n i t) (heading-real p n there i h t w) (nil-num (headingAt p n i t .z) (heading-flat p n there i h t w)) }
 
+  -- at a NaN, in a short first segment: the pose at its start
+  short-kept : lt leastSpan (lengthTo p 1 ⊖ lengthTo p 0) ≡ false → TrackPoseKept (trackPoseOf p n nan)
+  short-kept e =
+      let h : 0 + 1 < n = (let t = two in omega arith) in
+      subst TrackPoseKept (sym (posed-short p n e))
+      (record { position = finite-point (positionAt p 0 zero32) (position-real p n there 0 h zero32 zero-in); heading = direction (headingAt p n 0 zero32) (heading-real p n there 0 h zero32 zero-in) (nil-num (headingAt p n 0 zero32 .z) (heading-flat p n there 0 h zero32 zero-in)) })
+
   -- ---- projections
 
   module _ (to : Point) (f : PointIsF32 to) (near : pointInside to ≡ true) where
@@ -161,6 +168,8 @@ module _ (xs : List Float) (fit : AllF32 xs) (ok : isTrack xs ≡ true) where
         tangent = tangent-kept;
         pose = λ s f no. answered TrackPoseKept (trackPoseCall xs s) (trackPoseOf p n s) (pose-is s) (pose-kept s f no);
         spot = spot-kept;
+        spot-nan = nan-spot p n;
+        pose-nan-short = λ e. answered TrackPoseKept (trackPoseCall xs nan) (trackPoseOf p n nan) (pose-is nan) (short-kept e);
         pose-nan = λ e. answered NanPose (trackPoseCall xs nan) (trackPoseOf p n nan) (pose-is nan) (nan-pose p n e);
         project = λ to f ok. answered (ProjectionKept p n to) (projectCall xs to) (projectOf p n to) (project-is to f ok) (projection-kept to f ok);
       }

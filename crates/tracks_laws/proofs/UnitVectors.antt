@@ -1,5 +1,5 @@
 -- A unit vector is finite, whatever vector of finite components it is made of (`unit-in`). Of a length of 1 or more the quotient 1 / length is at most 1, and the components do not grow. Of a shorter one they are at most 2, and the length is at least the root of the least f32, so the quotient is at most 2^75 or so.
--- No more is said: where squares underflow a unit vector may be as short as 0.7 and as long as 1.3.
+-- No more is said: where squares underflow a unit vector may be from 0.7 to 1.6 long.
 use Prim.Native.Nat.{ℕ, _+_, _-_, _<_}
 use native.Mathlib.Nat.{le-trans, eq-zero-or-pos}
 use mathlib.Core.Logic.{⊎-elim}

@@ -1,10 +1,10 @@
 -- Document 02, Point 1: what holds of every track, as one statement, `TrackLaws`: read it last, at the end. Its clauses are the fields of `TrackKept`. A track is a slice of f32 that passes rows 13 and 14, n points p 0 .. p (n - 1).
 -- Words from below: `Answers`, the call refuses not, and of what it answers something holds (refusals, Answer); `lengthTo p i`, the arc length at point i (tracks, Lengths); `leadingFrom`, `spotOf` (tracks, Poses); `closestOf`, `squareTo`, `candidateOf`, of one segment (tracks, Projections). `le` and `lt` compare finite numbers exactly; a NaN is in no order (the kit's).
 --
--- What the clauses are for. "what the Rust's calls turn down or panic on beyond these is 14 too": there is nothing. `try_new` turns down fewer than two points, which is 13; `clamp` panics where 0 ≤ length fails or the length is NaN (`lengths-finite`, `lengths-rise`); an index past the end panics (`spot`, `project`: the segment is there). Its binary search finds what the definition counts (`search`).
+-- What the clauses are for. "what the Rust's calls turn down or panic on beyond these is 14 too": there is nothing. `try_new` turns down fewer than two points, which is 13; `clamp` panics where 0 ≤ length fails or the length is NaN (`lengths-finite`, `lengths-rise`); an index past the end panics (`spot`, `spot-nan`, `project`: the segment is there). Its binary search finds what the definition counts (`search`).
 use Prim.Native.Nat.{ℕ, suc, _+_, _-_, _*_, _/_, _≤_, _<_}
 use mathlib.Core.Path.{_≡_}
-use mathlib.Core.Bool.{Bool, true, false, _&&_}
+use mathlib.Core.Bool.{Bool, true, false, cond, _&&_}
 use mathlib.Core.List.{List}
 use lib.Dec.{T, ltb}
 use lib.ListN.{length, getD}
@@ -72,13 +72,13 @@ pub record TrackPoseKept (q : TrackPose) : Type 0 where
   pub heading : Direction (q .heading)
 
 -- where s lies, held to 0..length: in the last segment that starts at or before it, and at a fraction from 0 to 1 of the way along
-pub record SpotKept (p : ℕ → Point) (n : ℕ) (held : Float) (at : Spot) : Type 0 where
-  pub there : suc (at .segment) < n
-  pub starts : T (le (lengthTo p (at .segment)) held)
-  pub last : (j : ℕ) → at .segment < j → suc j < n → le (lengthTo p j) held ≡ false
-  pub ends : T (le held (lengthTo p (suc (at .segment))))
-  pub from : T (le zero32 (at .t))
-  pub to : T (le (at .t) one32)
+pub record SpotKept (p : ℕ → Point) (n : ℕ) (held : Float) (spot : Spot) : Type 0 where
+  pub there : suc (spot .segment) < n
+  pub starts : T (le (lengthTo p (spot .segment)) held)
+  pub last : (j : ℕ) → spot .segment < j → suc j < n → le (lengthTo p j) held ≡ false
+  pub ends : T (le held (lengthTo p (suc (spot .segment))))
+  pub from : T (le zero32 (spot .t))
+  pub to : T (le (spot .t) one32)
 
 -- at a NaN
 pub record NanPose (q : TrackPose) : Type 0 where
@@ -119,28 +119,30 @@ pub record ProjectionKept (p : ℕ → Point) (n : ℕ) (at : Point) (q : Projec
 -- ---- the statement
 
 module _ (xs : List Float) where
-  abbrev points : ℕ
-  points = length xs / 3
+  abbrev n : ℕ
+  n = length xs / 3
 
-  abbrev at : ℕ → Point
-  at = pointAt xs
+  abbrev p : ℕ → Point
+  p = pointAt xs
 
   pub record TrackKept : Type 0 where
-    -- arc lengths are finite and never fall; the first is 0
-    pub lengths-finite : (i : ℕ) → i < points → T (finite (lengthTo at i))
-    pub lengths-rise : (i j : ℕ) → i ≤ j → j < points → T (le (lengthTo at i) (lengthTo at j))
+    -- arc lengths, the first 0 by definition, are finite and never fall
+    pub lengths-finite : (i : ℕ) → i < n → T (finite (lengthTo p i))
+    pub lengths-rise : (i j : ℕ) → i ≤ j → j < n → T (le (lengthTo p i) (lengthTo p j))
     -- so at every s, a NaN and the infinities too, they part where the leading count ends: the only place that a binary search can find
-    pub search : (s : Float) → IsF32 s → (i : ℕ) → i < points → le (lengthTo at i) s ≡ ltb i (leadingFrom (lengthTo at) s 0 points)
+    pub search : (s : Float) → IsF32 s → (i : ℕ) → i < n → le (lengthTo p i) s ≡ ltb i (leadingFrom (lengthTo p) s 0 n)
     -- a list with room is answered, and has the tangent of each point, finite
-    pub tangents : (list : List Float) → points ≤ length list / 3 → Answers (tangentsCall xs (length list)) (λ (m : ℕ). m ≡ points)
-    pub tangent : (list : List Float) → points ≤ length list / 3 → (i : ℕ) → i < points → TangentKept (tangentsList xs list) i (tangentOf at points i)
-    -- every s is answered; but for a NaN all numbers are finite
+    pub tangents : (list : List Float) → n ≤ length list / 3 → Answers (tangentsCall xs (length list)) (λ (m : ℕ). m ≡ n)
+    pub tangent : (list : List Float) → n ≤ length list / 3 → (i : ℕ) → i < n → TangentKept (tangentsList xs list) i (tangentOf p n i)
+    -- every s but a NaN is answered, and all numbers are finite
     pub pose : (s : Float) → IsF32 s → isNan s ≡ false → Answers (trackPoseCall xs s) TrackPoseKept
-    pub spot : (s : Float) → IsF32 s → isNan s ≡ false → SpotKept at points (clampOf zero32 (lengthTo at (points - 1)) s) (spotOf at points s)
-    -- at a NaN the first segment counts: where its ends' arc lengths are over 1e-6 apart, the position is NaN and the heading zero
-    pub pose-nan : lt leastSpan (lengthTo at 1 ⊖ lengthTo at 0) ≡ true → Answers (trackPoseCall xs nan) NanPose
+    pub spot : (s : Float) → IsF32 s → isNan s ≡ false → SpotKept p n (clampOf zero32 (lengthTo p (n - 1)) s) (spotOf p n s)
+    -- a NaN is answered too. The first segment counts; where its ends' arc lengths are over 1e-6 apart, the fraction and the position are NaN and the heading is zero, else the fraction is 0 and all numbers are finite
+    pub spot-nan : spotOf p n nan ≡ record { segment = 0; t = cond (lt leastSpan (lengthTo p 1 ⊖ lengthTo p 0)) nan zero32 }
+    pub pose-nan : lt leastSpan (lengthTo p 1 ⊖ lengthTo p 0) ≡ true → Answers (trackPoseCall xs nan) NanPose
+    pub pose-nan-short : lt leastSpan (lengthTo p 1 ⊖ lengthTo p 0) ≡ false → Answers (trackPoseCall xs nan) TrackPoseKept
     -- every place up to 2,000,000 is answered
-    pub project : (to : Point) → PointIsF32 to → pointInside to ≡ true → Answers (projectCall xs to) (ProjectionKept at points to)
+    pub project : (at : Point) → PointIsF32 at → pointInside at ≡ true → Answers (projectCall xs at) (ProjectionKept p n at)
 
 abbrev pub TrackLaws : Type 0
 TrackLaws = (xs : List Float) → AllF32 xs → isTrack xs ≡ true → TrackKept xs
