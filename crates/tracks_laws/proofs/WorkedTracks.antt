@@ -11,11 +11,14 @@ use Rattle.records.specs.declared.points.Point.{Point}
 use Rattle.coordinates.specs.declared.vectors.Vector.{Vector}
 use Rattle.coordinates.specs.Vectors.{place, dotOf, lengthOf, unitOf, leftNormalOf}
 use Rattle.coordinates.specs.Points.{pointAt}
+use Rattle.records_lent.specs.Lists.{allBelow}
+use Rattle.tracks_calls.specs.TrackCalls.{allInside}
 use Rattle.tracks.specs.Lengths.{lengthTo}
 use Rattle.tracks.specs.Tangents.{tangentOf}
 use Rattle.tracks.specs.Poses.{leadingFrom, segmentOf, spotOf, headingAt, trackPoseOf}
 use Rattle.tracks.specs.declared.poses.TrackPose.{TrackPose}
 use Rattle.tracks.specs.declared.projections.Projection.{Projection}
+use Rattle.tracks_laws.specs.TrackLaws.{isTrack}
 use Rattle.tracks.specs.Projections.{footOf, candidateOf, nearerOf, nearestOf, projectOf}
 
 -- an f32 by its digits, zeros of either sign alike
@@ -44,8 +47,11 @@ projected q s x y z o = is (q .s) s && placed (q .point) x y z && is (q .offset)
 
 unfoldable pub tests : List Bool
 tests =
+    -- both are tracks: the premise of `track-laws` is met
+    isTrack corner
+    ∷ isTrack point
     -- the root of 2
-    is (rootOf binary32 (f32 0x4000_0000)) 0x3fb5_04f3
+    ∷ is (rootOf binary32 (f32 0x4000_0000)) 0x3fb5_04f3
     -- the tangent at the corner is half way between its two directions, and those of the ends are the segments' own
     ∷ three (tangentOf (pointAt corner) 3 0) 0x3f80_0000 0 0
     ∷ three (tangentOf (pointAt corner) 3 1) 0x3f35_04f3 0x3f35_04f3 0
@@ -69,5 +75,5 @@ all [] = true
 all (b ∷ bs) = b && all bs
 
 pub worked-tracks : all tests ≡ true
-unfolding all tests tangentOf trackPoseOf spotOf segmentOf leadingFrom lengthTo headingAt projectOf nearestOf nearerOf candidateOf footOf leftNormalOf unitOf lengthOf dotOf rootOf rootUnits wholeRoot size span climb round units odd sum add sub mul div neg lt eq le ofBits ofFields trailingZeros
+unfolding all tests allInside allBelow tangentOf trackPoseOf spotOf segmentOf leadingFrom lengthTo headingAt projectOf nearestOf nearerOf candidateOf footOf leftNormalOf unitOf lengthOf dotOf rootOf rootUnits wholeRoot size span climb round units odd sum add sub mul div neg lt eq le ofBits ofFields trailingZeros
 worked-tracks = refl
