@@ -11,8 +11,8 @@ use Rattle.records_lent.specs.Lists.{allBelow}
 use Rattle.records_cubic.specs.declared.cubics.Cubic.{Cubic}
 use Rattle.records.specs.declared.points.GeomRec.{GeomRec}
 use Rattle.records.specs.declared.points.HeightDef.{HeightDef}
-use Rattle.records.specs.Roads.{Road, Lane, Strip, columnOf, geomAt, unusedZero, sectionOf, laneOf, profileAt, stripAt}
-use Rattle.admission.specs.Limits.{lengthOk, roadCubicsWithin, shapeLimited, geomLimited, heightsLimited, sectionExtent, laneLimited, sectionLimited, profileLimited, termsBound, stripLimited, limited, greatestShapeStart, greatestPlace, greatestHeading, shapesEnd, greatestElevation, greatestBank, greatestOffset, greatestShift, greatestWidth, greatestBorder, greatestShape, greatestStripWidth, greatestGrade, greatestStripHeight, geomLengthOk}
+use Rattle.records.specs.Roads.{Road, Lane, Strip, columnOf, geomAt, unusedZero, sectionOf, laneOf, markAt, profileAt, stripAt}
+use Rattle.admission.specs.Limits.{lengthOk, roadCubicsWithin, shapeLimited, geomLimited, heightsLimited, sectionExtent, laneLimited, sectionLimited, profileLimited, termsBound, stripLimited, markLimited, marksLimited, limited, greatestShapeStart, greatestPlace, greatestHeading, shapesEnd, greatestElevation, greatestBank, greatestOffset, greatestShift, greatestWidth, greatestBorder, greatestShape, greatestStripWidth, greatestGrade, greatestStripHeight, geomLengthOk}
 use Rattle.arithmetic_ranges.specs.Ranges.{inRange, sized, largest}
 use Rattle.admission_bounds.specs.Bounds.{cubicsWithin, slopesWithin}
 
@@ -70,25 +70,32 @@ pub strip-by :
 unfolding stripLimited
 strip-by road strip w a b = rw (w, a, b)
 
+pub marks-by :
+    (road : Road) (i : ℕ) {extent : Float} {n : ℕ} {ok : Bool} → extent ≡ sectionExtent road i → n ≡ length (sectionOf road i .marks)
+    → ok ≡ allBelow (λ j. markLimited extent (markAt road i j)) n → ok ≡ marksLimited road i
+unfolding marksLimited
+marks-by road i e f g = rw (← e, ← f) g
+
 -- ---- the road: `&&` as the code groups it
 
-regroup : (l g e s b o t x p y : Bool) → l && g && (e && s) && (b && o && t) && x && p && y ≡ l && g && e && s && b && o && t && x && p && y
-regroup false g e s b o t x p y = refl
-regroup true false e s b o t x p y = refl
-regroup true true false s b o t x p y = refl
-regroup true true true false b o t x p y = refl
-regroup true true true true b o t x p y = refl
+regroup : (l g e s b o t x p y m : Bool) → l && g && (e && s) && (b && o && t) && x && p && y && m ≡ l && g && e && s && b && o && t && x && p && y && m
+regroup false g e s b o t x p y m = refl
+regroup true false e s b o t x p y m = refl
+regroup true true false s b o t x p y m = refl
+regroup true true true false b o t x p y m = refl
+regroup true true true true b o t x p y m = refl
 
 pub limited-by :
-    (road : Road) {len : Float} {l g e t s p x : Bool} → len ≡ road .length → l ≡ lengthOk len → g ≡ allBelow (geomLimited road) (length (road .geoms))
+    (road : Road) {len : Float} {l g e t s p x m : Bool} → len ≡ road .length → l ≡ lengthOk len → g ≡ allBelow (geomLimited road) (length (road .geoms))
     → e ≡ roadCubicsWithin road (road .elevations) greatestElevation && slopesWithin (road .elevations) (road .length) greatestGrade
     → t ≡ roadCubicsWithin road (road .superelevations) greatestBank && roadCubicsWithin road (road .offsets) greatestOffset && roadCubicsWithin road (road .tshifts) greatestShift
     → s ≡ allBelow (sectionLimited road) (length (road .sections)) → p ≡ allBelow (profileLimited road) (length (road .profiles))
-    → x ≡ allBelow (λ i. stripLimited road (stripAt road i)) 4 → l && g && e && t && s && p && x ≡ limited road
+    → x ≡ allBelow (λ i. stripLimited road (stripAt road i)) 4 → m ≡ allBelow (marksLimited road) (length (road .sections)) → l && g && e && t && s && p && x && m ≡ limited road
 unfolding limited
-limited-by road k a b c d e f g =
-    rw (a, b, c, d, e, f, g, k)
+limited-by road k a b c d e f g h =
+    rw (a, b, c, d, e, f, g, h, k)
     (regroup (lengthOk (road .length)) (allBelow (geomLimited road) (length (road .geoms)))
     (roadCubicsWithin road (road .elevations) greatestElevation) (slopesWithin (road .elevations) (road .length) greatestGrade)
     (roadCubicsWithin road (road .superelevations) greatestBank) (roadCubicsWithin road (road .offsets) greatestOffset) (roadCubicsWithin road (road .tshifts) greatestShift)
-    (allBelow (sectionLimited road) (length (road .sections))) (allBelow (profileLimited road) (length (road .profiles))) (allBelow (λ i. stripLimited road (stripAt road i)) 4))
+    (allBelow (sectionLimited road) (length (road .sections))) (allBelow (profileLimited road) (length (road .profiles))) (allBelow (λ i. stripLimited road (stripAt road i)) 4)
+    (allBelow (marksLimited road) (length (road .sections))))

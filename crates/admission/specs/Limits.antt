@@ -3,15 +3,16 @@ use Prim.Native.Nat.{ℕ, _+_}
 use mathlib.Core.Bool.{Bool, true, false, _&&_, _||_, cond}
 use mathlib.Core.List.{List}
 use lib.ListN.{length}
-use lib.Dec.{ltb}
+use lib.Dec.{leb, ltb}
 use lib.Ieee.{Float, le, neg}
 use Rattle.float_laws.specs.Binary64.{_⊕_, _⊖_, _⊗_, f64, zero64, absOf}
 use Rattle.records_cubic.specs.declared.cubics.Cubic.{Cubic}
 use Rattle.records.specs.declared.points.GeomShape.{GeomShape}
 use Rattle.records.specs.declared.points.GeomShape.the-variants.{Line, Arc, Spiral}
 use Rattle.records.specs.declared.points.HeightDef.{HeightDef}
+use Rattle.records.specs.declared.points.Mark.{Mark}
 use Rattle.records_lent.specs.Lists.{allBelow}
-use Rattle.records.specs.Roads.{Road, Lane, Strip, straightCurvature, geomAt, unusedZero, sectionOf, laneOf, profileAt, stripAt, columnOf, heightDefAt}
+use Rattle.records.specs.Roads.{Road, Lane, Strip, straightCurvature, geomAt, unusedZero, sectionOf, laneOf, profileAt, stripAt, columnOf, heightDefAt, markAt}
 use Rattle.arithmetic_ranges.specs.Ranges.{inRange, sized, largest, finite64}
 use Rattle.admission_bounds.specs.Bounds.{cubicsWithin, slopesWithin, greatestBound}
 
@@ -98,6 +99,13 @@ farthestAcross = f64 0x4056_0000_0000_0000
 abbrev pub greatestStripHeight : Float
 greatestStripHeight = f64 0x4044_0000_0000_0000
 
+-- document 02, point 2: "kind a whole number 1..255"
+abbrev pub leastKind : ℕ
+leastKind = 1
+
+abbrev pub greatestKind : ℕ
+greatestKind = 255
+
 -- ---- the tests
 
 -- "Length 0.01..10,000"
@@ -183,9 +191,18 @@ stripLimited road strip =
     && allBelow (λ term. roadCubicsWithin road (columnOf strip (term + 1)) largest) 4
     && le (termsBound road strip) greatestStripHeight
 
+-- document 02, point 2: "kind a whole number 1..255, .. 0 ≤ start ≤ end ≤ the section's extent"
+unfoldable pub markLimited : Float → Mark → Bool
+markLimited extent m = leb leastKind (m .kind) && leb (m .kind) greatestKind && le zero64 (m .start) && le (m .start) (m .end) && le (m .end) extent
+
+-- a section's marks
+unfoldable pub marksLimited : Road → ℕ → Bool
+unfolding allBelow markLimited sectionExtent
+marksLimited road i = allBelow (λ j. markLimited (sectionExtent road i) (markAt road i j)) (length (sectionOf road i .marks))
+
 -- row 4, "a number not finite or outside its limit", of the whole road. "B at most: elev 10,000; bank 0.75; offset, tshift, .. 8"; "Elev also .. ≤ 1"
 unfoldable pub limited : Road → Bool
-unfolding allBelow geomLimited cubicsWithin slopesWithin sectionLimited profileLimited stripLimited
+unfolding allBelow geomLimited cubicsWithin slopesWithin sectionLimited profileLimited stripLimited marksLimited
 limited road =
     lengthOk (road .length)
     && allBelow (geomLimited road) (length (road .geoms))
@@ -197,3 +214,4 @@ limited road =
     && allBelow (sectionLimited road) (length (road .sections))
     && allBelow (profileLimited road) (length (road .profiles))
     && allBelow (λ i. stripLimited road (stripAt road i)) 4
+    && allBelow (marksLimited road) (length (road .sections))

@@ -19,13 +19,16 @@ const GREATEST_WIDTH: f64 = 8.0;
 const GREATEST_BORDER: f64 = 36.0;
 
 // ---- sections and their lanes
-// How far a section reaches: to the next one's start, the last to the road's end.
-fn section_extent(words: &[u16], numbers: &[f64], i: usize) -> f64
-    requires { ⌜ i < length (roadOf (now words) (now numbers) .sections) ⌝ }
+// How far a section reaches: to the next one's start, the last to the road's end. NaN where there is no section.
+pub fn section_extent(words: &[u16], numbers: &[f64], i: usize) -> f64
     ensures { λ r. ⌜ r ≡ sectionExtent (lentRoad words numbers) i ⌝ }
 {
     let n = records_sections::section_count(words, numbers);
     let start = records_sections::section_start(words, numbers, i);
+    // i + 1 is formed only where there is a section i
+    if n <= i {
+        return records::road_length(words, numbers) - start;
+    }
     if i + 1 < n {
         records_sections::section_start(words, numbers, i + 1) - start
     } else {

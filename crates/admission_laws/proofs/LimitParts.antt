@@ -13,7 +13,7 @@ use Rattle.records_lent.proofs.TestLaws.{and-fst, and-snd, all-at}
 use Rattle.records.specs.Roads.{Road, Lane, Strip, straightCurvature, geomAt, unusedZero, sectionOf, laneOf, profileAt, stripAt, columnOf, heightDefAt}
 use Rattle.arithmetic_ranges.specs.Ranges.{inRange, sized, largest, finite64}
 use Rattle.admission_bounds.specs.Bounds.{cubicsWithin, slopesWithin}
-use Rattle.admission.specs.Limits.{greatestShapeStart, greatestPlace, greatestHeading, leastArcCurvature, greatestArcCurvature, greatestSpiralCurvature, greatestLaneHeight, shapesEnd, greatestElevation, greatestBank, greatestOffset, greatestShift, greatestWidth, greatestBorder, greatestShape, greatestStripWidth, greatestGrade, greatestStripHeight, lengthOk, geomLengthOk, onRoad, roadCubicsWithin, shapeLimited, geomLimited, sectionExtent, heightLimited, heightsLimited, laneLimited, sectionLimited, profileLimited, termsBound, stripLimited, limited}
+use Rattle.admission.specs.Limits.{greatestShapeStart, greatestPlace, greatestHeading, leastArcCurvature, greatestArcCurvature, greatestSpiralCurvature, greatestLaneHeight, shapesEnd, greatestElevation, greatestBank, greatestOffset, greatestShift, greatestWidth, greatestBorder, greatestShape, greatestStripWidth, greatestGrade, greatestStripHeight, lengthOk, geomLengthOk, onRoad, roadCubicsWithin, shapeLimited, geomLimited, sectionExtent, heightLimited, heightsLimited, laneLimited, sectionLimited, profileLimited, termsBound, stripLimited, marksLimited, limited}
 
 pub or-parts : (a b : Bool) → a || b ≡ true → (a ≡ true) ⊎ (b ≡ true)
 or-parts true b e = inl refl
@@ -32,6 +32,7 @@ pub record Limited (road : Road) : Type 0 where
   pub sections : (i : ℕ) → i < length (road .sections) → sectionLimited road i ≡ true
   pub profiles : (i : ℕ) → i < length (road .profiles) → profileLimited road i ≡ true
   pub strips : (i : ℕ) → i < 4 → stripLimited road (stripAt road i) ≡ true
+  pub marks : (i : ℕ) → i < length (road .sections) → marksLimited road i ≡ true
 
 pub limited-parts : (road : Road) → limited road ≡ true → Limited road
 unfolding limited
@@ -46,7 +47,9 @@ limited-parts road e =
     let x = allBelow (sectionLimited road) (length (road .sections)) in
     let p = allBelow (profileLimited road) (length (road .profiles)) in
     let y = allBelow (λ i. stripLimited road (stripAt road i)) 4 in
-    let ep = and-fst (l && g && v && s && b && o && t && x && p) y e in
+    let m = allBelow (marksLimited road) (length (road .sections)) in
+    let ey = and-fst (l && g && v && s && b && o && t && x && p && y) m e in
+    let ep = and-fst (l && g && v && s && b && o && t && x && p) y ey in
     let ex = and-fst (l && g && v && s && b && o && t && x) p ep in
     let et = and-fst (l && g && v && s && b && o && t) x ex in
     let eo = and-fst (l && g && v && s && b && o) t et in
@@ -64,7 +67,8 @@ limited-parts road e =
       tshifts = and-snd (l && g && v && s && b && o) t et;
       sections = λ i h. all-at (sectionLimited road) (length (road .sections)) (and-snd (l && g && v && s && b && o && t) x ex) i h;
       profiles = λ i h. all-at (profileLimited road) (length (road .profiles)) (and-snd (l && g && v && s && b && o && t && x) p ep) i h;
-      strips = λ i h. all-at (λ i. stripLimited road (stripAt road i)) 4 (and-snd (l && g && v && s && b && o && t && x && p) y e) i h;
+      strips = λ i h. all-at (λ i. stripLimited road (stripAt road i)) 4 (and-snd (l && g && v && s && b && o && t && x && p) y ey) i h;
+      marks = λ i h. all-at (marksLimited road) (length (road .sections)) (and-snd (l && g && v && s && b && o && t && x && p && y) m e) i h;
     }
 
 -- ---- a geometry and its shape

@@ -3,6 +3,7 @@ use crate::geometries::elevations_limited;
 use crate::geometries::geoms_limited;
 use admission_bounds::cubics_within;
 use admission_lanes::sections_limited;
+use admission_marks::marks_limited;
 use admission_shapes::profiles_limited;
 use admission_shapes::strips_limited;
 use arithmetic_ranges::in_range;
@@ -61,5 +62,6 @@ pub fn limited(words: &[u16], numbers: &[f64]) -> bool
     );
     let along = length & geoms_limited(words, numbers) & elevations_limited(words, numbers);
     let lanes = along & tables_limited(words, numbers) & sections_limited(words, numbers);
-    lanes & profiles_limited(words, numbers) & strips_limited(words, numbers)
+    let across = lanes & profiles_limited(words, numbers) & strips_limited(words, numbers);
+    across & marks_limited(words, numbers)
 }

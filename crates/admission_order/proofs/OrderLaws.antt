@@ -1,20 +1,20 @@
 -- What a road in order has: one record, by its tests and the neighbours of each list. Past a list's end there is nothing to be in order, so places need no bound but for strips.
 use Prim.Native.Nat.{ℕ, _+_, _-_, _<_, _≤_}
 use native.Mathlib.Omega.{arith}
-use mathlib.Core.Path.{_≡_, refl}
-use mathlib.Core.Bool.{Bool, true, false, _&&_}
+use mathlib.Core.Path.{_≡_, refl, ap}
+use mathlib.Core.Bool.{Bool, true, false, not, _&&_, _||_}
 use mathlib.Core.List.{List, [], _∷_}
 use lib.ListN.{length, getD, List·getD-eq-default}
-use lib.Dec.{T, ltb}
+use lib.Dec.{T, eqb, ltb}
 use lib.Ieee.{Float, le, lt, eq}
-use borrow.Author.Tests.{ltb-true, ltb-false}
+use borrow.Author.Tests.{eq-eqb, ltb-true, ltb-false}
 use Rattle.float_laws.specs.Binary64.{_⊖_, zero64}
 use Rattle.records_cubic.specs.declared.cubics.Cubic.{Cubic}
 use Rattle.records.specs.declared.points.HeightDef.{HeightDef}
 use Rattle.records_lent.specs.Lists.{allBelow}
 use Rattle.records_cubic.specs.Cubics.{cubicAt}
-use Rattle.records.specs.Roads.{Road, Lane, Strip, geomAt, noSection, sectionOf, noLane, laneOf, noProfile, profileAt, stripAt, columnOf, heightDefAt}
-use Rattle.admission_order.specs.Order.{leastGap, neverFall, riseStrictly, apart, cubicsInOrder, laneInOrder, sectionInOrder, profilesInOrder, stripInOrder, ordered}
+use Rattle.records.specs.Roads.{Road, Section, Lane, Strip, geomAt, noSection, sectionOf, noLane, laneOf, noProfile, profileAt, stripAt, columnOf, heightDefAt, markAt}
+use Rattle.admission_order.specs.Order.{leastGap, neverFall, riseStrictly, apart, cubicsInOrder, laneInOrder, sectionInOrder, profilesInOrder, stripInOrder, startsInOrder, marksInOrder, ordered}
 use Rattle.records_lent.proofs.TestLaws.{true-T, chain-at, all-at}
 
 -- ---- the neighbours of a list in order
@@ -62,6 +62,7 @@ pub record Ordered (road : Road) : Type 0 where
   pub profiles : (i : ℕ) → i + 1 < length (road .profiles) → T (le leastGap (profileAt road (i + 1) .s ⊖ profileAt road i .s))
   pub shapes : (i : ℕ) → CubicsRise (profileAt road i .shapes)
   pub columns : (i column : ℕ) → i < 4 → column < 5 → CubicsRise (columnOf (stripAt road i) column)
+  pub marks : (section h j : ℕ) → h < j → j < length (sectionOf road section .marks) → markAt road section h .lane ≡ markAt road section j .lane → T (le (markAt road section h .start) (markAt road section j .start))
 
 pub cubics-rise : (cs : List Cubic) → cubicsInOrder cs ≡ true → CubicsRise cs
 unfolding cubicsInOrder
@@ -125,6 +126,25 @@ columns-ordered : (strip : Strip) → stripInOrder strip ≡ true → (column : 
 unfolding stripInOrder
 columns-ordered strip e column l = cubics-rise (columnOf strip column) (all-at (λ c. cubicsInOrder (columnOf strip c)) 5 e column l)
 
+-- of two marks on one lane the later starts no earlier
+same-lane : (a b : ℕ) (c : Bool) → not (eqb a b) || c ≡ true → a ≡ b → c ≡ true
+same-lane a b c e f = rw (eq-eqb a b f) at e
+
+marks-ordered :
+    (road : Road) → allBelow (marksInOrder road) (length (road .sections)) ≡ true → (i h j : ℕ) → h < j → j < length (sectionOf road i .marks)
+    → markAt road i h .lane ≡ markAt road i j .lane → T (le (markAt road i h .start) (markAt road i j .start))
+unfolding marksInOrder
+marks-ordered road e i h j l m s = go (ltb i (length (road .sections))) refl
+  where
+    go : (b : Bool) → ltb i (length (road .sections)) ≡ b → T (le (markAt road i h .start) (markAt road i j .start))
+    go true k =
+        let x = all-at (marksInOrder road) (length (road .sections)) e i (ltb-true i (length (road .sections)) k) in
+        let y = all-at (λ j. allBelow (λ h. startsInOrder (markAt road i h) (markAt road i j)) j) (length (sectionOf road i .marks)) x j m in
+        true-T _ (same-lane (markAt road i h .lane) (markAt road i j .lane) (le (markAt road i h .start) (markAt road i j .start)) (all-at (λ h. startsInOrder (markAt road i h) (markAt road i j)) j y h l) s)
+    go false k =
+        let n : length (sectionOf road i .marks) ≡ 0 = ap (λ (x : Section). length (x .marks)) (List·getD-eq-default (road .sections) noSection {n = i} (ltb-false i (length (road .sections)) k)) in
+        absurd (omega arith)
+
 pub ordered-is : (road : Road) → ordered road ≡ true → Ordered road
 unfolding ordered profilesInOrder
 ordered-is road e =
@@ -136,7 +156,7 @@ ordered-is road e =
     let t =
     chain-at
     (eq (geom 0) zero64)
-    (eq (section 0) zero64 ∷ neverFall geom (length (road .geoms)) ∷ riseStrictly section (length (road .sections)) ∷ cubicsInOrder (road .elevations) ∷ cubicsInOrder (road .superelevations) ∷ cubicsInOrder (road .offsets) ∷ cubicsInOrder (road .tshifts) ∷ allBelow (sectionInOrder road) (length (road .sections)) ∷ (far && shapes) ∷ allBelow (λ i. stripInOrder (stripAt road i)) 4 ∷ [])
+    (eq (section 0) zero64 ∷ neverFall geom (length (road .geoms)) ∷ riseStrictly section (length (road .sections)) ∷ cubicsInOrder (road .elevations) ∷ cubicsInOrder (road .superelevations) ∷ cubicsInOrder (road .offsets) ∷ cubicsInOrder (road .tshifts) ∷ allBelow (sectionInOrder road) (length (road .sections)) ∷ (far && shapes) ∷ allBelow (λ i. stripInOrder (stripAt road i)) 4 ∷ allBelow (marksInOrder road) (length (road .sections)) ∷ [])
     e
     in
     let p = chain-at far (shapes ∷ []) (t 9) in
@@ -153,4 +173,5 @@ ordered-is road e =
       profiles = apart-at profile (length (road .profiles)) (p 0);
       shapes = shapes-ordered road (p 1);
       columns = λ i column l m. columns-ordered (stripAt road i) (all-at (λ i. stripInOrder (stripAt road i)) 4 (t 10) i l) column m;
+      marks = marks-ordered road (t 11);
     }

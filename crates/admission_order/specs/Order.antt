@@ -1,15 +1,17 @@
 -- Document 01, row 3: order. "First geom and first section start at 0; sections rise strictly, other starts never fall; profiles, and heights of a lane, are at least 0.001 apart; .. a NaN compared failing it".
 -- Every test is a comparison that passes, so a NaN in it fails; where a list has one line nothing is compared. "At least 0.001 apart" is the f64 difference that `shape_at` and `height_at` make.
 use Prim.Native.Nat.{ℕ, _+_, _-_}
-use mathlib.Core.Bool.{Bool, true, false, _&&_}
+use mathlib.Core.Bool.{Bool, true, false, not, _&&_, _||_}
 use mathlib.Core.List.{List}
 use lib.ListN.{length}
+use lib.Dec.{eqb}
 use lib.Ieee.{Float, le, lt, eq}
 use Rattle.float_laws.specs.Binary64.{_⊖_, f64, zero64}
 use Rattle.records_cubic.specs.declared.cubics.Cubic.{Cubic}
+use Rattle.records.specs.declared.points.Mark.{Mark}
 use Rattle.records_lent.specs.Lists.{allBelow}
 use Rattle.records_cubic.specs.Cubics.{cubicAt}
-use Rattle.records.specs.Roads.{Road, Lane, Strip, geomAt, sectionOf, laneOf, profileAt, stripAt, columnOf, heightDefAt}
+use Rattle.records.specs.Roads.{Road, Lane, Strip, geomAt, sectionOf, laneOf, profileAt, stripAt, columnOf, heightDefAt, markAt}
 
 -- "at least 0.001 apart"
 abbrev pub leastGap : Float
@@ -59,9 +61,17 @@ unfoldable pub stripInOrder : Strip → Bool
 unfolding allBelow cubicsInOrder
 stripInOrder strip = allBelow (λ c. cubicsInOrder (columnOf strip c)) 5
 
+-- document 02, point 2: "starts never falling per id": of two marks on one lane the later starts no earlier, whatever stands between them
+abbrev pub startsInOrder : Mark → Mark → Bool
+startsInOrder a b = not (eqb (a .lane) (b .lane)) || le (a .start) (b .start)
+
+unfoldable pub marksInOrder : Road → ℕ → Bool
+unfolding allBelow
+marksInOrder road i = allBelow (λ j. allBelow (λ h. startsInOrder (markAt road i h) (markAt road i j)) j) (length (sectionOf road i .marks))
+
 -- "First geom and first section start at 0", and the order of every list
 unfoldable pub ordered : Road → Bool
-unfolding allBelow neverFall riseStrictly cubicsInOrder sectionInOrder profilesInOrder stripInOrder
+unfolding allBelow neverFall riseStrictly cubicsInOrder sectionInOrder profilesInOrder stripInOrder marksInOrder
 ordered road =
     eq (geomAt road 0 .s) zero64
     && eq (sectionOf road 0 .start) zero64
@@ -74,3 +84,4 @@ ordered road =
     && allBelow (sectionInOrder road) (length (road .sections))
     && profilesInOrder road
     && allBelow (λ i. stripInOrder (stripAt road i)) 4
+    && allBelow (marksInOrder road) (length (road .sections))

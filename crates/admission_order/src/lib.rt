@@ -1,4 +1,5 @@
 // Row 3, by the numbers: order.
+mod marks;
 mod order;
 
 pub use order::ordered;

@@ -1,4 +1,5 @@
 // The order of starts. Every test is a comparison that passes, so a NaN that is compared fails it.
+use crate::marks::marks_in_order;
 ghost use mathlib.Core.Path.{_≡_};
 ghost use Prim.Native.Nat.{_-_};
 ghost use mathlib.Core.Bool.{_&&_};
@@ -205,5 +206,5 @@ pub fn ordered(words: &[u16], numbers: &[f64]) -> bool
     let sections = sections_in_order(words, numbers);
     let profiles = profiles_apart(words, numbers) & shapes_in_order(words, numbers);
     let strips = strips_in_order(words, numbers);
-    along & flat & sections & profiles & strips
+    along & flat & sections & profiles & strips & marks_in_order(words, numbers)
 }

@@ -2,7 +2,7 @@
 use Prim.Native.Nat.{ℕ, _+_, _*_, _/_, _-_, _<_, _≤_}
 use native.Mathlib.Omega.{arith}
 use native.Mathlib.Nat.{add-assoc}
-use mathlib.Core.Path.{_≡_, refl, ap, _∙_, sym}
+use mathlib.Core.Path.{_≡_, refl, ap, _∙_, sym, subst}
 use mathlib.Core.Bool.{Bool, true, false, _&&_, _||_}
 use mathlib.Core.List.{List, [], _∷_}
 use lib.ListN.{length, getD, drop, length-take, length-drop}
@@ -10,11 +10,12 @@ use lib.Dec.{leb, ltb, eqb}
 use lib.Ieee.{Float}
 use borrow.Author.Tests.{leb-true, ltb-true, ltb-false}
 use Rattle.records_lent.specs.Lists.{span, allBelow}
-use Rattle.records.specs.Roads.{Road, Lane, Profile, roadOf, wordAt, cubicsIn, heightsIn, laneIn, profileIn, columnIn, sectionOf, laneOf, noLane, profileAt, stripAt, columnOf}
+use Rattle.records.specs.declared.points.Mark.{Mark}
+use Rattle.records.specs.Roads.{Road, Section, Lane, Profile, roadOf, wordAt, cubicsIn, heightsIn, laneIn, profileIn, columnIn, sectionOf, laneOf, noLane, profileAt, stripAt, columnOf, markIn, markAt}
 use Rattle.records_cubic.proofs.CubicTables.{cubic-count}
 use Rattle.records.proofs.CubicLaws.{height-count}
-use Rattle.records.proofs.RoadLaws.{geom-count, section-count, section-past, left-count, right-count, left-lane-in, right-lane-in, left-lane-past, right-lane-past, no-lane, profile-count, profile-in, column-in, column-absent, column-over, column-past}
-use Rattle.admission_structure.specs.Structure.{countsOk, kindsOk, laneOk, sectionOk, profileOk, columnOk, stripOk, structured}
+use Rattle.records.proofs.RoadLaws.{geom-count, section-count, section-past, left-count, right-count, left-lane-in, right-lane-in, left-lane-past, right-lane-past, no-lane, mark-count, mark-in, profile-count, profile-in, column-in, column-absent, column-over, column-past}
+use Rattle.admission_structure.specs.Structure.{countsOk, kindsOk, laneOk, sectionOk, profileOk, columnOk, stripOk, marksOk, structured}
 use Rattle.records_lent.proofs.TestLaws.{chain-at, all-at}
 use Rattle.admission_structure.proofs.RangeLaws.{range-is}
 
@@ -127,7 +128,7 @@ module _ (words : List ℕ) (numbers : List Float) where
         go false l = rw (right-lane-past words numbers i k h (ltb-false k (getD words (73 + i * 3) 0) l)) none-few
 
   -- ---- profiles and strips
-  shapes-few : (i : ℕ) → 7937 ≤ length numbers → i < getD words 6 0 → profileOk words numbers i ≡ true → Counted 1 16 (length (profileAt road i .shapes))
+  shapes-few : (i : ℕ) → 8449 ≤ length numbers → i < getD words 6 0 → profileOk words numbers i ≡ true → Counted 1 16 (length (profileAt road i .shapes))
   unfolding profileOk profileIn
   shapes-few i m l e =
       let first : ℕ = getD words (1271 + i * 2) 0 in
@@ -167,10 +168,54 @@ module _ (words : List ℕ) (numbers : List Float) where
       go true false l m = rw (column-over words numbers i column (ltb-true i 4 l) (ltb-false column 5 m)) (omega arith)
       go false b l m = rw (column-past words numbers i column (ltb-false i 4 l)) (omega arith)
 
+  -- ---- marks
+  record MarksFew (i : ℕ) : Type 0 where
+    few : getD words (1348 + i * 2) 0 ≤ 16
+    lanes : (j : ℕ) → j < getD words (1348 + i * 2) 0 → getD words (1379 + (getD words (1347 + i * 2) 0 + j) * 2) 0 < getD words (72 + i * 3) 0 + getD words (73 + i * 3) 0
+
+  marks-few : (i : ℕ) → marksOk words numbers i ≡ true → MarksFew i
+  unfolding marksOk
+  marks-few i e =
+      let first : ℕ = getD words (1347 + i * 2) 0 in
+      let count : ℕ = getD words (1348 + i * 2) 0 in
+      let lanes : ℕ = getD words (72 + i * 3) 0 + getD words (73 + i * 3) 0 in
+      let on : ℕ → Bool = λ j. ltb (getD words (1379 + (first + j) * 2) 0) lanes in
+      let f : (leb 0 count && leb count 16 && leb (first + count) 256) && allBelow on count ≡ true = rw (plus 1347 1 (i * 2), plus 71 1 (i * 3), plus 71 2 (i * 3)) at e in
+      let t = chain-at (leb 0 count && leb count 16 && leb (first + count) 256) (allBelow on count ∷ []) f in
+      record { few = range-is 0 16 256 first count (t 0) .few; lanes = λ j l. ltb-true (getD words (1379 + (first + j) * 2) 0) lanes (all-at on count (t 1) j l) }
+
+  module _ (e : allBelow (marksOk words numbers) (getD words 5 0) ≡ true) where
+    in-marks : (i : ℕ) → i < getD words 5 0 → MarksFew i
+    in-marks i l = marks-few i (all-at (marksOk words numbers) (getD words 5 0) e i l)
+
+    marks-most : (i : ℕ) → length (sectionOf road i .marks) ≤ 16
+    marks-most i = go (ltb i (getD words 5 0)) refl
+      where
+        go : (b : Bool) → ltb i (getD words 5 0) ≡ b → length (sectionOf road i .marks) ≤ 16
+        go true l = let m = ltb-true i (getD words 5 0) l in rw (mark-count words numbers i m) (in-marks i m .few)
+        go false l = rw (section-past words numbers i (ltb-false i (getD words 5 0) l)) (omega arith)
+
+    marks-on : (i j : ℕ) → j < length (sectionOf road i .marks) → markAt road i j .lane < length (sectionOf road i .left) + length (sectionOf road i .right)
+    unfolding markIn
+    marks-on i j h = go (ltb i (getD words 5 0)) refl
+      where
+        go : (b : Bool) → ltb i (getD words 5 0) ≡ b → markAt road i j .lane < length (sectionOf road i .left) + length (sectionOf road i .right)
+        go true l =
+            let m = ltb-true i (getD words 5 0) l in
+            let k : j < getD words (1348 + i * 2) 0 = subst (λ (n : ℕ). j < n) (mark-count words numbers i m) h in
+            let x = in-marks i m .lanes j k in
+            let a = left-count words numbers i m in
+            let b = right-count words numbers i m in
+            let c : markAt road i j .lane ≡ getD words (1379 + (getD words (1347 + i * 2) 0 + j) * 2) 0 = ap (λ (x : Mark). x .lane) (mark-in words numbers i j m k) in
+            omega arith
+        go false l =
+            let n : length (sectionOf road i .marks) ≡ 0 = ap (λ (x : Section). length (x .marks)) (section-past words numbers i (ltb-false i (getD words 5 0) l)) in
+            absurd (omega arith)
+
   -- ---- the whole
   pub record Structured : Type 0 where
-    pub words-long : 1347 ≤ length words
-    pub numbers-long : 7937 ≤ length numbers
+    pub words-long : 1891 ≤ length words
+    pub numbers-long : 8449 ≤ length numbers
     pub geoms : Counted 1 64 (length (road .geoms))
     pub elevations : length (road .elevations) ≤ 64
     pub superelevations : length (road .superelevations) ≤ 64
@@ -183,6 +228,8 @@ module _ (words : List ℕ) (numbers : List Float) where
     pub profiles : length (road .profiles) ≤ 16
     pub shapes : (i : ℕ) → i < length (road .profiles) → Counted 1 16 (length (profileAt road i .shapes))
     pub columns : (i column : ℕ) → length (columnOf (stripAt road i) column) ≤ 8
+    pub marks : (i : ℕ) → length (sectionOf road i .marks) ≤ 16
+    pub mark-lanes : (i j : ℕ) → j < length (sectionOf road i .marks) → markAt road i j .lane < length (sectionOf road i .left) + length (sectionOf road i .right)
 
   module _ (e : allBelow (sectionOk words numbers) (getD words 5 0) ≡ true) where
     in-section : (i : ℕ) → i < getD words 5 0 → SectionFew i
@@ -212,23 +259,24 @@ module _ (words : List ℕ) (numbers : List Float) where
 
   module _ (e : structured words numbers ≡ true) where
     record Tests : Type 0 where
-      long-words : leb 1347 (length words) ≡ true
-      long-numbers : leb 7937 (length numbers) ≡ true
+      long-words : leb 1891 (length words) ≡ true
+      long-numbers : leb 8449 (length numbers) ≡ true
       counts : countsOk words numbers ≡ true
       sections : allBelow (sectionOk words numbers) (getD words 5 0) ≡ true
       profiles : allBelow (profileOk words numbers) (getD words 6 0) ≡ true
       strips : allBelow (stripOk words numbers) 4 ≡ true
+      marks : allBelow (marksOk words numbers) (getD words 5 0) ≡ true
 
     tests : Tests
     unfolding structured
     tests =
         let t =
         chain-at
-        (leb 1347 (length words))
-        (leb 7937 (length numbers) ∷ countsOk words numbers ∷ kindsOk words numbers ∷ allBelow (sectionOk words numbers) (getD words 5 0) ∷ allBelow (profileOk words numbers) (getD words 6 0) ∷ allBelow (stripOk words numbers) 4 ∷ [])
+        (leb 1891 (length words))
+        (leb 8449 (length numbers) ∷ countsOk words numbers ∷ kindsOk words numbers ∷ allBelow (sectionOk words numbers) (getD words 5 0) ∷ allBelow (profileOk words numbers) (getD words 6 0) ∷ allBelow (stripOk words numbers) 4 ∷ allBelow (marksOk words numbers) (getD words 5 0) ∷ [])
         e
         in
-        record { long-words = t 0; long-numbers = t 1; counts = t 2; sections = t 4; profiles = t 5; strips = t 6 }
+        record { long-words = t 0; long-numbers = t 1; counts = t 2; sections = t 4; profiles = t 5; strips = t 6; marks = t 7 }
 
     count-tests : (i : ℕ) → getD (leb 1 (getD words 0 0) ∷ leb (getD words 0 0) 64 ∷ leb (getD words 1 0) 64 ∷ leb (getD words 2 0) 64 ∷ leb (getD words 3 0) 64 ∷ leb (getD words 4 0) 64 ∷ leb 1 (getD words 5 0) ∷ leb (getD words 5 0) 16 ∷ leb (getD words 6 0) 16 ∷ []) i true ≡ true
     unfolding countsOk
@@ -248,9 +296,9 @@ module _ (words : List ℕ) (numbers : List Float) where
     pub structured-is : Structured
     unfolding roadOf
     structured-is =
-        let n = leb-true 7937 (length numbers) (tests .long-numbers) in
+        let n = leb-true 8449 (length numbers) (tests .long-numbers) in
         record {
-          words-long = leb-true 1347 (length words) (tests .long-words);
+          words-long = leb-true 1891 (length words) (tests .long-words);
           numbers-long = n;
           geoms = rw (geom-count words numbers) (record { enough = leb-true 1 (getD words 0 0) (count-tests 0); few = leb-true (getD words 0 0) 64 (count-tests 1) });
           elevations = flat 449 1 (count-tests 2);
@@ -264,4 +312,6 @@ module _ (words : List ℕ) (numbers : List Float) where
           profiles = rw (profile-count words numbers) (leb-true (getD words 6 0) 16 (count-tests 8));
           shapes = λ i l. let m = rw (profile-count words numbers) at l in shapes-few i n m (all-at (profileOk words numbers) (getD words 6 0) (tests .profiles) i m);
           columns = columns-most (tests .strips);
+          marks = marks-most (tests .marks);
+          mark-lanes = marks-on (tests .marks);
         }

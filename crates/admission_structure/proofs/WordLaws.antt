@@ -8,7 +8,7 @@ use lib.Dec.{leb, ltb, eqb}
 use lib.Ieee.{Float}
 use borrow.Author.Tests.{le-leb, lt-leb}
 use Rattle.records_lent.specs.Lists.{allBelow}
-use Rattle.admission_structure.specs.Structure.{rangeOk, countsOk, kindsOk, laneOk, sectionOk, profileOk, columnOk, stripOk, structured}
+use Rattle.admission_structure.specs.Structure.{rangeOk, countsOk, kindsOk, laneOk, sectionOk, profileOk, columnOk, stripOk, marksOk, structured}
 
 module _ (words : List ℕ) (numbers : List Float) (i : ℕ) where
   -- the i-th lane of the table
@@ -36,6 +36,19 @@ module _ (words : List ℕ) (numbers : List Float) (i : ℕ) where
     unfolding sectionOk
     section-over h = rw (← e, ← f, ← g, h)
 
+  module _
+      {first count left right : ℕ} (e : first ≡ getD words (1347 + i * 2) 0) (f : count ≡ getD words (1347 + i * 2 + 1) 0) (g : left ≡ getD words (71 + i * 3 + 1) 0)
+      (h : right ≡ getD words (71 + i * 3 + 2) 0) where
+    pub marks-lanes :
+        {range ok : Bool} → range ≡ rangeOk 0 16 256 first count → range ≡ true
+        → ok ≡ allBelow (λ j. ltb (getD words (1379 + (first + j) * 2) 0) (left + right)) count → ok ≡ marksOk words numbers i
+    unfolding marksOk
+    marks-lanes r t k = rw (← e, ← f, ← g, ← h, ← r, t) k
+
+    pub marks-over : {range : Bool} → range ≡ rangeOk 0 16 256 first count → range ≡ false → false ≡ marksOk words numbers i
+    unfolding marksOk
+    marks-over r t = rw (← e, ← f, ← g, ← h, ← r, t)
+
 -- an answer turned round, as a branch on it tells
 is-false : (b : Bool) → not b ≡ true → b ≡ false
 is-false true h = sym h
@@ -53,21 +66,21 @@ module _ (words : List ℕ) (numbers : List Float) where
   unfolding countsOk
   counts-by e f g h i j k = rw (e, f, g, h, i, j, k)
 
-  pub short-words : length words < 1347 → false ≡ structured words numbers
+  pub short-words : length words < 1891 → false ≡ structured words numbers
   unfolding structured
-  short-words h = rw (lt-leb 1347 (length words) h)
+  short-words h = rw (lt-leb 1891 (length words) h)
 
-  pub short-numbers : length numbers < 7937 → false ≡ structured words numbers
+  pub short-numbers : length numbers < 8449 → false ≡ structured words numbers
   unfolding structured
-  short-numbers h = rw (lt-leb 7937 (length numbers) h, and-false (leb 1347 (length words)))
+  short-numbers h = rw (lt-leb 8449 (length numbers) h, and-false (leb 1891 (length words)))
 
   pub counts-wrong : {a : Bool} → a ≡ countsOk words numbers → not a ≡ true → false ≡ structured words numbers
   unfolding structured
-  counts-wrong {a} e h = rw (← e, is-false a h, and-false (leb 1347 (length words) && leb 7937 (length numbers)))
+  counts-wrong {a} e h = rw (← e, is-false a h, and-false (leb 1891 (length words) && leb 8449 (length numbers)))
 
   pub structured-by :
-      {a k s p t : Bool} → 1347 ≤ length words → 7937 ≤ length numbers → a ≡ countsOk words numbers → not a ≡ false → k ≡ kindsOk words numbers
+      {a k s p t m : Bool} → 1891 ≤ length words → 8449 ≤ length numbers → a ≡ countsOk words numbers → not a ≡ false → k ≡ kindsOk words numbers
       → s ≡ allBelow (sectionOk words numbers) (getD words 5 0) → p ≡ allBelow (profileOk words numbers) (getD words 6 0) → t ≡ allBelow (stripOk words numbers) 4
-      → k && s && p && t ≡ structured words numbers
+      → m ≡ allBelow (marksOk words numbers) (getD words 5 0) → k && s && p && t && m ≡ structured words numbers
   unfolding structured
-  structured-by {a} l m e h k s p t = rw (le-leb 1347 (length words) l, le-leb 7937 (length numbers) m, ← e, is-true a h, k, s, p, t)
+  structured-by {a} l n e h k s p t m = rw (le-leb 1891 (length words) l, le-leb 8449 (length numbers) n, ← e, is-true a h, k, s, p, t, m)

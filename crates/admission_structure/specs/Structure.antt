@@ -9,7 +9,7 @@ use lib.Dec.{leb, ltb, eqb}
 use lib.Ieee.{Float}
 use Rattle.records_lent.specs.Lists.{allBelow}
 use Rattle.records.specs.Roads.{wordAt}
-use Rattle.records.specs.Layout.{geomCountAt, elevCountAt, bankCountAt, offsetCountAt, tshiftCountAt, sectionCountAt, profileCountAt, kindWords, sectionWords, sectionStride, laneWords, laneStride, profileWords, profileStride, stripWords, stripStride, wordsNeeded, numbersNeeded, mostGeoms, mostElevs, mostBanks, mostOffsets, mostShifts, mostSections, mostLanesASide, mostLanes, mostExtentsALane, mostExtents, mostHeightsALane, mostHeights, mostProfiles, mostShapesAProfile, mostShapes, mostCubicsATerm, mostCubics}
+use Rattle.records.specs.Layout.{geomCountAt, elevCountAt, bankCountAt, offsetCountAt, tshiftCountAt, sectionCountAt, profileCountAt, kindWords, sectionWords, sectionStride, laneWords, laneStride, profileWords, profileStride, stripWords, stripStride, wordsNeeded, numbersNeeded, mostGeoms, mostElevs, mostBanks, mostOffsets, mostShifts, mostSections, mostLanesASide, mostLanes, mostExtentsALane, mostExtents, mostHeightsALane, mostHeights, mostProfiles, mostShapesAProfile, mostShapes, mostCubicsATerm, mostCubics, sectionMarkWords, sectionMarkStride, markWords, markStride, mostMarksASection, mostMarks}
 
 -- "a range past its slice's end, is 3": least to most lines, inside a table of limit lines
 abbrev pub rangeOk : ℕ → ℕ → ℕ → ℕ → ℕ → Bool
@@ -59,7 +59,16 @@ module _ (words : List ℕ) (numbers : List Float) where
   unfolding allBelow columnOk
   stripOk i = let code = w (stripWords + i * stripStride) in ltb code 3 && (eqb code 0 || allBelow (columnOk i) 5)
 
+  -- document 02, point 2: "at most 16 a section and 256 in all"; "any other wrong count, order, section or lane id is 3": each is on a lane of its section
+  unfoldable pub marksOk : ℕ → Bool
+  unfolding allBelow
+  marksOk i =
+      let k = sectionMarkWords + i * sectionMarkStride in
+      let lanes = w (sectionWords + i * sectionStride + 1) + w (sectionWords + i * sectionStride + 2) in
+      rangeOk 0 mostMarksASection mostMarks (w k) (w (k + 1)) && allBelow (λ j. ltb (w (markWords + (w k + j) * markStride)) lanes) (w (k + 1))
+
   -- "counts, references or order wrong", but for the order
   unfoldable pub structured : Bool
-  unfolding allBelow countsOk kindsOk sectionOk profileOk stripOk
-  structured = slicesOk && countsOk && kindsOk && allBelow sectionOk (w sectionCountAt) && allBelow profileOk (w profileCountAt) && allBelow stripOk 4
+  unfolding allBelow countsOk kindsOk sectionOk profileOk stripOk marksOk
+  structured =
+      slicesOk && countsOk && kindsOk && allBelow sectionOk (w sectionCountAt) && allBelow profileOk (w profileCountAt) && allBelow stripOk 4 && allBelow marksOk (w sectionCountAt)

@@ -1,4 +1,5 @@
 // Counts, codes and ranges of the lent words. Each count is tested before anything loops over it, so that a broken road is refused at once.
+use crate::marks::marks_ok;
 use records::layout::BANK_COUNT_AT;
 use records::layout::ELEV_COUNT_AT;
 use records::layout::GEOM_COUNT_AT;
@@ -43,7 +44,7 @@ ghost use Rattle.records.specs.Layout.{sectionCountAt, profileCountAt};
 ghost use Rattle.admission_structure.specs.Structure.{rangeOk, countsOk, kindsOk, laneOk, sectionOk, profileOk, columnOk, stripOk, structured};
 
 // A range of least to most lines inside a table of limit lines.
-fn range_ok(least: usize, most: usize, limit: usize, first: usize, count: usize) -> bool
+pub(crate) fn range_ok(least: usize, most: usize, limit: usize, first: usize, count: usize) -> bool
     requires { ⌜ (first < 65536) × (count < 65536) ⌝ }
     ensures { λ r. ⌜ r ≡ rangeOk least most limit first count ⌝ }
 {
@@ -233,4 +234,5 @@ pub fn structured(words: &[u16], numbers: &[f64]) -> bool
         & sections_ok(words, numbers)
         & profiles_ok(words, numbers)
         & strips_ok(words, numbers)
+        & marks_ok(words, numbers)
 }

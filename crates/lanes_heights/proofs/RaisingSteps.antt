@@ -1,11 +1,8 @@
--- The steps of a side's heights as the code takes them: level from its lane outward, one lane across from where its inner neighbour ends, and a test that some lane passes.
-use mathlib.Core.Path.{_≡_, refl, sym, ap, _∙_}
-use mathlib.Core.Logic.{⊎-elim}
+-- The steps of a side's heights as the code takes them: level from its lane outward and one lane across from where its inner neighbour ends.
+use mathlib.Core.Path.{_≡_, refl}
 use mathlib.Core.Bool.{Bool, true, false, _||_}
 use mathlib.Core.List.{List}
-use Prim.Native.Nat.{ℕ, zero, suc, _+_, _/_, _≤_, _<_}
-use native.Mathlib.Nat.{eq-or-lt-of-le}
-use native.Mathlib.Omega.{arith}
+use Prim.Native.Nat.{ℕ, zero, suc, _+_, _/_}
 use native.Mathlib.Numerals.{add-one}
 use lib.Dec.{ltb}
 use lib.ListN.{length, getD}
@@ -19,7 +16,7 @@ use Rattle.lanes.specs.Lateral.{heightOf, heightToward}
 use Rattle.lanes_borders.specs.declared.across.LaneBorders.{LaneBorders}
 use Rattle.lanes_heights.specs.declared.across.Across.{Across}
 use Rattle.lanes_borders.specs.Borders.{signOf, outerAfter, bordersFrom, bordersAt, baseAt, sideLanes, bordersOf}
-use Rattle.lanes_heights.specs.Heights.{levelUpTo, levelHeights, tiltedHeights, acrossBy, ownHeights, heightAfter, heightsAt, acrossAt, isRaised, anyBelow}
+use Rattle.lanes_heights.specs.Heights.{levelUpTo, levelHeights, tiltedHeights, acrossBy, ownHeights, heightAfter, heightsAt, acrossAt, isRaised}
 
 -- ---- level
 
@@ -90,28 +87,3 @@ height-first road i s tangent right e f g = rw (g, f, e)
 
 pub raised-is : (lane : Lane) (xs : List Float) {m : Bool} → heightsOf xs ≡ lane .heights → m ≡ lane .level → ltb 0 (length xs / 3) || m ≡ isRaised lane
 raised-is lane xs e f = rw (← height-count xs, e, f)
-
-or-left : (a b : Bool) → a ≡ true → a || b ≡ true
-or-left a b e = rw e
-
-or-right : (a b : Bool) → b ≡ true → a || b ≡ true
-or-right true b e = refl
-or-right false b e = e
-
-module _ (p : ℕ → Bool) where
-  pub any-none : anyBelow p 0 ≡ false
-  unfolding anyBelow
-  any-none = refl
-
-  -- none so far, and not this one
-  pub any-next : (k : ℕ) → anyBelow p k ≡ false → p k ≡ false → anyBelow p (k + 1) ≡ false
-  unfolding anyBelow
-  any-next k e f = rw (add-one, e, f)
-
-  -- this one
-  pub any-hit : (n k : ℕ) → k < n → p k ≡ true → anyBelow p n ≡ true
-  unfolding anyBelow
-  any-hit zero k l e = absurd (omega arith)
-  any-hit (suc n) k l e =
-      let le : k ≤ n = omega arith in
-      ⊎-elim (λ (h : k ≡ n). or-right (anyBelow p n) (p n) (ap p (sym h) ∙ e)) (λ (h : k < n). or-left (anyBelow p n) (p n) (any-hit n k h e)) (eq-or-lt-of-le le)

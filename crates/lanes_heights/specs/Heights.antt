@@ -7,6 +7,7 @@ use lib.ListN.{length, getD}
 use lib.Dec.{ltb}
 use lib.Ieee.{Float}
 use Rattle.float_laws.specs.Binary64.{_⊕_, _⊖_, _⊗_}
+use Rattle.records_lent.specs.Lists.{anyBelow}
 use Rattle.records.specs.Roads.{Road, Lane, noLane, sectionOf}
 use Rattle.lanes_borders.specs.declared.across.LaneBorders.{LaneBorders}
 use Rattle.lanes.specs.declared.pairs.Pair.{Pair}
@@ -68,11 +69,6 @@ module _ (road : Road) (i : ℕ) (s : Float) (tangent : Float) (right : Bool) wh
 
 abbrev pub isRaised : Lane → Bool
 isRaised lane = ltb 0 (length (lane .heights)) || lane .level
-
--- the test passes at some index below n
-unfoldable pub anyBelow : (ℕ → Bool) → ℕ → Bool
-anyBelow p zero = false
-anyBelow p (suc n) = anyBelow p n || p n
 
 unfoldable pub sectionRaised : Road → ℕ → Bool
 unfolding anyBelow

@@ -5,9 +5,10 @@ use records_lanes::lane_is_level;
 ghost use mathlib.Core.Path.{_≡_};
 ghost use Prim.Native.Nat.{ℕ};
 ghost use lib.ListN.{length, getD};
+ghost use Rattle.records_lent.specs.Lists.{anyBelow};
 ghost use Rattle.records.specs.Roads.{lentRoad, laneOf, noLane};
 ghost use Rattle.lanes_borders.specs.Borders.{sideLanes};
-ghost use Rattle.lanes_heights.specs.Heights.{isRaised, anyBelow, sectionRaised};
+ghost use Rattle.lanes_heights.specs.Heights.{isRaised, sectionRaised};
 
 // ---- whether a section's lanes stand off the road at all
 fn lane_raised(words: &[u16], numbers: &[f64], section: usize, right: bool, k: usize) -> bool

@@ -83,4 +83,4 @@ pub read-fits : (text : List ℕ) (l m n at count : ℕ) (progress : Progress) (
 unfolding zeroNumbers
 read-fits text l m n at count progress ws ns vs read =
     let a = accepted text l m n at count progress ws ns vs read in
-    subst FitBy (a .tables) (tables-fit 15 0 text 0 0 startProgress (zeros l) (zeroNumbers m) (zeros n) (blank-fits m))
+    subst FitBy (a .tables) (tables-fit 16 0 text 0 0 startProgress (zeros l) (zeroNumbers m) (zeros n) (blank-fits m))

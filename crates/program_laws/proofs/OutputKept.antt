@@ -61,9 +61,9 @@ by-rows false c s t p = refl
 
 -- ---- an accepted text
 
-module _ (text : List ℕ) (at count : ℕ) (progress : Progress) (words : List ℕ) (numbers : List Float) (wants : List ℕ) (read : readingOf text 1347 7937 32 ≡ done at count progress words numbers wants) where
+module _ (text : List ℕ) (at count : ℕ) (progress : Progress) (words : List ℕ) (numbers : List Float) (wants : List ℕ) (read : readingOf text 1891 8449 32 ≡ done at count progress words numbers wants) where
   ok : admitted words numbers ≡ true
-  ok = value-admitted words numbers (accepted text 1347 7937 32 at count progress words numbers wants read .admits)
+  ok = value-admitted words numbers (accepted text 1891 8449 32 at count progress words numbers wants read .admits)
 
   abbrev road : Road
   road = roadOf words numbers
@@ -71,8 +71,8 @@ module _ (text : List ℕ) (at count : ℕ) (progress : Progress) (words : List 
   abbrev own : List Float
   own = samplesOf road
 
-  said : AsSaid text 1347 7937 32 at count progress words numbers wants
-  said = read-says text 1347 7937 32 at count progress words numbers wants read
+  said : AsSaid text 1891 8449 32 at count progress words numbers wants
+  said = read-says text 1891 8449 32 at count progress words numbers wants read
 
   room : leb (samplesNeeded road) (length own / 4) ≡ true
   room =
@@ -99,21 +99,21 @@ module _ (text : List ℕ) (at count : ℕ) (progress : Progress) (words : List 
       ∙ ap (λ (l : List ℕ). l ++ wantLines words numbers own (patterns rs ++ zs) (length rs)) (line-is (cellOf r 0) (cellOf r 1))
       ∙ ap (λ (l : List ℕ). wantSaid road (cellOf r 0) (cellOf r 1) ++ l) (lines-are rs zs)
 
-  written : outputOf text ≡ namesLine ++ linesSaid (roadSaid (linesOf text)) (linesOf text 14)
+  written : outputOf text ≡ namesLine ++ linesSaid (roadSaid (linesOf text)) (linesOf text 15)
   unfolding outputOf wantsText
   written =
       ap writtenFor read
       ∙ ap (λ (k : ℕ). namesLine ++ wantLines words numbers own wants k) (said .wants)
-      ∙ ap (λ (vs : List ℕ). namesLine ++ wantLines words numbers own vs (length (linesOf text 14))) (said .wants-held)
-      ∙ ap (λ (l : List ℕ). namesLine ++ l) (lines-are (linesOf text 14) (zeros (32 - length (patterns (linesOf text 14)))))
-      ∙ ap (λ (r : Road). namesLine ++ linesSaid r (linesOf text 14)) (said .road)
+      ∙ ap (λ (vs : List ℕ). namesLine ++ wantLines words numbers own vs (length (linesOf text 15))) (said .wants-held)
+      ∙ ap (λ (l : List ℕ). namesLine ++ l) (lines-are (linesOf text 15) (zeros (32 - length (patterns (linesOf text 15)))))
+      ∙ ap (λ (r : Road). namesLine ++ linesSaid r (linesOf text 15)) (said .road)
 
   point-called : (s t : ℕ) → onRoad road (f64 s) ≡ true → acrossRoad (f64 t) ≡ true → surfaceCall words numbers own (f64 s) (f64 t) ≡ value (here s t)
   point-called s t on across = rows s t ∙ rw (on, across)
 
   kept : (s t : ℕ) → onRoad road (f64 s) ≡ true → acrossRoad (f64 t) ≡ true → SizedPoint (pointAt road s t .x) (pointAt road s t .y) (pointAt road s t .z)
   kept s t on across =
-      let fitting = read-fits text 1347 7937 32 at count progress words numbers wants read in
+      let fitting = read-fits text 1891 8449 32 at count progress words numbers wants read in
       own-surface-kept words numbers ok fitting (f64 s) (f64 t) (ofBits-fits binary64 s) (ofBits-fits binary64 t) (here s t) (point-called s t on across)
 
   kept-said : (s t : ℕ) → onRoad (roadSaid (linesOf text)) (f64 s) ≡ true → acrossRoad (f64 t) ≡ true
@@ -135,10 +135,10 @@ by-outcome P (stop m) n e f = let z : _≡_ {A = ℕ} 0 1 = ap tag e in absurd (
     tag (refused k) = 0
 
 pub written-says : WrittenSays
-written-says text job = by-outcome (outputOf text ≡ namesLine ++ linesSaid (roadSaid (linesOf text)) (linesOf text 14)) (readingOf text 1347 7937 32) (job .count) (job .accepted) (written text)
+written-says text job = by-outcome (outputOf text ≡ namesLine ++ linesSaid (roadSaid (linesOf text)) (linesOf text 15)) (readingOf text 1891 8449 32) (job .count) (job .accepted) (written text)
 
 pub written-kept : WrittenKept
 written-kept text job s t on across =
     by-outcome (SizedPoint (pointAt (roadSaid (linesOf text)) s t .x) (pointAt (roadSaid (linesOf text)) s t .y) (pointAt (roadSaid (linesOf text)) s t .z))
-    (readingOf text 1347 7937 32) (job .count) (job .accepted)
+    (readingOf text 1891 8449 32) (job .count) (job .accepted)
     (λ at count progress words numbers wants e. kept-said text at count progress words numbers wants e s t on across)

@@ -82,12 +82,12 @@ text-put words numbers wants l n samples {r} {xs} {ys} e f g h =
 -- ---- what was read
 
 module _ (text : List ℕ) where
-  accepted-by : (o : Outcome) → readingOf text 1347 7937 32 ≡ o → {n : ℕ} {ws : List ℕ} {ns : List Float} {vs : List ℕ}
-      → value n ≡ verdictOf o → ws ≡ wordsHeld 1347 o → ns ≡ numbersHeld 7937 o → vs ≡ wantsHeld 32 o
+  accepted-by : (o : Outcome) → readingOf text 1891 8449 32 ≡ o → {n : ℕ} {ws : List ℕ} {ns : List Float} {vs : List ℕ}
+      → value n ≡ verdictOf o → ws ≡ wordsHeld 1891 o → ns ≡ numbersHeld 8449 o → vs ≡ wantsHeld 32 o
       → (admitted ws ns ≡ true) × (n ≤ 16) × (wantsText ws ns vs n ≡ writtenFor o)
   accepted-by (done at count progress us xs ys) r {n} {ws} {ns} {vs} e f g h =
-      let a = accepted text 1347 7937 32 at count progress us xs ys r in
-      let b = wants-few text 1347 7937 32 at count progress us xs ys r in
+      let a = accepted text 1891 8449 32 at count progress us xs ys r in
+      let b = wants-few text 1891 8449 32 at count progress us xs ys r in
       let c = same-value e in
       let d : admitted ws ns ≡ true = ap (λ (w : List ℕ). admitted w ns) f ∙ ap (λ (w : List Float). admitted us w) g ∙ value-admitted us xs (a .admits) in
       let t : wantsText ws ns vs n ≡ wantsText us xs ys count =
@@ -99,25 +99,25 @@ module _ (text : List ℕ) where
   accepted-by (stop m) r e f g h = absurd (no-value (sym e))
 
   -- an accepted reading, into slices of the lengths that the program has
-  pub accepted-job : {l m k n : ℕ} {ws : List ℕ} {ns : List Float} {vs : List ℕ} → l ≡ 1347 → m ≡ 7937 → k ≡ 32
+  pub accepted-job : {l m k n : ℕ} {ws : List ℕ} {ns : List Float} {vs : List ℕ} → l ≡ 1891 → m ≡ 8449 → k ≡ 32
       → value n ≡ verdictOf (readingOf text l m k) → ws ≡ wordsHeld l (readingOf text l m k) → ns ≡ numbersHeld m (readingOf text l m k) → vs ≡ wantsHeld k (readingOf text l m k)
-      → (admitted ws ns ≡ true) × (n ≤ 16) × (wantsText ws ns vs n ≡ writtenFor (readingOf text 1347 7937 32))
+      → (admitted ws ns ≡ true) × (n ≤ 16) × (wantsText ws ns vs n ≡ writtenFor (readingOf text 1891 8449 32))
   accepted-job p q w e f g h =
-      accepted-by (readingOf text 1347 7937 32) refl (rw (p, q, w) at e) (rw (p, q, w) at f) (rw (p, q, w) at g) (rw (p, q, w) at h)
+      accepted-by (readingOf text 1891 8449 32) refl (rw (p, q, w) at e) (rw (p, q, w) at f) (rw (p, q, w) at g) (rw (p, q, w) at h)
 
   refused-by : (o : Outcome) {n : ℕ} → refused n ≡ verdictOf o → refusedLine n ≡ writtenFor o
   refused-by (done at count progress us xs ys) e = absurd (no-value e)
   refused-by (stop m) e = ap refusedLine (same-refusal e)
 
-  pub refused-job : {l m k n : ℕ} → l ≡ 1347 → m ≡ 7937 → k ≡ 32 → refused n ≡ verdictOf (readingOf text l m k) → refusedLine n ≡ writtenFor (readingOf text 1347 7937 32)
-  refused-job p q w e = refused-by (readingOf text 1347 7937 32) (rw (p, q, w) at e)
+  pub refused-job : {l m k n : ℕ} → l ≡ 1891 → m ≡ 8449 → k ≡ 32 → refused n ≡ verdictOf (readingOf text l m k) → refusedLine n ≡ writtenFor (readingOf text 1891 8449 32)
+  refused-job p q w e = refused-by (readingOf text 1891 8449 32) (rw (p, q, w) at e)
 
   -- ---- "the names and 16 wants of 61 bytes"
 
-  few-by : (o : Outcome) → readingOf text 1347 7937 32 ≡ o → length (writtenFor o) ≤ 986
+  few-by : (o : Outcome) → readingOf text 1891 8449 32 ≡ o → length (writtenFor o) ≤ 986
   unfolding wantsText refusedLine
   few-by (done at count progress us xs ys) r =
-      let a = wants-few text 1347 7937 32 at count progress us xs ys r in
+      let a = wants-few text 1891 8449 32 at count progress us xs ys r in
       let s = samplesOf (roadOf us xs) in
       let b = lines-few us xs s ys count in
       let c = length-append namesLine (wantLines us xs s ys count) in
@@ -126,7 +126,7 @@ module _ (text : List ℕ) where
 
   pub output-few : length (outputOf text) ≤ 986
   unfolding outputOf
-  output-few = few-by (readingOf text 1347 7937 32) refl
+  output-few = few-by (readingOf text 1891 8449 32) refl
 
   -- ---- the contract of `answer`
 
@@ -136,12 +136,12 @@ module _ (text : List ℕ) where
   put-is : (out vs : List ℕ) → length vs ≤ length out → sets out 0 vs ≡ vs ++ drop (length vs) out
   put-is out vs h = let l : 0 + length vs ≤ length out = omega arith in sets-eq vs out 0 l ∙ ap (λ (k : ℕ). vs ++ drop k out) (zero-add (length vs))
 
-  pub answered : (out : List ℕ) {r : ℕ} {t ys : List ℕ} → 986 ≤ length out → t ≡ writtenFor (readingOf text 1347 7937 32) → r ≡ length t → ys ≡ sets out 0 t → (r ≡ bytesWritten text out) × (ys ≡ answeredIn text out)
+  pub answered : (out : List ℕ) {r : ℕ} {t ys : List ℕ} → 986 ≤ length out → t ≡ writtenFor (readingOf text 1891 8449 32) → r ≡ length t → ys ≡ sets out 0 t → (r ≡ bytesWritten text out) × (ys ≡ answeredIn text out)
   unfolding outputOf
   answered out {r} {t} {ys} h e f g =
-      let k = few-by (readingOf text 1347 7937 32) refl in
-      let w : ys ≡ writtenFor (readingOf text 1347 7937 32) ++ drop (length (writtenFor (readingOf text 1347 7937 32))) out =
-      g ∙ ap (λ (z : List ℕ). sets out 0 z) e ∙ put-is out (writtenFor (readingOf text 1347 7937 32)) (omega arith) in
+      let k = few-by (readingOf text 1891 8449 32) refl in
+      let w : ys ≡ writtenFor (readingOf text 1891 8449 32) ++ drop (length (writtenFor (readingOf text 1891 8449 32))) out =
+      g ∙ ap (λ (z : List ℕ). sets out 0 z) e ∙ put-is out (writtenFor (readingOf text 1891 8449 32)) (omega arith) in
       rw (le-leb 986 (length out) h) (f ∙ ap length e, w)
 
   -- what was written lies within out
@@ -149,6 +149,6 @@ module _ (text : List ℕ) where
   unfolding outputOf
   count-fits out = go (leb 986 (length out)) refl
     where
-      go : (b : Bool) → leb 986 (length out) ≡ b → cond b (length (writtenFor (readingOf text 1347 7937 32))) 0 ≤ length out
-      go true e = let h = leb-true 986 (length out) e in let k = few-by (readingOf text 1347 7937 32) refl in omega arith
+      go : (b : Bool) → leb 986 (length out) ≡ b → cond b (length (writtenFor (readingOf text 1891 8449 32))) 0 ≤ length out
+      go true e = let h = leb-true 986 (length out) e in let k = few-by (readingOf text 1891 8449 32) refl in omega arith
       go false e = omega arith

@@ -1,4 +1,4 @@
--- An accepted job has 16 wants at most: the last of the fifteen tables is `want`, and a table has no more lines than its limit.
+-- An accepted job has 16 wants at most: the last of the sixteen tables is `want`, and a table has no more lines than its limit.
 use Prim.Native.Nat.{ℕ, zero, suc, _+_, _≤_}
 use native.Mathlib.Omega.{arith}
 use mathlib.Core.Path.{_≡_, refl, ap, _∙_, subst}
@@ -24,15 +24,15 @@ few-end : (b : Bool) (at n : ℕ) (progress : Progress) (ws : List ℕ) (ns : Li
 few-end true at n progress ws ns vs h = tt
 few-end false at n progress ws ns vs h = h
 
-want-limit : limitOf 14 ≡ 16
+want-limit : limitOf 15 ≡ 16
 unfolding limits limitOf
 want-limit = refl
 
-tables-few : (n t : ℕ) (text : List ℕ) (at count : ℕ) (progress : Progress) (ws : List ℕ) (ns : List Float) (vs : List ℕ) → t + n ≡ 14 → Few (tablesFrom (suc n) t text at count progress ws ns vs)
+tables-few : (n t : ℕ) (text : List ℕ) (at count : ℕ) (progress : Progress) (ws : List ℕ) (ns : List Float) (vs : List ℕ) → t + n ≡ 15 → Few (tablesFrom (suc n) t text at count progress ws ns vs)
 unfolding tablesFrom
 tables-few zero t text at count progress ws ns vs e = step (tableLines t text at) (tableAt t text at progress ws ns vs) (table-agree t text at progress ws ns vs)
   where
-    last : t ≡ 14
+    last : t ≡ 15
     last = omega arith
 
     step : (p : Lines) (o : Outcome) → Agree t (limitOf t) 0 ns p o → Few (byOutcome o (λ at' count' progress' us xs vs'. tablesFrom 0 (t + 1) text at' count' (countedProgress t count' progress') us xs vs'))
@@ -54,4 +54,4 @@ tables-few (suc n) t text at count progress ws ns vs e =
 pub wants-few : (text : List ℕ) (l m n at count : ℕ) (progress : Progress) (ws : List ℕ) (ns : List Float) (vs : List ℕ) → readingOf text l m n ≡ done at count progress ws ns vs → count ≤ 16
 wants-few text l m n at count progress ws ns vs read =
     let a = accepted text l m n at count progress ws ns vs read in
-    subst Few (a .tables) (tables-few 14 0 text 0 0 startProgress (zeros l) (zeroNumbers m) (zeros n) refl)
+    subst Few (a .tables) (tables-few 15 0 text 0 0 startProgress (zeros l) (zeroNumbers m) (zeros n) refl)

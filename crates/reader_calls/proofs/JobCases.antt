@@ -74,18 +74,18 @@ filled-by (stop m) taken r us xs ys a e = e ∙ judged-stop taken us xs m (a .0)
 
 module _ (text ws : List ℕ) (ns : List Float) (vs : List ℕ) where
   -- the tests of lengths
-  pub fill-room : (r : Read) (us : List ℕ) (xs : List Float) (ys : List ℕ) → ((leb 1347 (length ws) && leb 7937 (length ns)) && leb 32 (length vs)) ≡ false → readAnswer r ≡ refused 2
+  pub fill-room : (r : Read) (us : List ℕ) (xs : List Float) (ys : List ℕ) → ((leb 1891 (length ws) && leb 8449 (length ns)) && leb 32 (length vs)) ≡ false → readAnswer r ≡ refused 2
       → Filled (readingBy text ws ns vs) r us xs ys
   unfolding readingBy
   fill-room r us xs ys h e = rw h e
 
-  module _ (h : ((leb 1347 (length ws) && leb 7937 (length ns)) && leb 32 (length vs)) ≡ true) where
+  module _ (h : ((leb 1891 (length ws) && leb 8449 (length ns)) && leb 32 (length vs)) ≡ true) where
     pub fill-text : (r : Read) (us : List ℕ) (xs : List Float) (ys : List ℕ) → 65536 < length text → readAnswer r ≡ refused 2
         → Filled (readingBy text ws ns vs) r us xs ys
     unfolding readingBy
     fill-text r us xs ys l e = rw (h, lt-ltb 65536 (length text) l) e
 
-    pub reading-is : length text ≤ 65536 → readingBy text ws ns vs ≡ judge (tablesFrom 15 0 text 0 0 startProgress ws ns vs)
+    pub reading-is : length text ≤ 65536 → readingBy text ws ns vs ≡ judge (tablesFrom 16 0 text 0 0 startProgress ws ns vs)
     unfolding readingBy
     reading-is l = rw (h, le-ltb 65536 (length text) l)
 

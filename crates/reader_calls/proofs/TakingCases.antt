@@ -105,7 +105,7 @@ module _ (table lines : ℕ) (progress : Progress) where
   counted-right h = rw h
 
 pub tables-start : (text : List ℕ) (ws : List ℕ) (ns : List Float) (vs : List ℕ) {progress : Progress} → progress ≡ startProgress
-    → tablesFrom 15 0 text 0 0 startProgress ws ns vs ≡ tablesFrom (15 - 0) 0 text 0 0 progress ws ns vs
+    → tablesFrom 16 0 text 0 0 startProgress ws ns vs ≡ tablesFrom (16 - 0) 0 text 0 0 progress ws ns vs
 tables-start text ws ns vs e = rw e
 
 one-more : (limit table : ℕ) → table < limit → limit - table ≡ suc (limit - (table + 1))

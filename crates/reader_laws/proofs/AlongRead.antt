@@ -30,7 +30,7 @@ use Rattle.reader_laws.proofs.Memory.{these, blanks, numbers, noughts, 
 abbrev pub memoryWords : List ℕ
 memoryWords =
     these (3 ∷ 2 ∷ 2 ∷ 0 ∷ 0 ∷ 1 ∷ 0 ∷ 0 ∷ 1 ∷ 2 ∷ []) (
-    blanks 1337 (
+    blanks 1881 (
     []))
 
 abbrev pub memoryNumbers : List Float
@@ -40,7 +40,7 @@ memoryNumbers =
     numbers (0x3fe0000000000000 ∷ 0x3f80800000000000 ∷ 0xbf71800000000000 ∷ 0x3f62800000000000 ∷ 0x3f43800000000000 ∷ 0x4012000000000000 ∷ 0x3f84800000000000 ∷ 0xbf75800000000000 ∷ 0x3f66800000000000 ∷ 0x3f47800000000000 ∷ []) (
     noughts 310 (
     numbers (0x3fe4000000000000 ∷ 0x3f78800000000000 ∷ 0xbf69800000000000 ∷ 0x3f4a800000000000 ∷ 0x3f2b800000000000 ∷ 0x4012800000000000 ∷ 0x3f7c800000000000 ∷ 0xbf6d800000000000 ∷ 0x3f4e800000000000 ∷ 0x3f2f800000000000 ∷ []) (
-    noughts 7158 (
+    noughts 7670 (
     []))))))
 
 abbrev memoryWants : List ℕ
@@ -50,19 +50,19 @@ abbrev progress : Progress
 progress = record { sound = true; last = 0; strips = stripsOf 0 0 0 0 }
 
 along-taken : taken alongLines ≡ done 927 2 progress memoryWords memoryNumbers memoryWants
-unfolding cells-schema.names cells-schema.nameOf cells-schema.limits cells-schema.limitOf cells-schema.words cells-schema.wordOf cells-schema.firsts cells-schema.counts cells-schema.firstOf cells-schema.wordCount cells-schema.kinds cells-schema.columnKind cells-schema.seek cells-schema.placeOf cells-cells.digitOf cells-cells.nameFrom cells-cells.nameSpan cells-cells.decimalFrom cells-cells.naturalAt cells-cells.wholeAt cells-cells.hexFrom cells-cells.hexAt cells-cells.listedAt cells-cells.cellAt rows-namesline.columnAt rows-namesline.namesFrom rows-namesline.headAt rows-valuesline.stopOf rows-valuesline.valuesRead rows-valuesline.valuesAt store-layout.places store-layout.placeAt store-layout.numbers store-layout.numberPlace store-layout.words store-layout.wordPlace store-layout.counts store-layout.countPlace store-layout.rules store-layout.ruleOf store-layout.bases store-layout.baseOf store-layout.strides store-layout.strideOf store-layout.codeOf store-layout.oneMore store-layout.numberPut store-layout.wordPut store-layout.numbersBelow store-layout.wordsBelow store-layout.wantsKept store-layout.countKept store-tracks.stripLine store-tracks.listedAs store-parents.counted store-parents.sideOf store-parents.laneTurn store-parents.laneAmong store-parents.laneIndex store-parents.termOf store-parents.indexOf store-parents.rangeOf store-parents.parentOf store-keep.firstLine store-keep.added store-keep.inOrder store-keep.underWords store-keep.underProgress store-keep.stripsKept store-keep.stripProgress store-keep.ruledWords store-keep.ruledProgress store-keep.keptWords store-keep.keptProgress linesFrom tableAt countedProgress tablesFrom zeros zeroNumbers
+unfolding cells-schema.names cells-schema.nameOf cells-schema.limits cells-schema.limitOf cells-schema.words cells-schema.wordOf cells-schema.firsts cells-schema.counts cells-schema.firstOf cells-schema.wordCount cells-schema.kinds cells-schema.columnKind cells-schema.seek cells-schema.placeOf cells-cells.digitOf cells-cells.nameFrom cells-cells.nameSpan cells-cells.decimalFrom cells-cells.naturalAt cells-cells.wholeAt cells-cells.hexFrom cells-cells.hexAt cells-cells.listedAt cells-cells.cellAt rows-namesline.columnAt rows-namesline.namesFrom rows-namesline.headAt rows-valuesline.stopOf rows-valuesline.valuesRead rows-valuesline.valuesAt store-layout.places store-layout.placeAt store-layout.numbers store-layout.numberPlace store-layout.words store-layout.wordPlace store-layout.counts store-layout.countPlace store-layout.rules store-layout.ruleOf store-layout.bases store-layout.baseOf store-layout.strides store-layout.strideOf store-layout.codeOf store-layout.oneMore store-layout.numberPut store-layout.wordPut store-layout.numbersBelow store-layout.wordsBelow store-layout.wantsKept store-layout.countKept store-tracks.stripLine store-tracks.listedAs store-parents.counted store-parents.sideOf store-parents.laneTurn store-parents.laneAmong store-parents.laneIndex store-parents.markLane store-parents.markIndex store-parents.termOf store-parents.indexOf store-parents.rangeOf store-parents.parentOf store-keep.firstLine store-keep.added store-keep.inOrder store-keep.underWords store-keep.underProgress store-keep.stripsKept store-keep.stripProgress store-keep.markPut store-keep.ownWords store-keep.ruledWords store-keep.ruledProgress store-keep.keptWords store-keep.keptProgress linesFrom tableAt countedProgress tablesFrom zeros zeroNumbers
 along-taken = refl
 
 along-stands : records-roads.roadOf memoryWords memoryNumbers ≡ alongRoad
-unfolding records-roads.heightsOf records-roads.geomIn records-roads.unusedIn records-roads.laneIn records-roads.sectionIn records-roads.profileIn records-roads.columnIn records-roads.stripIn records-roads.roadOf records-cubics.cubicsOf records-lists.tabulate
+unfolding records-roads.heightsOf records-roads.geomIn records-roads.unusedIn records-roads.laneIn records-roads.markIn records-roads.sectionIn records-roads.profileIn records-roads.columnIn records-roads.stripIn records-roads.roadOf records-cubics.cubicsOf records-lists.tabulate
 along-stands = refl
 
 along-structured : structure-structure.structured memoryWords memoryNumbers ≡ true
-unfolding structure-structure.countsOk structure-structure.kindsOk structure-structure.laneOk structure-structure.sectionOk structure-structure.profileOk structure-structure.columnOk structure-structure.stripOk structure-structure.structured records-lists.allBelow
+unfolding structure-structure.countsOk structure-structure.kindsOk structure-structure.laneOk structure-structure.sectionOk structure-structure.profileOk structure-structure.columnOk structure-structure.stripOk structure-structure.marksOk structure-structure.structured records-lists.allBelow
 along-structured = refl
 
 along-admitted : (structure-order.ordered alongRoad ≡ true) × (limits-limits.limited alongRoad ≡ true) × (leb (reference-line-spiral.samplesNeeded alongRoad) 2000 ≡ true)
-unfolding records-lists.tabulate records-lists.allBelow reference-line-spiral.goesOn reference-line-spiral.stepsFrom reference-line-spiral.spiralSteps reference-line-spiral.sampleCount reference-line-spiral.samplesBefore reference-line-spiral.samplesNeeded structure-order.neverFall structure-order.riseStrictly structure-order.apart structure-order.cubicsInOrder structure-order.laneInOrder structure-order.sectionInOrder structure-order.profilesInOrder structure-order.stripInOrder structure-order.ordered limits-bounds.reachAt limits-bounds.boundOf limits-bounds.slopeBoundOf limits-bounds.cubicWithin limits-bounds.cubicsWithin limits-bounds.slopesWithin limits-bounds.greatest limits-bounds.greatestBound limits-limits.shapeLimited limits-limits.geomLimited limits-limits.sectionExtent limits-limits.heightLimited limits-limits.heightsLimited limits-limits.laneLimited limits-limits.sectionLimited limits-limits.profileLimited limits-limits.stripLimited limits-limits.limited ofBits add sub mul div le lt neg
+unfolding records-lists.tabulate records-lists.allBelow reference-line-spiral.goesOn reference-line-spiral.stepsFrom reference-line-spiral.spiralSteps reference-line-spiral.sampleCount reference-line-spiral.samplesBefore reference-line-spiral.samplesNeeded structure-order.neverFall structure-order.riseStrictly structure-order.apart structure-order.cubicsInOrder structure-order.laneInOrder structure-order.sectionInOrder structure-order.profilesInOrder structure-order.stripInOrder structure-order.marksInOrder structure-order.ordered limits-bounds.reachAt limits-bounds.boundOf limits-bounds.slopeBoundOf limits-bounds.cubicWithin limits-bounds.cubicsWithin limits-bounds.slopesWithin limits-bounds.greatest limits-bounds.greatestBound limits-limits.shapeLimited limits-limits.geomLimited limits-limits.sectionExtent limits-limits.heightLimited limits-limits.heightsLimited limits-limits.laneLimited limits-limits.sectionLimited limits-limits.profileLimited limits-limits.stripLimited limits-limits.markLimited limits-limits.marksLimited limits-limits.limited ofBits add sub mul div le lt neg
 along-admitted = (refl, refl, refl)
 
 pub along-read : Reads alongLines alongRoad alongWants 2

@@ -32,7 +32,7 @@ memoryWords =
     these (1 ∷ 0 ∷ 0 ∷ 2 ∷ 2 ∷ 1 ∷ 2 ∷ []) (
     blanks 1265 (
     these (2 ∷ 2 ∷ 2 ∷ []) (
-    blanks 72 (
+    blanks 616 (
     []))))
 
 abbrev pub memoryNumbers : List Float
@@ -46,7 +46,7 @@ memoryNumbers =
     numbers (0x3ff0000000000000 ∷ 0x401c000000000000 ∷ []) (
     noughts 14 (
     numbers (0xc044000000000000 ∷ 0x3f81800000000000 ∷ 0xbf02800000000000 ∷ 0x3e83800000000000 ∷ 0x3e04800000000000 ∷ 0x4034000000000000 ∷ 0x3f85800000000000 ∷ 0xbf06800000000000 ∷ 0x3e87800000000000 ∷ 0x3e08800000000000 ∷ 0xc03e000000000000 ∷ 0x3f89800000000000 ∷ 0xbf0a800000000000 ∷ 0x3e8b800000000000 ∷ 0x3e0c800000000000 ∷ 0x403e000000000000 ∷ 0x3f8d800000000000 ∷ 0xbf0e800000000000 ∷ 0x3e8f800000000000 ∷ 0x3e10400000000000 ∷ []) (
-    noughts 2060 (
+    noughts 2572 (
     []))))))))))
 
 abbrev memoryWants : List ℕ
@@ -56,19 +56,19 @@ abbrev progress : Progress
 progress = record { sound = true; last = 0; strips = stripsOf 0 0 0 0 }
 
 aside-taken : taken asideLines ≡ done 1022 0 progress memoryWords memoryNumbers memoryWants
-unfolding cells-schema.names cells-schema.nameOf cells-schema.limits cells-schema.limitOf cells-schema.words cells-schema.wordOf cells-schema.firsts cells-schema.counts cells-schema.firstOf cells-schema.wordCount cells-schema.kinds cells-schema.columnKind cells-schema.seek cells-schema.placeOf cells-cells.digitOf cells-cells.nameFrom cells-cells.nameSpan cells-cells.decimalFrom cells-cells.naturalAt cells-cells.wholeAt cells-cells.hexFrom cells-cells.hexAt cells-cells.listedAt cells-cells.cellAt rows-namesline.columnAt rows-namesline.namesFrom rows-namesline.headAt rows-valuesline.stopOf rows-valuesline.valuesRead rows-valuesline.valuesAt store-layout.places store-layout.placeAt store-layout.numbers store-layout.numberPlace store-layout.words store-layout.wordPlace store-layout.counts store-layout.countPlace store-layout.rules store-layout.ruleOf store-layout.bases store-layout.baseOf store-layout.strides store-layout.strideOf store-layout.codeOf store-layout.oneMore store-layout.numberPut store-layout.wordPut store-layout.numbersBelow store-layout.wordsBelow store-layout.wantsKept store-layout.countKept store-tracks.stripLine store-tracks.listedAs store-parents.counted store-parents.sideOf store-parents.laneTurn store-parents.laneAmong store-parents.laneIndex store-parents.termOf store-parents.indexOf store-parents.rangeOf store-parents.parentOf store-keep.firstLine store-keep.added store-keep.inOrder store-keep.underWords store-keep.underProgress store-keep.stripsKept store-keep.stripProgress store-keep.ruledWords store-keep.ruledProgress store-keep.keptWords store-keep.keptProgress linesFrom tableAt countedProgress tablesFrom zeros zeroNumbers
+unfolding cells-schema.names cells-schema.nameOf cells-schema.limits cells-schema.limitOf cells-schema.words cells-schema.wordOf cells-schema.firsts cells-schema.counts cells-schema.firstOf cells-schema.wordCount cells-schema.kinds cells-schema.columnKind cells-schema.seek cells-schema.placeOf cells-cells.digitOf cells-cells.nameFrom cells-cells.nameSpan cells-cells.decimalFrom cells-cells.naturalAt cells-cells.wholeAt cells-cells.hexFrom cells-cells.hexAt cells-cells.listedAt cells-cells.cellAt rows-namesline.columnAt rows-namesline.namesFrom rows-namesline.headAt rows-valuesline.stopOf rows-valuesline.valuesRead rows-valuesline.valuesAt store-layout.places store-layout.placeAt store-layout.numbers store-layout.numberPlace store-layout.words store-layout.wordPlace store-layout.counts store-layout.countPlace store-layout.rules store-layout.ruleOf store-layout.bases store-layout.baseOf store-layout.strides store-layout.strideOf store-layout.codeOf store-layout.oneMore store-layout.numberPut store-layout.wordPut store-layout.numbersBelow store-layout.wordsBelow store-layout.wantsKept store-layout.countKept store-tracks.stripLine store-tracks.listedAs store-parents.counted store-parents.sideOf store-parents.laneTurn store-parents.laneAmong store-parents.laneIndex store-parents.markLane store-parents.markIndex store-parents.termOf store-parents.indexOf store-parents.rangeOf store-parents.parentOf store-keep.firstLine store-keep.added store-keep.inOrder store-keep.underWords store-keep.underProgress store-keep.stripsKept store-keep.stripProgress store-keep.markPut store-keep.ownWords store-keep.ruledWords store-keep.ruledProgress store-keep.keptWords store-keep.keptProgress linesFrom tableAt countedProgress tablesFrom zeros zeroNumbers
 aside-taken = refl
 
 aside-stands : records-roads.roadOf memoryWords memoryNumbers ≡ asideRoad
-unfolding records-roads.heightsOf records-roads.geomIn records-roads.unusedIn records-roads.laneIn records-roads.sectionIn records-roads.profileIn records-roads.columnIn records-roads.stripIn records-roads.roadOf records-cubics.cubicsOf records-lists.tabulate
+unfolding records-roads.heightsOf records-roads.geomIn records-roads.unusedIn records-roads.laneIn records-roads.markIn records-roads.sectionIn records-roads.profileIn records-roads.columnIn records-roads.stripIn records-roads.roadOf records-cubics.cubicsOf records-lists.tabulate
 aside-stands = refl
 
 aside-structured : structure-structure.structured memoryWords memoryNumbers ≡ true
-unfolding structure-structure.countsOk structure-structure.kindsOk structure-structure.laneOk structure-structure.sectionOk structure-structure.profileOk structure-structure.columnOk structure-structure.stripOk structure-structure.structured records-lists.allBelow
+unfolding structure-structure.countsOk structure-structure.kindsOk structure-structure.laneOk structure-structure.sectionOk structure-structure.profileOk structure-structure.columnOk structure-structure.stripOk structure-structure.marksOk structure-structure.structured records-lists.allBelow
 aside-structured = refl
 
 aside-admitted : (structure-order.ordered asideRoad ≡ true) × (limits-limits.limited asideRoad ≡ true) × (leb (reference-line-spiral.samplesNeeded asideRoad) 2000 ≡ true)
-unfolding records-lists.tabulate records-lists.allBelow reference-line-spiral.goesOn reference-line-spiral.stepsFrom reference-line-spiral.spiralSteps reference-line-spiral.sampleCount reference-line-spiral.samplesBefore reference-line-spiral.samplesNeeded structure-order.neverFall structure-order.riseStrictly structure-order.apart structure-order.cubicsInOrder structure-order.laneInOrder structure-order.sectionInOrder structure-order.profilesInOrder structure-order.stripInOrder structure-order.ordered limits-bounds.reachAt limits-bounds.boundOf limits-bounds.slopeBoundOf limits-bounds.cubicWithin limits-bounds.cubicsWithin limits-bounds.slopesWithin limits-bounds.greatest limits-bounds.greatestBound limits-limits.shapeLimited limits-limits.geomLimited limits-limits.sectionExtent limits-limits.heightLimited limits-limits.heightsLimited limits-limits.laneLimited limits-limits.sectionLimited limits-limits.profileLimited limits-limits.stripLimited limits-limits.limited ofBits add sub mul div le lt neg
+unfolding records-lists.tabulate records-lists.allBelow reference-line-spiral.goesOn reference-line-spiral.stepsFrom reference-line-spiral.spiralSteps reference-line-spiral.sampleCount reference-line-spiral.samplesBefore reference-line-spiral.samplesNeeded structure-order.neverFall structure-order.riseStrictly structure-order.apart structure-order.cubicsInOrder structure-order.laneInOrder structure-order.sectionInOrder structure-order.profilesInOrder structure-order.stripInOrder structure-order.marksInOrder structure-order.ordered limits-bounds.reachAt limits-bounds.boundOf limits-bounds.slopeBoundOf limits-bounds.cubicWithin limits-bounds.cubicsWithin limits-bounds.slopesWithin limits-bounds.greatest limits-bounds.greatestBound limits-limits.shapeLimited limits-limits.geomLimited limits-limits.sectionExtent limits-limits.heightLimited limits-limits.heightsLimited limits-limits.laneLimited limits-limits.sectionLimited limits-limits.profileLimited limits-limits.stripLimited limits-limits.markLimited limits-limits.marksLimited limits-limits.limited ofBits add sub mul div le lt neg
 aside-admitted = (refl, refl, refl)
 
 pub aside-read : Reads asideLines asideRoad asideWants 0

@@ -30,15 +30,15 @@ use Rattle.reader_laws.proofs.LinesKept.{Agree, table-agree}
 
 -- ---- the layout's tests: words of lines and ranges stand past the counts; each count has its own word
 
-words-test : allBelow (λ t. allBelow (λ c. eqb (wordPlace t c) 0 || leb 7 (placeAt t 2)) 8) 15 ≡ true
+words-test : allBelow (λ t. allBelow (λ c. eqb (wordPlace t c) 0 || leb 7 (placeAt t 2)) 8) 16 ≡ true
 unfolding allBelow placeAt places wordPlace words
 words-test = refl
 
-counts-test : allBelow (λ t. leb (countPlace t) 7 && allBelow (λ u. eqb (countPlace t) 0 || (not (eqb (countPlace t) (countPlace u)) || eqb t u)) 15) 15 ≡ true
+counts-test : allBelow (λ t. leb (countPlace t) 7 && allBelow (λ u. eqb (countPlace t) 0 || (not (eqb (countPlace t) (countPlace u)) || eqb t u)) 16) 16 ≡ true
 unfolding allBelow countPlace counts
 counts-test = refl
 
-module _ (t : ℕ) (small : t < 15) where
+module _ (t : ℕ) (small : t < 16) where
   column-below : (c : ℕ) → 0 < wordPlace t c → c < 8
   unfolding wordPlace
   column-below c h = go (ltb c 8) refl h
@@ -49,7 +49,7 @@ module _ (t : ℕ) (small : t < 15) where
 
   pub word-past : (c : ℕ) → 0 < wordPlace t c → 7 ≤ placeAt t 2
   word-past c h =
-      let a = all-at (λ c. eqb (wordPlace t c) 0 || leb 7 (placeAt t 2)) 8 (all-at (λ t. allBelow (λ c. eqb (wordPlace t c) 0 || leb 7 (placeAt t 2)) 8) 15 words-test t small) c (column-below c h) in
+      let a = all-at (λ c. eqb (wordPlace t c) 0 || leb 7 (placeAt t 2)) 8 (all-at (λ t. allBelow (λ c. eqb (wordPlace t c) 0 || leb 7 (placeAt t 2)) 8) 16 words-test t small) c (column-below c h) in
       leb-true 7 (placeAt t 2) (or-else (eqb (wordPlace t c) 0) (leb 7 (placeAt t 2)) a (ne-eqb (wordPlace t c) 0 (λ z. omega arith)))
 
 -- ---- a table
@@ -64,19 +64,19 @@ abbrev pub TalliedBy : ℕ → List ℕ → Outcome → Type 0
 TalliedBy t ws (stop m) = Unit {0}
 TalliedBy t ws (done at n progress us ns vs) = Tallied t ws n us
 
-module _ (t : ℕ) (small : t < 15) where
-  row : (leb (countPlace t) 7 ≡ true) × (allBelow (λ u. eqb (countPlace t) 0 || (not (eqb (countPlace t) (countPlace u)) || eqb t u)) 15 ≡ true)
+module _ (t : ℕ) (small : t < 16) where
+  row : (leb (countPlace t) 7 ≡ true) × (allBelow (λ u. eqb (countPlace t) 0 || (not (eqb (countPlace t) (countPlace u)) || eqb t u)) 16 ≡ true)
   row =
-      let a = all-at (λ t. leb (countPlace t) 7 && allBelow (λ u. eqb (countPlace t) 0 || (not (eqb (countPlace t) (countPlace u)) || eqb t u)) 15) 15 counts-test t small in
-      let c = chain-at (leb (countPlace t) 7) (allBelow (λ u. eqb (countPlace t) 0 || (not (eqb (countPlace t) (countPlace u)) || eqb t u)) 15 ∷ []) a in
+      let a = all-at (λ t. leb (countPlace t) 7 && allBelow (λ u. eqb (countPlace t) 0 || (not (eqb (countPlace t) (countPlace u)) || eqb t u)) 16) 16 counts-test t small in
+      let c = chain-at (leb (countPlace t) 7) (allBelow (λ u. eqb (countPlace t) 0 || (not (eqb (countPlace t) (countPlace u)) || eqb t u)) 16 ∷ []) a in
       (c 0, c 1)
 
   pub count-few : countPlace t ≤ 7
   count-few = leb-true (countPlace t) 7 (row .0)
 
-  count-own : (u : ℕ) → u < 15 → 0 < countPlace t → countPlace t ≡ countPlace u → t ≡ u
+  count-own : (u : ℕ) → u < 16 → 0 < countPlace t → countPlace t ≡ countPlace u → t ≡ u
   count-own u l p e =
-      let a = all-at (λ u. eqb (countPlace t) 0 || (not (eqb (countPlace t) (countPlace u)) || eqb t u)) 15 (row .1) u l in
+      let a = all-at (λ u. eqb (countPlace t) 0 || (not (eqb (countPlace t) (countPlace u)) || eqb t u)) 16 (row .1) u l in
       let b = or-else (eqb (countPlace t) 0) (not (eqb (countPlace t) (countPlace u)) || eqb t u) a (ne-eqb (countPlace t) 0 (λ z. omega arith)) in
       eqb-true t u (or-else (not (eqb (countPlace t) (countPlace u))) (eqb t u) b (ap not (eq-eqb (countPlace t) (countPlace u) e)))
 
@@ -142,13 +142,13 @@ CountsBy n t ws tables (done at count progress us ns vs) = Counts n t ws us tabl
 
 -- no count yet of a table from t on
 abbrev pub Blank : ℕ → List ℕ → Type 0
-Blank t ws = (u : ℕ) → t ≤ u → u < 15 → 0 < countPlace u → getD ws (countPlace u - 1) 0 ≡ 0
+Blank t ws = (u : ℕ) → t ≤ u → u < 16 → 0 < countPlace u → getD ws (countPlace u - 1) 0 ≡ 0
 
-module _ (n t : ℕ) (most : t + suc n ≤ 15) (ws : List ℕ) (long : 7 ≤ length ws) (rows : List Cells) (k : ℕ) (all : k ≡ 0 + length rows) (us : List ℕ) (tally : Tallied t ws k us) where
-  small : t < 15
+module _ (n t : ℕ) (most : t + suc n ≤ 16) (ws : List ℕ) (long : 7 ≤ length ws) (rows : List Cells) (k : ℕ) (all : k ≡ 0 + length rows) (us : List ℕ) (tally : Tallied t ws k us) where
+  small : t < 16
   small = omega arith
 
-  apart : (u v : ℕ) → u < 15 → v < 15 → u < v → 0 < countPlace u → 0 < countPlace v → countPlace u - 1 ≡ countPlace v - 1 → ⊥
+  apart : (u v : ℕ) → u < 16 → v < 16 → u < v → 0 < countPlace u → 0 < countPlace v → countPlace u - 1 ≡ countPlace v - 1 → ⊥
   apart u v l m h p q e = let f = count-own u l v m p (omega arith) in omega arith
 
   still-blank : Blank t ws → Blank (t + 1) us
@@ -176,7 +176,7 @@ module _ (n t : ℕ) (most : t + suc n ≤ 15) (ws : List ℕ) (long : 7 ≤ len
           subst (λ (w : ℕ). getD xs (countPlace w - 1) 0 ≡ length rows) r (first (subst (λ (w : ℕ). 0 < countPlace w) (sym r) p))
       counted-as (suc i) u e l p = h .count i u (omega arith) (le-of-suc-le-suc l) p
 
-pub tables-counted : (n t : ℕ) (text : List ℕ) (at count : ℕ) (progress : Progress) (ws : List ℕ) (ns : List Float) (vs : List ℕ) → t + n ≤ 15 → 7 ≤ length ws → Blank t ws
+pub tables-counted : (n t : ℕ) (text : List ℕ) (at count : ℕ) (progress : Progress) (ws : List ℕ) (ns : List Float) (vs : List ℕ) → t + n ≤ 16 → 7 ≤ length ws → Blank t ws
     → CountsBy n t ws (tablesLines n t text at) (tablesFrom n t text at count progress ws ns vs)
 unfolding tablesLines tablesFrom
 tables-counted zero t text at count progress ws ns vs most long blank = go (ltb at (length text))
@@ -209,14 +209,14 @@ zeros-blank (suc n) zero = refl
 zeros-blank (suc n) (suc i) = zeros-blank n i
 
 module _ (text : List ℕ) (l m n at count : ℕ) (progress : Progress) (ws : List ℕ) (ns : List Float) (vs : List ℕ) (read : Stored text l m n (done at count progress ws ns vs)) where
-  all-counts : Counts 15 0 (zeros l) ws (tablesLines 15 0 text 0)
+  all-counts : Counts 16 0 (zeros l) ws (tablesLines 16 0 text 0)
   all-counts =
       let a = read in
       let long = a .words-long in
-      subst (λ (o : Outcome). CountsBy 15 0 (zeros l) (tablesLines 15 0 text 0) o) (a .tables)
-      (tables-counted 15 0 text 0 0 startProgress (zeros l) (zeroNumbers m) (zeros n) (omega arith) (omega arith) (λ u h i p. zeros-blank l (countPlace u - 1)))
+      subst (λ (o : Outcome). CountsBy 16 0 (zeros l) (tablesLines 16 0 text 0) o) (a .tables)
+      (tables-counted 16 0 text 0 0 startProgress (zeros l) (zeroNumbers m) (zeros n) (omega arith) (omega arith) (λ u h i p. zeros-blank l (countPlace u - 1)))
 
   -- of geom, elev, bank, offset, tshift, section and profile
-  pub count-kept : (t : ℕ) → t < 15 → 0 < countPlace t → getD ws (countPlace t - 1) 0 ≡ length (linesOf text t)
+  pub count-kept : (t : ℕ) → t < 16 → 0 < countPlace t → getD ws (countPlace t - 1) 0 ≡ length (linesOf text t)
   unfolding linesOf
   count-kept t h = all-counts .count t t (sym (zero-add t)) h

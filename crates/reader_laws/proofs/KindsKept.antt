@@ -63,7 +63,7 @@ kind-line k cells progress ws = ap (λ (p : ℕ). set ws p (codeOf (cellOf cells
     place k = omega arith
 
 -- a count is kept below 7
-count-past : (t : ℕ) → t < 15 → (n : ℕ) (ws : List ℕ) (j : ℕ) → 7 ≤ j → getD (countKept t n ws) j 0 ≡ getD ws j 0
+count-past : (t : ℕ) → t < 16 → (n : ℕ) (ws : List ℕ) (j : ℕ) → 7 ≤ j → getD (countKept t n ws) j 0 ≡ getD ws j 0
 unfolding countKept
 count-past t small n ws j h = go (ltb 0 (countPlace t)) refl
   where
@@ -116,7 +116,7 @@ kinds-table text at progress ws ns vs =
 
 -- ---- the other tables
 
-others-test : allBelow (λ t. allBelow (λ c. eqb t 1 || (eqb (wordPlace t c) 0 || leb 71 (placeAt t 2))) 8) 15 ≡ true
+others-test : allBelow (λ t. allBelow (λ c. eqb t 1 || (eqb (wordPlace t c) 0 || leb 71 (placeAt t 2))) 8) 16 ≡ true
 unfolding allBelow placeAt places wordPlace words
 others-test = refl
 
@@ -132,7 +132,7 @@ count-length t n ws = go (ltb 0 (countPlace t))
     go true = length-set ws (countPlace t - 1) n
     go false = refl
 
-module _ (t : ℕ) (small : t < 15) (unlike : t ≡ 1 → ⊥) where
+module _ (t : ℕ) (small : t < 16) (unlike : t ≡ 1 → ⊥) where
   column-below : (c : ℕ) → 0 < wordPlace t c → c < 8
   unfolding wordPlace
   column-below c h = go (ltb c 8) refl h
@@ -143,7 +143,7 @@ module _ (t : ℕ) (small : t < 15) (unlike : t ≡ 1 → ⊥) where
 
   word-past : (c : ℕ) → 0 < wordPlace t c → 71 ≤ placeAt t 2
   word-past c h =
-      let a = all-at (λ c. eqb t 1 || (eqb (wordPlace t c) 0 || leb 71 (placeAt t 2))) 8 (all-at (λ t. allBelow (λ c. eqb t 1 || (eqb (wordPlace t c) 0 || leb 71 (placeAt t 2))) 8) 15 others-test t small) c (column-below c h) in
+      let a = all-at (λ c. eqb t 1 || (eqb (wordPlace t c) 0 || leb 71 (placeAt t 2))) 8 (all-at (λ t. allBelow (λ c. eqb t 1 || (eqb (wordPlace t c) 0 || leb 71 (placeAt t 2))) 8) 16 others-test t small) c (column-below c h) in
       let b = or-else (eqb t 1) (eqb (wordPlace t c) 0 || leb 71 (placeAt t 2)) a (ne-eqb t 1 unlike) in
       leb-true 71 (placeAt t 2) (or-else (eqb (wordPlace t c) 0) (leb 71 (placeAt t 2)) b (ne-eqb (wordPlace t c) 0 (λ z. omega arith)))
 
@@ -220,7 +220,7 @@ join-geom n ws us rows long few put tables (done at count progress xs ns vs) h =
         ∙ kinds-same rows 0 k ws m (omega arith)
     kinds (suc i) k e l m = absurd (omega arith)
 
-tables-kinds : (n t : ℕ) (text : List ℕ) (at count : ℕ) (progress : Progress) (ws : List ℕ) (ns : List Float) (vs : List ℕ) → t + n ≤ 15 → (t ≤ 1 → 71 ≤ length ws)
+tables-kinds : (n t : ℕ) (text : List ℕ) (at count : ℕ) (progress : Progress) (ws : List ℕ) (ns : List Float) (vs : List ℕ) → t + n ≤ 16 → (t ≤ 1 → 71 ≤ length ws)
     → KindsOf n t ws (tablesLines n t text at) (tablesFrom n t text at count progress ws ns vs)
 unfolding tablesLines tablesFrom
 tables-kinds zero t text at count progress ws ns vs most long = go (ltb at (length text))
@@ -264,8 +264,8 @@ pub kind-kept : (text : List ℕ) (l m n at count : ℕ) (progress : Progress) (
 unfolding linesOf
 kind-kept text l m n at count progress ws ns vs read k h =
     let a = read in
-    let all : Kinds 15 0 (zeros l) ws (tablesLines 15 0 text 0) =
-    subst (λ (o : Outcome). KindsOf 15 0 (zeros l) (tablesLines 15 0 text 0) o) (a .tables)
-    (tables-kinds 15 0 text 0 0 startProgress (zeros l) (zeroNumbers m) (zeros n) (omega arith) (λ z. let w = a .words-long in omega arith))
+    let all : Kinds 16 0 (zeros l) ws (tablesLines 16 0 text 0) =
+    subst (λ (o : Outcome). KindsOf 16 0 (zeros l) (tablesLines 16 0 text 0) o) (a .tables)
+    (tables-kinds 16 0 text 0 0 startProgress (zeros l) (zeroNumbers m) (zeros n) (omega arith) (λ z. let w = a .words-long in omega arith))
     in
     all .kind 1 k refl (omega arith) h

@@ -36,8 +36,12 @@ memoryWords =
     these (1 ∷ 0 ∷ 2 ∷ 0 ∷ 1 ∷ 1 ∷ 0 ∷ 0 ∷ 0 ∷ 0 ∷ 0 ∷ 1 ∷ 1 ∷ 2 ∷ 1 ∷ []) (
     blanks 6 (
     these (1 ∷ 2 ∷ 1 ∷ 0 ∷ 3 ∷ 1 ∷ 0 ∷ 0 ∷ 0 ∷ 1 ∷ 4 ∷ 1 ∷ 3 ∷ 1 ∷ []) (
-    blanks 1192 (
-    []))))))))
+    blanks 1193 (
+    these (2 ∷ 2 ∷ 2 ∷ []) (
+    blanks 29 (
+    these (7 ∷ 3 ∷ 255 ∷ 1 ∷ 12 ∷ 0 ∷ 3 ∷ []) (
+    blanks 504 (
+    []))))))))))))
 
 abbrev pub memoryNumbers : List Float
 memoryNumbers =
@@ -49,7 +53,9 @@ memoryNumbers =
     noughts 2535 (
     numbers (0x3fc0000000000000 ∷ 0x3f95800000000000 ∷ 0xbf96800000000000 ∷ 0x4002000000000000 ∷ 0x3f97800000000000 ∷ 0x3f98800000000000 ∷ 0x4003000000000000 ∷ 0x3f99800000000000 ∷ 0x3f9a800000000000 ∷ 0x4004000000000000 ∷ 0xbf9b800000000000 ∷ 0x3f9c800000000000 ∷ []) (
     noughts 3620 (
-    []))))))))
+    numbers (0x3fb8000000000000 ∷ 0x3ff0800000000000 ∷ 0x3fe2000000000000 ∷ 0x4001000000000000 ∷ 0x3ff9000000000000 ∷ 0x400a000000000000 ∷ 0x3fe6000000000000 ∷ 0x3fee000000000000 ∷ []) (
+    noughts 504 (
+    []))))))))))
 
 abbrev memoryWants : List ℕ
 memoryWants = these lanesWants (blanks 32 [])
@@ -57,22 +63,22 @@ memoryWants = these lanesWants (blanks 32 [])
 abbrev progress : Progress
 progress = record { sound = true; last = 0; strips = stripsOf 0 0 0 0 }
 
-lanes-taken : taken lanesLines ≡ done 1085 0 progress memoryWords memoryNumbers memoryWants
-unfolding cells-schema.names cells-schema.nameOf cells-schema.limits cells-schema.limitOf cells-schema.words cells-schema.wordOf cells-schema.firsts cells-schema.counts cells-schema.firstOf cells-schema.wordCount cells-schema.kinds cells-schema.columnKind cells-schema.seek cells-schema.placeOf cells-cells.digitOf cells-cells.nameFrom cells-cells.nameSpan cells-cells.decimalFrom cells-cells.naturalAt cells-cells.wholeAt cells-cells.hexFrom cells-cells.hexAt cells-cells.listedAt cells-cells.cellAt rows-namesline.columnAt rows-namesline.namesFrom rows-namesline.headAt rows-valuesline.stopOf rows-valuesline.valuesRead rows-valuesline.valuesAt store-layout.places store-layout.placeAt store-layout.numbers store-layout.numberPlace store-layout.words store-layout.wordPlace store-layout.counts store-layout.countPlace store-layout.rules store-layout.ruleOf store-layout.bases store-layout.baseOf store-layout.strides store-layout.strideOf store-layout.codeOf store-layout.oneMore store-layout.numberPut store-layout.wordPut store-layout.numbersBelow store-layout.wordsBelow store-layout.wantsKept store-layout.countKept store-tracks.stripLine store-tracks.listedAs store-parents.counted store-parents.sideOf store-parents.laneTurn store-parents.laneAmong store-parents.laneIndex store-parents.termOf store-parents.indexOf store-parents.rangeOf store-parents.parentOf store-keep.firstLine store-keep.added store-keep.inOrder store-keep.underWords store-keep.underProgress store-keep.stripsKept store-keep.stripProgress store-keep.ruledWords store-keep.ruledProgress store-keep.keptWords store-keep.keptProgress linesFrom tableAt countedProgress tablesFrom zeros zeroNumbers
+lanes-taken : taken lanesLines ≡ done 1282 0 progress memoryWords memoryNumbers memoryWants
+unfolding cells-schema.names cells-schema.nameOf cells-schema.limits cells-schema.limitOf cells-schema.words cells-schema.wordOf cells-schema.firsts cells-schema.counts cells-schema.firstOf cells-schema.wordCount cells-schema.kinds cells-schema.columnKind cells-schema.seek cells-schema.placeOf cells-cells.digitOf cells-cells.nameFrom cells-cells.nameSpan cells-cells.decimalFrom cells-cells.naturalAt cells-cells.wholeAt cells-cells.hexFrom cells-cells.hexAt cells-cells.listedAt cells-cells.cellAt rows-namesline.columnAt rows-namesline.namesFrom rows-namesline.headAt rows-valuesline.stopOf rows-valuesline.valuesRead rows-valuesline.valuesAt store-layout.places store-layout.placeAt store-layout.numbers store-layout.numberPlace store-layout.words store-layout.wordPlace store-layout.counts store-layout.countPlace store-layout.rules store-layout.ruleOf store-layout.bases store-layout.baseOf store-layout.strides store-layout.strideOf store-layout.codeOf store-layout.oneMore store-layout.numberPut store-layout.wordPut store-layout.numbersBelow store-layout.wordsBelow store-layout.wantsKept store-layout.countKept store-tracks.stripLine store-tracks.listedAs store-parents.counted store-parents.sideOf store-parents.laneTurn store-parents.laneAmong store-parents.laneIndex store-parents.markLane store-parents.markIndex store-parents.termOf store-parents.indexOf store-parents.rangeOf store-parents.parentOf store-keep.firstLine store-keep.added store-keep.inOrder store-keep.underWords store-keep.underProgress store-keep.stripsKept store-keep.stripProgress store-keep.markPut store-keep.ownWords store-keep.ruledWords store-keep.ruledProgress store-keep.keptWords store-keep.keptProgress linesFrom tableAt countedProgress tablesFrom zeros zeroNumbers
 lanes-taken = refl
 
 lanes-stands : records-roads.roadOf memoryWords memoryNumbers ≡ lanesRoad
-unfolding records-roads.heightsOf records-roads.geomIn records-roads.unusedIn records-roads.laneIn records-roads.sectionIn records-roads.profileIn records-roads.columnIn records-roads.stripIn records-roads.roadOf records-cubics.cubicsOf records-lists.tabulate
+unfolding records-roads.heightsOf records-roads.geomIn records-roads.unusedIn records-roads.laneIn records-roads.markIn records-roads.sectionIn records-roads.profileIn records-roads.columnIn records-roads.stripIn records-roads.roadOf records-cubics.cubicsOf records-lists.tabulate
 lanes-stands = refl
 
 lanes-structured : structure-structure.structured memoryWords memoryNumbers ≡ true
-unfolding structure-structure.countsOk structure-structure.kindsOk structure-structure.laneOk structure-structure.sectionOk structure-structure.profileOk structure-structure.columnOk structure-structure.stripOk structure-structure.structured records-lists.allBelow
+unfolding structure-structure.countsOk structure-structure.kindsOk structure-structure.laneOk structure-structure.sectionOk structure-structure.profileOk structure-structure.columnOk structure-structure.stripOk structure-structure.marksOk structure-structure.structured records-lists.allBelow
 lanes-structured = refl
 
 lanes-admitted : (structure-order.ordered lanesRoad ≡ true) × (limits-limits.limited lanesRoad ≡ true) × (leb (reference-line-spiral.samplesNeeded lanesRoad) 2000 ≡ true)
-unfolding records-lists.tabulate records-lists.allBelow reference-line-spiral.goesOn reference-line-spiral.stepsFrom reference-line-spiral.spiralSteps reference-line-spiral.sampleCount reference-line-spiral.samplesBefore reference-line-spiral.samplesNeeded structure-order.neverFall structure-order.riseStrictly structure-order.apart structure-order.cubicsInOrder structure-order.laneInOrder structure-order.sectionInOrder structure-order.profilesInOrder structure-order.stripInOrder structure-order.ordered limits-bounds.reachAt limits-bounds.boundOf limits-bounds.slopeBoundOf limits-bounds.cubicWithin limits-bounds.cubicsWithin limits-bounds.slopesWithin limits-bounds.greatest limits-bounds.greatestBound limits-limits.shapeLimited limits-limits.geomLimited limits-limits.sectionExtent limits-limits.heightLimited limits-limits.heightsLimited limits-limits.laneLimited limits-limits.sectionLimited limits-limits.profileLimited limits-limits.stripLimited limits-limits.limited ofBits add sub mul div le lt neg
+unfolding records-lists.tabulate records-lists.allBelow reference-line-spiral.goesOn reference-line-spiral.stepsFrom reference-line-spiral.spiralSteps reference-line-spiral.sampleCount reference-line-spiral.samplesBefore reference-line-spiral.samplesNeeded structure-order.neverFall structure-order.riseStrictly structure-order.apart structure-order.cubicsInOrder structure-order.laneInOrder structure-order.sectionInOrder structure-order.profilesInOrder structure-order.stripInOrder structure-order.marksInOrder structure-order.ordered limits-bounds.reachAt limits-bounds.boundOf limits-bounds.slopeBoundOf limits-bounds.cubicWithin limits-bounds.cubicsWithin limits-bounds.slopesWithin limits-bounds.greatest limits-bounds.greatestBound limits-limits.shapeLimited limits-limits.geomLimited limits-limits.sectionExtent limits-limits.heightLimited limits-limits.heightsLimited limits-limits.laneLimited limits-limits.sectionLimited limits-limits.profileLimited limits-limits.stripLimited limits-limits.markLimited limits-limits.marksLimited limits-limits.limited ofBits add sub mul div le lt neg
 lanes-admitted = (refl, refl, refl)
 
 pub lanes-read : Reads lanesLines lanesRoad lanesWants 0
 lanes-read =
-    reads lanesLines lanesRoad lanesWants 0 1085 progress memoryWords memoryNumbers memoryWants refl lanes-taken refl lanes-stands refl lanes-structured (lanes-admitted .0) (lanes-admitted .1) (lanes-admitted .2)
+    reads lanesLines lanesRoad lanesWants 0 1282 progress memoryWords memoryNumbers memoryWants refl lanes-taken refl lanes-stands refl lanes-structured (lanes-admitted .0) (lanes-admitted .1) (lanes-admitted .2)

@@ -13,10 +13,11 @@ use Rattle.records_cubic.specs.declared.cubics.Cubic.{Cubic}
 use Rattle.records_cubic.specs.Cubics.{cubicAt}
 use Rattle.records_cubic.proofs.CubicTables.{cubic-count, cubic-in}
 use Rattle.records.specs.declared.points.HeightDef.{HeightDef}
-use Rattle.records.specs.Layout.{lengthPlace, profileCountAt, geomBase, geomStride, elevBase, bankBase, offsetBase, tshiftBase, sectionBase, extentBase, heightBase, profileBase, shapeBase, cubicBase, numbersNeeded, cubicStride, heightStride, kindWords, sectionWords, sectionStride, laneWords, laneStride, profileWords, profileStride, stripWords, stripStride, wordsNeeded, wantStride, wantsNeeded}
-use Rattle.records.specs.Roads.{Lane, roadOf, geomShapeOf, geomIn, unusedIn, unusedOf, laneIn, sectionIn, profileIn, cubicsIn, heightsIn, heightDefAt, columnIn}
+use Rattle.records.specs.declared.points.Mark.{Mark}
+use Rattle.records.specs.Layout.{lengthPlace, profileCountAt, geomBase, geomStride, elevBase, bankBase, offsetBase, tshiftBase, sectionBase, extentBase, heightBase, profileBase, shapeBase, cubicBase, spanBase, numbersNeeded, cubicStride, heightStride, spanStride, kindWords, sectionWords, sectionStride, laneWords, laneStride, profileWords, profileStride, stripWords, stripStride, sectionMarkWords, sectionMarkStride, markWords, markStride, wordsNeeded, wantStride, wantsNeeded}
+use Rattle.records.specs.Roads.{Lane, roadOf, geomShapeOf, geomIn, unusedIn, unusedOf, laneIn, markIn, sectionIn, profileIn, cubicsIn, heightsIn, heightDefAt, columnIn}
 use Rattle.records.proofs.CubicLaws.{height-count, height-in}
-use Rattle.reader_schema.specs.Tables.{geomTable, elevTable, bankTable, offsetTable, tshiftTable, sectionTable, laneTable, extentTable, heightTable, profileTable, shapeTable, stripTable, cubicTable, wantTable}
+use Rattle.reader_schema.specs.Tables.{geomTable, elevTable, bankTable, offsetTable, tshiftTable, sectionTable, laneTable, extentTable, heightTable, profileTable, shapeTable, stripTable, cubicTable, markTable, wantTable}
 use Rattle.reader_schema.specs.Schema.{limits, limitOf}
 use Rattle.reader_store.specs.Layout.{places, placeAt, numbers, numberPlace, words, wordPlace, counts, countPlace, bases, baseOf, strides, strideOf}
 use Rattle.reader_store.specs.Parents.{sectionWord}
@@ -29,14 +30,14 @@ section-join s = omega arith
 
 -- every table ends where the next begins, at its limit of lines: numbers, then words
 pub limits-join :
-    ((lengthPlace + 1) ∷ (geomBase + limitOf geomTable * geomStride) ∷ (elevBase + limitOf elevTable * cubicStride) ∷ (bankBase + limitOf bankTable * cubicStride) ∷ (offsetBase + limitOf offsetTable * cubicStride) ∷ (tshiftBase + limitOf tshiftTable * cubicStride) ∷ (sectionBase + limitOf sectionTable) ∷ (extentBase + limitOf extentTable * cubicStride) ∷ (heightBase + limitOf heightTable * heightStride) ∷ (profileBase + limitOf profileTable) ∷ (shapeBase + limitOf shapeTable * cubicStride) ∷ (cubicBase + limitOf cubicTable * cubicStride) ∷ [])
-    ≡ geomBase ∷ elevBase ∷ bankBase ∷ offsetBase ∷ tshiftBase ∷ sectionBase ∷ extentBase ∷ heightBase ∷ profileBase ∷ shapeBase ∷ cubicBase ∷ numbersNeeded ∷ []
+    ((lengthPlace + 1) ∷ (geomBase + limitOf geomTable * geomStride) ∷ (elevBase + limitOf elevTable * cubicStride) ∷ (bankBase + limitOf bankTable * cubicStride) ∷ (offsetBase + limitOf offsetTable * cubicStride) ∷ (tshiftBase + limitOf tshiftTable * cubicStride) ∷ (sectionBase + limitOf sectionTable) ∷ (extentBase + limitOf extentTable * cubicStride) ∷ (heightBase + limitOf heightTable * heightStride) ∷ (profileBase + limitOf profileTable) ∷ (shapeBase + limitOf shapeTable * cubicStride) ∷ (cubicBase + limitOf cubicTable * cubicStride) ∷ (spanBase + limitOf markTable * spanStride) ∷ [])
+    ≡ geomBase ∷ elevBase ∷ bankBase ∷ offsetBase ∷ tshiftBase ∷ sectionBase ∷ extentBase ∷ heightBase ∷ profileBase ∷ shapeBase ∷ cubicBase ∷ spanBase ∷ numbersNeeded ∷ []
 unfolding limits limitOf
 limits-join = refl
 
 pub word-limits-join :
-    ((profileCountAt + 1) ∷ (kindWords + limitOf geomTable) ∷ (sectionWords + limitOf sectionTable * sectionStride) ∷ (laneWords + limitOf laneTable * laneStride) ∷ (profileWords + limitOf profileTable * profileStride) ∷ (stripWords + limitOf stripTable * stripStride) ∷ [])
-    ≡ kindWords ∷ sectionWords ∷ laneWords ∷ profileWords ∷ stripWords ∷ wordsNeeded ∷ []
+    ((profileCountAt + 1) ∷ (kindWords + limitOf geomTable) ∷ (sectionWords + limitOf sectionTable * sectionStride) ∷ (laneWords + limitOf laneTable * laneStride) ∷ (profileWords + limitOf profileTable * profileStride) ∷ (stripWords + limitOf stripTable * stripStride) ∷ (sectionMarkWords + limitOf sectionTable * sectionMarkStride) ∷ (markWords + limitOf markTable * markStride) ∷ [])
+    ≡ kindWords ∷ sectionWords ∷ laneWords ∷ profileWords ∷ stripWords ∷ sectionMarkWords ∷ markWords ∷ wordsNeeded ∷ []
 unfolding limits limitOf
 word-limits-join = refl
 
@@ -92,6 +93,10 @@ cubic-same p q r t u = cc
 
 pub height-same : {a b c a' b' c' : Float} → a ≡ a' → b ≡ b' → c ≡ c' → _≡_ {A = HeightDef} (record { «s_offset» = a; inner = b; outer = c }) (record { «s_offset» = a'; inner = b'; outer = c' })
 height-same p q r = cc
+
+pub mark-same : {a b a' b' : ℕ} {c d c' d' : Float} → a ≡ a' → b ≡ b' → c ≡ c' → d ≡ d'
+    → _≡_ {A = Mark} (record { lane = a; kind = b; start = c; end = d }) (record { lane = a'; kind = b'; start = c'; end = d' })
+mark-same p q r t = cc
 
 length-span : (xs : List Float) (start n : ℕ) → length (span xs start n) ≤ n
 length-span xs start n = let l = length-take n (drop start xs) in omega arith
@@ -230,6 +235,16 @@ module _ (ws : List ℕ) (ns : List Float) where
       }
   unfolding laneIn placeAt places wordPlace words baseOf bases strideOf strides
   lane-join j = lane-same (119 + j * 6 + 1) (added 119 (j * 6)) (moved 2 119 (j * 6)) (moved2 2 1 119 (j * 6)) (moved 4 119 (j * 6)) (moved2 4 1 119 (j * 6))
+
+  -- a section's marks, and a mark: its lane and its kind, its span
+  pub marks-join : (i : ℕ) → sectionIn ws ns i .marks ≡ tabulate (λ j. markIn ws ns (firstOf 6 i + j)) (countOf 6 i)
+  unfolding sectionIn baseOf bases strideOf strides
+  marks-join i = refl
+
+  pub mark-join : (j : ℕ)
+      → markIn ws ns j ≡ record { lane = getD ws (markWords + j * markStride) 0; kind = getD ws (markWords + j * markStride + 1) 0; start = numberOf 14 j 2; end = numberOf 14 j 3 }
+  unfolding markIn placeAt places numberPlace numbers
+  mark-join j = mark-same refl refl (ap (λ (p : ℕ). getD ns p nan) (none-added (7937 + j * 2))) refl
 
   -- a profile: its s and its shapes
   pub profile-join : (i : ℕ) → profileIn ws ns i ≡ record { s = numberOf 10 i 0; shapes = cubicsIn ws ns (placeAt 11 0) (firstOf 4 i) (countOf 4 i) }

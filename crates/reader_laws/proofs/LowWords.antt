@@ -14,14 +14,14 @@ use Rattle.reader_lines.specs.Columns.{cellOf}
 use Rattle.reader_lines.specs.declared.columns.Cells.{Cells}
 use Rattle.reader_store.specs.Layout.{placeAt, wordPlace, codeOf, oneMore, wordPut, wordsBelow, rules, ruleOf, bases, baseOf, strideOf}
 use Rattle.reader_store.specs.Progress.{stripLine}
-use Rattle.reader_store.specs.Parents.{laneTurn, indexOf, rangeOf, parentOf}
-use Rattle.reader_store.specs.Keep.{firstLine, added, inOrder, underWords, stripNamed, stripsKept, ruledWords, keptWords}
+use Rattle.reader_store.specs.Parents.{laneTurn, markLane, indexOf, rangeOf, parentOf}
+use Rattle.reader_store.specs.Keep.{firstLine, added, inOrder, underWords, stripNamed, stripsKept, markKind, markPut, ownWords, ruledWords, keptWords}
 use Rattle.reader_store.specs.declared.parents.Parent.{Parent}
 use Rattle.reader_store.specs.declared.progress.Progress.{Progress}
 use Rattle.reader_store.specs.declared.progress.Strips.{Strips}
 
--- the ranges of rules 2 to 5 stand past the sections' words
-rules-test : allBelow (λ t. eqb (ruleOf t) 0 || (eqb (ruleOf t) 6 || (eqb (ruleOf t) 1 || leb 71 (baseOf (ruleOf t))))) 15 ≡ true
+-- the ranges of rules 2 to 6 stand past the sections' words
+rules-test : allBelow (λ t. eqb (ruleOf t) 0 || (eqb (ruleOf t) 7 || (eqb (ruleOf t) 1 || leb 71 (baseOf (ruleOf t))))) 16 ≡ true
 unfolding allBelow ruleOf rules baseOf bases
 rules-test = refl
 
@@ -45,7 +45,7 @@ pub low-set : (b : ℕ) (ws : List ℕ) (p v : ℕ) → b ≤ p → Low b (set w
 low-set b ws p v h = (length-set ws p v, λ i l. getD-set-other ws p i v 0 (λ e. omega arith))
 
 -- words of lines, of ranges, of strips and of sections past the bound: no line of the table touches the words below it
-module _ (b : ℕ) (most : b ≤ 71) (t : ℕ) (small : t < 15) (word-past : (c : ℕ) → 0 < wordPlace t c → b ≤ placeAt t 2) where
+module _ (b : ℕ) (most : b ≤ 71) (t : ℕ) (small : t < 16) (word-past : (c : ℕ) → 0 < wordPlace t c → b ≤ placeAt t 2) where
   put-low : (k c v : ℕ) (ws : List ℕ) → Low b (wordPut t k c v ws) ws
   unfolding wordPut
   put-low k c v ws = go (ltb 0 (wordPlace t c)) refl
@@ -82,16 +82,29 @@ module _ (b : ℕ) (most : b ≤ 71) (t : ℕ) (small : t < 15) (word-past : (c 
           past x = let m = most in omega arith
       go false = low-same b ws
 
-  parent-past : (ws : List ℕ) (cells : Cells) (strips : Strips) → eqb (ruleOf t) 0 ≡ false → eqb (ruleOf t) 6 ≡ false → (b ≤ parentOf ws (ruleOf t) cells strips .first) × (b ≤ parentOf ws (ruleOf t) cells strips .count)
+  -- a mark's own words stand past all ranges
+  own-low : (ws : List ℕ) (rule k : ℕ) (cells : Cells) → Low b (ownWords ws rule k cells) ws
+  unfolding ownWords markPut
+  own-low ws rule k cells = go (codeOf (markLane ws (cellOf cells 0) (cellOf cells 1) .index)) (markKind (cellOf cells 4)) (eqb rule 6)
+    where
+      go : (lane kind : ℕ) (x : Bool) → Low b (cond x (set (set ws (1379 + k * 2) lane) (1379 + k * 2 + 1) kind) ws) ws
+      go lane kind true =
+          let m = most in
+          low-then b (set (set ws (1379 + k * 2) lane) (1379 + k * 2 + 1) kind) (set ws (1379 + k * 2) lane) ws
+          (low-set b (set ws (1379 + k * 2) lane) (1379 + k * 2 + 1) kind (omega arith))
+          (low-set b ws (1379 + k * 2) lane (omega arith))
+      go lane kind false = low-same b ws
+
+  parent-past : (ws : List ℕ) (cells : Cells) (strips : Strips) → eqb (ruleOf t) 0 ≡ false → eqb (ruleOf t) 7 ≡ false → (b ≤ parentOf ws (ruleOf t) cells strips .first) × (b ≤ parentOf ws (ruleOf t) cells strips .count)
   unfolding parentOf laneTurn rangeOf
   parent-past ws cells strips z y = go (eqb (ruleOf t) 1) refl
     where
       test : eqb (ruleOf t) 1 ≡ false → 71 ≤ baseOf (ruleOf t)
       test e =
           let last = leb 71 (baseOf (ruleOf t)) in
-          let a = all-at (λ t. eqb (ruleOf t) 0 || (eqb (ruleOf t) 6 || (eqb (ruleOf t) 1 || leb 71 (baseOf (ruleOf t))))) 15 rules-test t small in
-          let r = or-else (eqb (ruleOf t) 0) (eqb (ruleOf t) 6 || (eqb (ruleOf t) 1 || last)) a z in
-          leb-true 71 (baseOf (ruleOf t)) (or-else (eqb (ruleOf t) 1) last (or-else (eqb (ruleOf t) 6) (eqb (ruleOf t) 1 || last) r y) e)
+          let a = all-at (λ t. eqb (ruleOf t) 0 || (eqb (ruleOf t) 7 || (eqb (ruleOf t) 1 || leb 71 (baseOf (ruleOf t))))) 16 rules-test t small in
+          let r = or-else (eqb (ruleOf t) 0) (eqb (ruleOf t) 7 || (eqb (ruleOf t) 1 || last)) a z in
+          leb-true 71 (baseOf (ruleOf t)) (or-else (eqb (ruleOf t) 1) last (or-else (eqb (ruleOf t) 7) (eqb (ruleOf t) 1 || last) r y) e)
 
       go : (x : Bool) → eqb (ruleOf t) 1 ≡ x
           → (b ≤ cond x (laneTurn ws (cellOf cells 0) (cellOf cells 1)) (rangeOf ws (indexOf ws (ruleOf t) cells strips) (baseOf (ruleOf t)) (strideOf (ruleOf t))) .first)
@@ -101,12 +114,14 @@ module _ (b : ℕ) (most : b ≤ 71) (t : ℕ) (small : t < 15) (word-past : (c 
 
   pub kept-low : (k : ℕ) (cells : Cells) (progress : Progress) (ws : List ℕ) → Low b (keptWords t k cells progress ws) ws
   unfolding keptWords ruledWords
-  kept-low k cells progress ws = low-then b (keptWords t k cells progress ws) (wordsBelow t k cells 8 ws) ws (go (eqb (ruleOf t) 0) (eqb (ruleOf t) 6) refl refl) (line-low k cells 8 ws)
+  kept-low k cells progress ws = low-then b (keptWords t k cells progress ws) (wordsBelow t k cells 8 ws) ws (go (eqb (ruleOf t) 0) (eqb (ruleOf t) 7) refl refl) (line-low k cells 8 ws)
     where
-      go : (x y : Bool) → eqb (ruleOf t) 0 ≡ x → eqb (ruleOf t) 6 ≡ y
-          → Low b (cond x (wordsBelow t k cells 8 ws) (cond y (stripsKept (wordsBelow t k cells 8 ws) cells progress) (underWords (wordsBelow t k cells 8 ws) k (parentOf (wordsBelow t k cells 8 ws) (ruleOf t) cells (progress .strips)) progress))) (wordsBelow t k cells 8 ws)
+      go : (x y : Bool) → eqb (ruleOf t) 0 ≡ x → eqb (ruleOf t) 7 ≡ y
+          → Low b (cond x (wordsBelow t k cells 8 ws) (cond y (stripsKept (wordsBelow t k cells 8 ws) cells progress) (underWords (ownWords (wordsBelow t k cells 8 ws) (ruleOf t) k cells) k (parentOf (wordsBelow t k cells 8 ws) (ruleOf t) cells (progress .strips)) progress))) (wordsBelow t k cells 8 ws)
       go true y e f = low-same b (wordsBelow t k cells 8 ws)
       go false true e f = strip-low (wordsBelow t k cells 8 ws) cells progress
       go false false e f =
           let p = parent-past (wordsBelow t k cells 8 ws) cells (progress .strips) e f in
-          under-low (wordsBelow t k cells 8 ws) k (parentOf (wordsBelow t k cells 8 ws) (ruleOf t) cells (progress .strips)) progress (p .0) (p .1)
+          low-then b (underWords (ownWords (wordsBelow t k cells 8 ws) (ruleOf t) k cells) k (parentOf (wordsBelow t k cells 8 ws) (ruleOf t) cells (progress .strips)) progress) (ownWords (wordsBelow t k cells 8 ws) (ruleOf t) k cells) (wordsBelow t k cells 8 ws)
+          (under-low (ownWords (wordsBelow t k cells 8 ws) (ruleOf t) k cells) k (parentOf (wordsBelow t k cells 8 ws) (ruleOf t) cells (progress .strips)) progress (p .0) (p .1))
+          (own-low (wordsBelow t k cells 8 ws) (ruleOf t) k cells)

@@ -38,10 +38,10 @@ noughts (suc n) ns = zero64 ∷ noughts n ns
 
 -- a text's tables, before admission
 abbrev pub taken : List String → Outcome
-taken lines = tablesFrom 15 0 (textOf lines) 0 0 startProgress (zeros 1347) (zeroNumbers 7937) (zeros 32)
+taken lines = tablesFrom 16 0 (textOf lines) 0 0 startProgress (zeros 1891) (zeroNumbers 8449) (zeros 32)
 
 -- the slices are long enough
-slices-long : (leb 1347 (length (zeros 1347)) && leb 7937 (length (zeroNumbers 7937))) && leb 32 (length (zeros 32)) ≡ true
+slices-long : (leb 1891 (length (zeros 1891)) && leb 8449 (length (zeroNumbers 8449))) && leb 32 (length (zeros 32)) ≡ true
 unfolding zeros zeroNumbers
 slices-long = refl
 
@@ -59,7 +59,7 @@ pub reads : (lines : List String) (road : Road) (wants : List ℕ) (n at : ℕ) 
 reads lines road wants n at progress ws ns vs short t sound e held a b c d =
     record {
       accepted = ap verdictOf read;
-      stands = ap (λ (o : Outcome). roadOf (wordsHeld 1347 o) (numbersHeld 7937 o)) read ∙ e;
+      stands = ap (λ (o : Outcome). roadOf (wordsHeld 1891 o) (numbersHeld 8449 o)) read ∙ e;
       held = ap (λ (o : Outcome). take (2 * n) (wantsHeld 32 o)) read ∙ held;
     }
   where

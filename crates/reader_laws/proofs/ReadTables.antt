@@ -22,17 +22,17 @@ soundOf (stop m) = false
 
 -- tables of right form into slices that are long enough, with their references and order right; admission has not been asked
 pub record Stored (text : List ℕ) (l m n : ℕ) (o : Outcome) : Type 0 where
-  pub words-long : 1347 ≤ length (zeros l)
-  pub numbers-long : 7937 ≤ length (zeroNumbers m)
+  pub words-long : 1891 ≤ length (zeros l)
+  pub numbers-long : 8449 ≤ length (zeroNumbers m)
   pub wants-long : 32 ≤ length (zeros n)
-  pub tables : tablesFrom 15 0 text 0 0 startProgress (zeros l) (zeroNumbers m) (zeros n) ≡ o
+  pub tables : tablesFrom 16 0 text 0 0 startProgress (zeros l) (zeroNumbers m) (zeros n) ≡ o
   pub sound : soundOf o ≡ true
 
 pub record Accepted (text : List ℕ) (l m n : ℕ) (o : Outcome) (ws : List ℕ) (ns : List Float) : Type 0 where
-  pub words-long : 1347 ≤ length (zeros l)
-  pub numbers-long : 7937 ≤ length (zeroNumbers m)
+  pub words-long : 1891 ≤ length (zeros l)
+  pub numbers-long : 8449 ≤ length (zeroNumbers m)
   pub wants-long : 32 ≤ length (zeros n)
-  pub tables : tablesFrom 15 0 text 0 0 startProgress (zeros l) (zeroNumbers m) (zeros n) ≡ o
+  pub tables : tablesFrom 16 0 text 0 0 startProgress (zeros l) (zeroNumbers m) (zeros n) ≡ o
   pub admits : admitCall ws ns ≡ value tt
   pub sound : soundOf o ≡ true
 
@@ -51,14 +51,14 @@ module _ (text : List ℕ) (l m n at count : ℕ) (progress : Progress) (ws : Li
 
   pub accepted : readingOf text l m n ≡ end → Accepted text l m n end ws ns
   unfolding readingOf readingBy
-  accepted read = go ((leb 1347 (length (zeros l)) && leb 7937 (length (zeroNumbers m))) && leb 32 (length (zeros n))) (ltb 65536 (length text)) refl read
+  accepted read = go ((leb 1891 (length (zeros l)) && leb 8449 (length (zeroNumbers m))) && leb 32 (length (zeros n))) (ltb 65536 (length text)) refl read
     where
-      go : (a b : Bool) → (leb 1347 (length (zeros l)) && leb 7937 (length (zeroNumbers m))) && leb 32 (length (zeros n)) ≡ a
-          → cond a (cond b (stop 2) (judge (tablesFrom 15 0 text 0 0 startProgress (zeros l) (zeroNumbers m) (zeros n)))) (stop 2) ≡ end → Accepted text l m n end ws ns
+      go : (a b : Bool) → (leb 1891 (length (zeros l)) && leb 8449 (length (zeroNumbers m))) && leb 32 (length (zeros n)) ≡ a
+          → cond a (cond b (stop 2) (judge (tablesFrom 16 0 text 0 0 startProgress (zeros l) (zeroNumbers m) (zeros n)))) (stop 2) ≡ end → Accepted text l m n end ws ns
       go true false e f =
-          let t = chain-at (leb 1347 (length (zeros l))) (leb 7937 (length (zeroNumbers m)) ∷ leb 32 (length (zeros n)) ∷ []) e in
-          let j = judged (tablesFrom 15 0 text 0 0 startProgress (zeros l) (zeroNumbers m) (zeros n)) f in
-          record { words-long = leb-true 1347 (length (zeros l)) (t 0); numbers-long = leb-true 7937 (length (zeroNumbers m)) (t 1); wants-long = leb-true 32 (length (zeros n)) (t 2); tables = j .0; admits = j .1; sound = j .2 }
+          let t = chain-at (leb 1891 (length (zeros l))) (leb 8449 (length (zeroNumbers m)) ∷ leb 32 (length (zeros n)) ∷ []) e in
+          let j = judged (tablesFrom 16 0 text 0 0 startProgress (zeros l) (zeroNumbers m) (zeros n)) f in
+          record { words-long = leb-true 1891 (length (zeros l)) (t 0); numbers-long = leb-true 8449 (length (zeroNumbers m)) (t 1); wants-long = leb-true 32 (length (zeros n)) (t 2); tables = j .0; admits = j .1; sound = j .2 }
       go true true e f = let z : _≡_ {A = ℕ} 0 1 = cc in absurd (omega arith)
       go false b e f = let z : _≡_ {A = ℕ} 0 1 = cc in absurd (omega arith)
 

@@ -34,8 +34,8 @@ never from e = let z : _≡_ {A = ℕ} 0 1 = cc in absurd (omega arith)
 pub kept-sound : (t k : ℕ) (cells : Cells) (progress : Progress) (ws : List ℕ) → keptProgress t k cells progress ws .sound ≡ true → progress .sound ≡ true
 unfolding keptProgress ruledProgress stripProgress underProgress
 kept-sound t k cells progress ws =
-    by-cases (eqb (ruleOf t) 0) progress progress (cond (eqb (ruleOf t) 6) (stripProgress k cells progress) (underProgress (parentOf (wordsBelow t k cells 8 ws) (ruleOf t) cells (progress .strips)) progress)) (λ e. e)
-    (by-cases (eqb (ruleOf t) 6) progress (stripProgress k cells progress) (underProgress (parentOf (wordsBelow t k cells 8 ws) (ruleOf t) cells (progress .strips)) progress)
+    by-cases (eqb (ruleOf t) 0) progress progress (cond (eqb (ruleOf t) 7) (stripProgress k cells progress) (underProgress (parentOf (wordsBelow t k cells 8 ws) (ruleOf t) cells (progress .strips)) progress)) (λ e. e)
+    (by-cases (eqb (ruleOf t) 7) progress (stripProgress k cells progress) (underProgress (parentOf (wordsBelow t k cells 8 ws) (ruleOf t) cells (progress .strips)) progress)
     (by-cases (eqb (stripLine (progress .strips) (stripNamed cells)) 0) progress (record { sound = progress .sound; last = progress .last; strips = listedAs (progress .strips) (stripNamed cells) (oneMore k) }) (unsoundProgress progress) (λ e. e) (never progress))
     (by-cases (inOrder (parentOf (wordsBelow t k cells 8 ws) (ruleOf t) cells (progress .strips)) progress) progress (record { sound = progress .sound; last = parentOf (wordsBelow t k cells 8 ws) (ruleOf t) cells (progress .strips) .rank; strips = progress .strips }) (unsoundProgress progress) (λ e. e) (never progress)))
 
@@ -103,7 +103,7 @@ abbrev LineBy : List (List Cells) → Outcome → Type 0
 LineBy tables (stop m) = Unit {0}
 LineBy tables (done at n progress ws ns vs) = progress .sound ≡ true → 0 < length (getD tables 0 [])
 
-first-line : (text : List ℕ) (progress : Progress) (ws : List ℕ) (ns : List Float) (vs : List ℕ) → LineBy (tablesLines 15 0 text 0) (tablesFrom 15 0 text 0 0 progress ws ns vs)
+first-line : (text : List ℕ) (progress : Progress) (ws : List ℕ) (ns : List Float) (vs : List ℕ) → LineBy (tablesLines 16 0 text 0) (tablesFrom 16 0 text 0 0 progress ws ns vs)
 unfolding tablesLines tablesFrom countedProgress
 first-line text progress ws ns vs = step (tableLines 0 text 0) (tableAt 0 text 0 progress ws ns vs) (table-agree 0 text 0 progress ws ns vs)
   where
@@ -112,13 +112,13 @@ first-line text progress ws ns vs = step (tableLines 0 text 0) (tableAt 0 text 0
     some n (suc k) progress' e s = omega arith
 
     step : (p : Lines) (o : Outcome) → Agree 0 (limitOf 0) 0 ns p o
-        → LineBy (byLines p (λ rows next. rows ∷ tablesLines 14 1 text next)) (byOutcome o (λ at' count' progress' us xs vs'. tablesFrom 14 1 text at' count' (countedProgress 0 count' progress') us xs vs'))
+        → LineBy (byLines p (λ rows next. rows ∷ tablesLines 15 1 text next)) (byOutcome o (λ at' count' progress' us xs vs'. tablesFrom 15 1 text at' count' (countedProgress 0 count' progress') us xs vs'))
     step p (stop m) a = tt
     step broken (done at' count' progress' us xs vs') a = absurd a
     step (lines rows next) (done at' count' progress' us xs vs') a =
-        go (tablesFrom 14 1 text at' count' (countedProgress 0 count' progress') us xs vs') (tables-sound 14 1 text at' count' (countedProgress 0 count' progress') us xs vs')
+        go (tablesFrom 15 1 text at' count' (countedProgress 0 count' progress') us xs vs') (tables-sound 15 1 text at' count' (countedProgress 0 count' progress') us xs vs')
       where
-        go : (o : Outcome) → SoundBy (countedProgress 0 count' progress') o → LineBy (rows ∷ tablesLines 14 1 text next) o
+        go : (o : Outcome) → SoundBy (countedProgress 0 count' progress') o → LineBy (rows ∷ tablesLines 15 1 text next) o
         go (stop m) h = tt
         go (done at'' count'' progress'' us' xs' vs'') h = λ e. some count' (length rows) progress' (a .1) (h e)
 
@@ -126,4 +126,4 @@ pub road-line : (text : List ℕ) (l m n at count : ℕ) (progress : Progress) (
 unfolding linesOf
 road-line text l m n at count progress ws ns vs read =
     let a = read in
-    subst (λ (o : Outcome). LineBy (tablesLines 15 0 text 0) o) (a .tables) (first-line text startProgress (zeros l) (zeroNumbers m) (zeros n)) (a .sound)
+    subst (λ (o : Outcome). LineBy (tablesLines 16 0 text 0) o) (a .tables) (first-line text startProgress (zeros l) (zeroNumbers m) (zeros n)) (a .sound)

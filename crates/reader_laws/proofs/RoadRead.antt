@@ -35,14 +35,14 @@ any [] i d e h = absurd (not-suc-le-zero h)
 any (x ∷ xs) zero d e h = refl
 any (x ∷ xs) (suc i) d e h = any xs i d e (le-of-suc-le-suc h)
 
--- the tables whose lines are counted in a word of their own; and the numbers of road, section, height and profile
+-- the tables whose lines are counted in a word of their own; and the numbers of road, section, height, profile and mark
 counted : (0 < countPlace 2) × (0 < countPlace 3) × (0 < countPlace 4) × (0 < countPlace 5) × (0 < countPlace 6) × (0 < countPlace 10) × (0 < countPlace 1)
 unfolding countPlace counts
 counted = (omega arith, omega arith, omega arith, omega arith, omega arith, omega arith, omega arith)
 
-single : (numberPlace 6 0 ≡ 0 + 1) × (numberPlace 10 0 ≡ 0 + 1) × (numberPlace 0 0 ≡ 0 + 1) × (numberPlace 9 2 ≡ 0 + 1) × (numberPlace 9 3 ≡ 1 + 1) × (numberPlace 9 4 ≡ 2 + 1)
+single : (numberPlace 6 0 ≡ 0 + 1) × (numberPlace 10 0 ≡ 0 + 1) × (numberPlace 0 0 ≡ 0 + 1) × (numberPlace 9 2 ≡ 0 + 1) × (numberPlace 9 3 ≡ 1 + 1) × (numberPlace 9 4 ≡ 2 + 1) × (numberPlace 14 2 ≡ 0 + 1) × (numberPlace 14 3 ≡ 1 + 1)
 unfolding numberPlace numbers
-single = (refl, refl, refl, refl, refl, refl)
+single = (refl, refl, refl, refl, refl, refl, refl, refl)
 
 -- a list of the values of a function is a list of lines, each by itself
 table-map : {A B : Type 0} (rows : List A) (f : ℕ → B) (g : A → B) (d : A) → ((i : ℕ) → i < length rows → f i ≡ g (getD rows i d)) → tabulate f (length rows) ≡ map g rows
@@ -66,16 +66,16 @@ geom-columns = (refl, refl, refl, refl, refl, refl, refl)
 
 module _ (text : List ℕ) (l m n at count : ℕ) (progress : Progress) (ws : List ℕ) (ns : List Float) (vs : List ℕ) (read : Stored text l m n (done at count progress ws ns vs)) where
   -- a cell of line k
-  cell-read : (t k c j : ℕ) → t < 15 → k < length (linesOf text t) → numberPlace t c ≡ j + 1 → numberOf ws ns t k c ≡ numberIn (getD (linesOf text t) k noCells) c
+  cell-read : (t k c j : ℕ) → t < 16 → k < length (linesOf text t) → numberPlace t c ≡ j + 1 → numberOf ws ns t k c ≡ numberIn (getD (linesOf text t) k noCells) c
   cell-read t k c j h i e = number-kept text l m n at count progress ws ns vs read t k c h i (omega arith)
 
   -- line k of a table with the columns start a b c d: elev, bank, offset, tshift, extent, shape, cubic
-  pub line-read : (t column base : ℕ) → Five t column base → t < 15 → (k : ℕ) → k < length (linesOf text t) → cubicOf ws ns t column k ≡ cubicIn column (getD (linesOf text t) k noCells)
+  pub line-read : (t column base : ℕ) → Five t column base → t < 16 → (k : ℕ) → k < length (linesOf text t) → cubicOf ws ns t column k ≡ cubicIn column (getD (linesOf text t) k noCells)
   line-read t column base five h k i =
       cubic-same (cell-read t k column 0 h i (five .start)) (cell-read t k (column + 1) 1 h i (five .a)) (cell-read t k (column + 2) 2 h i (five .b)) (cell-read t k (column + 3) 3 h i (five .c)) (cell-read t k (column + 4) 4 h i (five .d))
 
   -- a list along the road is the text's lines, in their order
-  module _ (t column base : ℕ) (five : Five t column base) (small : t < 15) (own : 0 < countPlace t) where
+  module _ (t column base : ℕ) (five : Five t column base) (small : t < 16) (own : 0 < countPlace t) where
     cubics-all : cubicsIn ws ns base 0 (length (linesOf text t)) ≡ map (cubicIn column) (linesOf text t)
     cubics-all =
         ext-getD (cubicIn column noCells) (cubicsIn ws ns base 0 (length (linesOf text t))) (map (cubicIn column) (linesOf text t)) (full ∙ sym (length-map (linesOf text t) (cubicIn column)))
@@ -167,3 +167,8 @@ module _ (text : List ℕ) (l m n at count : ℕ) (progress : Progress) (ws : Li
   -- line k of height
   pub height-line-read : (k : ℕ) → k < length (linesOf text 9) → _≡_ {A = HeightDef} (record { «s_offset» = numberOf ws ns 9 k 2; inner = numberOf ws ns 9 k 3; outer = numberOf ws ns 9 k 4 }) (heightIn (getD (linesOf text 9) k noCells))
   height-line-read k h = height-same (cell-read 9 k 2 0 (omega arith) h (single .3)) (cell-read 9 k 3 1 (omega arith) h (single .4)) (cell-read 9 k 4 2 (omega arith) h (single .5))
+
+  -- the span of line k of mark
+  pub mark-span-read : (k : ℕ) → k < length (linesOf text 14)
+      → (numberOf ws ns 14 k 2 ≡ numberIn (getD (linesOf text 14) k noCells) 2) × (numberOf ws ns 14 k 3 ≡ numberIn (getD (linesOf text 14) k noCells) 3)
+  mark-span-read k h = (cell-read 14 k 2 0 (omega arith) h (single .6), cell-read 14 k 3 1 (omega arith) h (single .7))

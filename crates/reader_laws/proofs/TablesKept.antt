@@ -1,5 +1,5 @@
 -- An accepted text's numbers: for every table, line and column that holds a number, memory holds the cell's float where the layout says (`number-kept`).
--- What the layout must have for this is four computed tests: columns inside their line and apart, tables one after another, all within 7,937 numbers.
+-- What the layout must have for this is four computed tests: columns inside their line and apart, tables one after another, all within 8,449 numbers.
 use Prim.Native.Nat.{ℕ, zero, suc, _+_, _*_, _<_, _≤_}
 use native.Mathlib.Omega.{arith}
 use native.Mathlib.Nat.{le-of-suc-le-suc, not-suc-le-zero, mul-le-mul-right, zero-add}
@@ -26,19 +26,19 @@ use Rattle.reader_laws.proofs.LinesKept.{Agree, table-agree}
 
 -- ---- the layout's tests
 
-inside-test : allBelow (λ t. allBelow (λ c. leb (numberPlace t c) (placeAt t 1)) 8) 15 ≡ true
+inside-test : allBelow (λ t. allBelow (λ c. leb (numberPlace t c) (placeAt t 1)) 8) 16 ≡ true
 unfolding allBelow placeAt places numberPlace numbers
 inside-test = refl
 
-own-test : allBelow (λ t. allBelow (λ c. allBelow (λ d. eqb (numberPlace t c) 0 || (not (eqb (numberPlace t c) (numberPlace t d)) || eqb c d)) 8) 8) 15 ≡ true
+own-test : allBelow (λ t. allBelow (λ c. allBelow (λ d. eqb (numberPlace t c) 0 || (not (eqb (numberPlace t c) (numberPlace t d)) || eqb c d)) 8) 8) 16 ≡ true
 unfolding allBelow numberPlace numbers
 own-test = refl
 
-region-test : allBelow (λ t. allBelow (λ u. leb u t || (eqb (placeAt t 1) 0 || (eqb (placeAt u 1) 0 || leb (placeAt t 0 + limitOf t * placeAt t 1) (placeAt u 0)))) 15) 15 ≡ true
+region-test : allBelow (λ t. allBelow (λ u. leb u t || (eqb (placeAt t 1) 0 || (eqb (placeAt u 1) 0 || leb (placeAt t 0 + limitOf t * placeAt t 1) (placeAt u 0)))) 16) 16 ≡ true
 unfolding allBelow placeAt places limitOf limits
 region-test = refl
 
-room-test : allBelow (λ t. leb (placeAt t 0 + limitOf t * placeAt t 1) 7937) 15 ≡ true
+room-test : allBelow (λ t. leb (placeAt t 0 + limitOf t * placeAt t 1) 8449) 16 ≡ true
 unfolding allBelow placeAt places limitOf limits
 room-test = refl
 
@@ -49,7 +49,7 @@ or-else true b e f = let z : true ≡ false = f in absurd (differ z)
     differ z = let y : _≡_ {A = ℕ} 0 1 = cc in omega arith
 or-else false b e f = e
 
-module _ (t : ℕ) (small : t < 15) where
+module _ (t : ℕ) (small : t < 16) where
   column-below : (c : ℕ) → 0 < numberPlace t c → c < 8
   unfolding numberPlace
   column-below c h = go (ltb c 8) refl h
@@ -64,25 +64,25 @@ module _ (t : ℕ) (small : t < 15) where
       go : (b : Bool) → ltb 0 (numberPlace t c) ≡ b → numberPlace t c ≤ placeAt t 1
       go true e =
           let l = column-below c (ltb-true 0 (numberPlace t c) e) in
-          leb-true (numberPlace t c) (placeAt t 1) (all-at (λ c. leb (numberPlace t c) (placeAt t 1)) 8 (all-at (λ t. allBelow (λ c. leb (numberPlace t c) (placeAt t 1)) 8) 15 inside-test t small) c l)
+          leb-true (numberPlace t c) (placeAt t 1) (all-at (λ c. leb (numberPlace t c) (placeAt t 1)) 8 (all-at (λ t. allBelow (λ c. leb (numberPlace t c) (placeAt t 1)) 8) 16 inside-test t small) c l)
       go false e = let n = ltb-false 0 (numberPlace t c) e in omega arith
 
   own : (c : ℕ) → 0 < numberPlace t c → (d : ℕ) → 0 < numberPlace t d → numberPlace t c ≡ numberPlace t d → c ≡ d
   own c p d q e =
       let test : ℕ → ℕ → Bool = λ c d. eqb (numberPlace t c) 0 || (not (eqb (numberPlace t c) (numberPlace t d)) || eqb c d) in
-      let a = all-at (λ t. allBelow (λ c. allBelow (λ d. eqb (numberPlace t c) 0 || (not (eqb (numberPlace t c) (numberPlace t d)) || eqb c d)) 8) 8) 15 own-test t small in
+      let a = all-at (λ t. allBelow (λ c. allBelow (λ d. eqb (numberPlace t c) 0 || (not (eqb (numberPlace t c) (numberPlace t d)) || eqb c d)) 8) 8) 16 own-test t small in
       let b = all-at (test c) 8 (all-at (λ c. allBelow (test c) 8) 8 a c (column-below c p)) d (column-below d q) in
       let f = or-else (eqb (numberPlace t c) 0) (not (eqb (numberPlace t c) (numberPlace t d)) || eqb c d) b (ne-eqb (numberPlace t c) 0 (λ z. omega arith)) in
       eqb-true c d (or-else (not (eqb (numberPlace t c) (numberPlace t d))) (eqb c d) f (ap not (eq-eqb (numberPlace t c) (numberPlace t d) e)))
 
-  room : placeAt t 0 + limitOf t * placeAt t 1 ≤ 7937
-  room = leb-true (placeAt t 0 + limitOf t * placeAt t 1) 7937 (all-at (λ t. leb (placeAt t 0 + limitOf t * placeAt t 1) 7937) 15 room-test t small)
+  room : placeAt t 0 + limitOf t * placeAt t 1 ≤ 8449
+  room = leb-true (placeAt t 0 + limitOf t * placeAt t 1) 8449 (all-at (λ t. leb (placeAt t 0 + limitOf t * placeAt t 1) 8449) 16 room-test t small)
 
-  region : (u : ℕ) → u < 15 → t < u → 0 < placeAt t 1 → 0 < placeAt u 1 → placeAt t 0 + limitOf t * placeAt t 1 ≤ placeAt u 0
+  region : (u : ℕ) → u < 16 → t < u → 0 < placeAt t 1 → 0 < placeAt u 1 → placeAt t 0 + limitOf t * placeAt t 1 ≤ placeAt u 0
   region u l h p q =
       let last = leb (placeAt t 0 + limitOf t * placeAt t 1) (placeAt u 0) in
-      let a = all-at (λ t. allBelow (λ u. leb u t || (eqb (placeAt t 1) 0 || (eqb (placeAt u 1) 0 || leb (placeAt t 0 + limitOf t * placeAt t 1) (placeAt u 0)))) 15) 15 region-test t small in
-      let b = all-at (λ u. leb u t || (eqb (placeAt t 1) 0 || (eqb (placeAt u 1) 0 || leb (placeAt t 0 + limitOf t * placeAt t 1) (placeAt u 0)))) 15 a u l in
+      let a = all-at (λ t. allBelow (λ u. leb u t || (eqb (placeAt t 1) 0 || (eqb (placeAt u 1) 0 || leb (placeAt t 0 + limitOf t * placeAt t 1) (placeAt u 0)))) 16) 16 region-test t small in
+      let b = all-at (λ u. leb u t || (eqb (placeAt t 1) 0 || (eqb (placeAt u 1) 0 || leb (placeAt t 0 + limitOf t * placeAt t 1) (placeAt u 0)))) 16 a u l in
       let c = or-else (leb u t) (eqb (placeAt t 1) 0 || (eqb (placeAt u 1) 0 || last)) b (lt-leb u t h) in
       let d = or-else (eqb (placeAt t 1) 0) (eqb (placeAt u 1) 0 || last) c (ne-eqb (placeAt t 1) 0 (λ z. omega arith)) in
       leb-true (placeAt t 0 + limitOf t * placeAt t 1) (placeAt u 0) (or-else (eqb (placeAt u 1) 0) last d (ne-eqb (placeAt u 1) 0 (λ z. omega arith)))
@@ -101,8 +101,8 @@ abbrev pub Kept : ℕ → ℕ → List Float → List (List Cells) → Outcome �
 Kept n t ns tables (stop m) = Unit {0}
 Kept n t ns tables (done at count progress ws xs vs) = Holds n t ns xs tables
 
-module _ (n t : ℕ) (most : t + suc n ≤ 15) (ns : List Float) (long : 7937 ≤ length ns) (rows : List Cells) (few : length rows ≤ limitOf t) where
-  small : t < 15
+module _ (n t : ℕ) (most : t + suc n ≤ 16) (ns : List Float) (long : 8449 ≤ length ns) (rows : List Cells) (few : length rows ≤ limitOf t) where
+  small : t < 16
   small = omega arith
 
   end-below : (k : ℕ) → k < length rows → placeAt t 0 + k * placeAt t 1 + placeAt t 1 ≤ placeAt t 0 + limitOf t * placeAt t 1
@@ -141,7 +141,7 @@ module _ (n t : ℕ) (most : t + suc n ≤ 15) (ns : List Float) (long : 7937 �
 no-cell : (i : ℕ) {A : Type 0} → i < 0 → A
 no-cell i h = absurd (not-suc-le-zero h)
 
-pub tables-kept : (n t : ℕ) (text : List ℕ) (at count : ℕ) (progress : Progress) (ws : List ℕ) (ns : List Float) (vs : List ℕ) → t + n ≤ 15 → 7937 ≤ length ns
+pub tables-kept : (n t : ℕ) (text : List ℕ) (at count : ℕ) (progress : Progress) (ws : List ℕ) (ns : List Float) (vs : List ℕ) → t + n ≤ 16 → 8449 ≤ length ns
     → Kept n t ns (tablesLines n t text at) (tablesFrom n t text at count progress ws ns vs)
 unfolding tablesLines tablesFrom
 tables-kept zero t text at count progress ws ns vs most long = go (ltb at (length text))
@@ -154,30 +154,30 @@ tables-kept (suc n) t text at count progress ws ns vs most long =
     (λ at' count' progress' ws' ns' vs' long'. tables-kept n (t + 1) text at' count' progress' ws' ns' vs' (omega arith) long')
   where
     step : (p : Lines) (o : Outcome) → Agree t (limitOf t) 0 ns p o
-        → ((at' count' : ℕ) (progress' : Progress) (ws' : List ℕ) (ns' : List Float) (vs' : List ℕ) → 7937 ≤ length ns' → Kept n (t + 1) ns' (tablesLines n (t + 1) text at') (tablesFrom n (t + 1) text at' count' progress' ws' ns' vs'))
+        → ((at' count' : ℕ) (progress' : Progress) (ws' : List ℕ) (ns' : List Float) (vs' : List ℕ) → 8449 ≤ length ns' → Kept n (t + 1) ns' (tablesLines n (t + 1) text at') (tablesFrom n (t + 1) text at' count' progress' ws' ns' vs'))
         → Kept (suc n) t ns (byLines p (λ rows next. rows ∷ tablesLines n (t + 1) text next))
         (byOutcome o (λ at' count' progress' ws' ns' vs'. tablesFrom n (t + 1) text at' count' (countedProgress t count' progress') ws' ns' vs'))
     step p (stop m) a ih = tt
     step broken (done at' count' progress' ws' xs vs') a ih = absurd a
     step (lines rows next) (done at' count' progress' ws' xs vs') a ih =
-        let l : 7937 ≤ length xs = subst (λ (zs : List Float). 7937 ≤ length zs) (sym (a .3)) (let e = rows-length t rows 0 ns in omega arith) in
+        let l : 8449 ≤ length xs = subst (λ (zs : List Float). 8449 ≤ length zs) (sym (a .3)) (let e = rows-length t rows 0 ns in omega arith) in
         join n t most ns long rows (a .2) (tablesLines n (t + 1) text next) xs (tablesFrom n (t + 1) text at' count' (countedProgress t count' progress') ws' xs vs') (a .3)
         (subst (λ (q : ℕ). Kept n (t + 1) xs (tablesLines n (t + 1) text q) (tablesFrom n (t + 1) text at' count' (countedProgress t count' progress') ws' xs vs')) (a .0) (ih at' count' (countedProgress t count' progress') ws' xs vs' l))
 
 -- ---- a whole text
 
 module _ (text : List ℕ) (l m n at count : ℕ) (progress : Progress) (ws : List ℕ) (ns : List Float) (vs : List ℕ) (read : Stored text l m n (done at count progress ws ns vs)) where
-  holds : Holds 15 0 (zeroNumbers m) ns (tablesLines 15 0 text 0)
+  holds : Holds 16 0 (zeroNumbers m) ns (tablesLines 16 0 text 0)
   holds =
       let a = read in
-      subst (λ (o : Outcome). Kept 15 0 (zeroNumbers m) (tablesLines 15 0 text 0) o) (a .tables) (tables-kept 15 0 text 0 0 startProgress (zeros l) (zeroNumbers m) (zeros n) (omega arith) (a .numbers-long))
+      subst (λ (o : Outcome). Kept 16 0 (zeroNumbers m) (tablesLines 16 0 text 0) o) (a .tables) (tables-kept 16 0 text 0 0 startProgress (zeros l) (zeroNumbers m) (zeros n) (omega arith) (a .numbers-long))
 
   -- every cell of the text that is a number
-  pub number-kept : (t k c : ℕ) → t < 15 → k < length (linesOf text t) → 0 < numberPlace t c → getD ns (placeOf t k c) nan ≡ ofBits binary64 (cellOf (getD (linesOf text t) k noCells) c)
+  pub number-kept : (t k c : ℕ) → t < 16 → k < length (linesOf text t) → 0 < numberPlace t c → getD ns (placeOf t k c) nan ≡ ofBits binary64 (cellOf (getD (linesOf text t) k noCells) c)
   unfolding linesOf
   number-kept t k c h = holds .cell t t k c (sym (zero-add t)) h
 
-  pub rows-few : (t : ℕ) → t < 15 → length (linesOf text t) ≤ limitOf t
+  pub rows-few : (t : ℕ) → t < 16 → length (linesOf text t) ≤ limitOf t
   unfolding linesOf
   rows-few t h = holds .few t t (sym (zero-add t)) h
 
@@ -186,7 +186,7 @@ module _ (text : List ℕ) (l m n at count : ℕ) (progress : Progress) (ws : Li
   numbers-length = holds .same
 
   -- a table with all the lines that the text has of it ends inside memory
-  pub rows-inside : (t : ℕ) → t < 15 → placeAt t 0 + length (linesOf text t) * placeAt t 1 ≤ length ns
+  pub rows-inside : (t : ℕ) → t < 16 → placeAt t 0 + length (linesOf text t) * placeAt t 1 ≤ length ns
   rows-inside t h =
       let a = read .numbers-long in
       let r = room t h in

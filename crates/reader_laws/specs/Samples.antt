@@ -1,5 +1,5 @@
 -- Document 01, "The job text": four texts that between them have two lines or more of every table but road, and the roads that they say, cell by cell. Each is read as its road: proofs/AlongRead, AsideRead, LanesRead, StripsRead.
--- Geometries of all three kinds, lanes on both sides of two sections, strips of all four kinds; columns are not all in 01's order, and strips neither.
+-- Geometries of all three kinds, lanes on both sides of two sections with marks on them, strips of all four kinds; columns are not all in 01's order, and strips neither.
 -- In a text no number comes twice, but for the zeros that admission asks for, so a cell that is kept in another's place makes another road.
 use Prim.Native.Nat.{ℕ, _*_}
 use Prim.Native.Char.{code}
@@ -16,6 +16,7 @@ use Rattle.records.specs.declared.points.GeomRec.{GeomRec}
 use Rattle.records.specs.declared.points.GeomShape.{GeomShape}
 use Rattle.records.specs.declared.points.GeomShape.the-variants.{Line, Arc, Spiral}
 use Rattle.records.specs.declared.points.HeightDef.{HeightDef}
+use Rattle.records.specs.declared.points.Mark.{Mark}
 use Rattle.records.specs.Layout.{numbersNeeded, wordsNeeded, wantStride, wantsNeeded}
 use Rattle.records.specs.Roads.{Road, Section, Lane, Profile, Strip, absent, present, roadOf}
 use Rattle.reader_calls.specs.Reading.{Outcome, readingOf, verdictOf, wordsHeld, numbersHeld, wantsHeld}
@@ -50,8 +51,12 @@ height start inner outer = record { «s_offset» = f64 start; inner = f64 inner;
 abbrev pub lane : Bool → Bool → List Cubic → List HeightDef → Lane
 lane border level extents heights = record { border = border; level = level; extents = extents; heights = heights }
 
-abbrev pub section : ℕ → List Lane → List Lane → Section
-section start left right = record { start = f64 start; left = left; right = right }
+-- the place of its lane in its section, its kind, its span
+abbrev pub mark : ℕ → ℕ → ℕ → ℕ → Mark
+mark lane kind start end = record { lane = lane; kind = kind; start = f64 start; end = f64 end }
+
+abbrev pub section : ℕ → List Lane → List Lane → List Mark → Section
+section start left right marks = record { start = f64 start; left = left; right = right; marks = marks }
 
 abbrev pub profile : ℕ → List Cubic → Profile
 profile s shapes = record { s = f64 s; shapes = shapes }
@@ -120,7 +125,7 @@ alongRoad =
       offsets = [];
       tshifts = [];
       sections =
-          section 0x0000000000000000 [] [] ∷
+          section 0x0000000000000000 [] [] [] ∷
           [];
       profiles = [];
       strips = (absent ∷ absent ∷ absent ∷ absent ∷ []);
@@ -181,7 +186,7 @@ asideRoad =
           cubic 0x4013800000000000 0x3f7b000000000000 0xbf6d000000000000 0x3f5f000000000000 0x3f40800000000000 ∷
           [];
       sections =
-          section 0x0000000000000000 [] [] ∷
+          section 0x0000000000000000 [] [] [] ∷
           [];
       profiles =
           profile 0x3ff0000000000000 (cubic 0xc044000000000000 0x3f81800000000000 0xbf02800000000000 0x3e83800000000000 0x3e04800000000000 ∷ cubic 0x4034000000000000 0x3f85800000000000 0xbf06800000000000 0x3e87800000000000 0x3e08800000000000 ∷ []) ∷
@@ -193,7 +198,7 @@ asideRoad =
 abbrev pub asideWants : List ℕ
 asideWants = []
 
--- ---- section, lane, extent, height
+-- ---- section, lane, extent, height, mark
 
 abbrev pub lanesLines : List String
 lanesLines =
@@ -228,6 +233,12 @@ lanesLines =
     "3f9a800000000000 0 -2 4003000000000000 3f99800000000000" ∷
     "3f9c800000000000 1 -1 4004000000000000 bf9b800000000000" ∷
     "" ∷
+    "mark kind end id start section" ∷
+    "7 3ff0800000000000 1 3fb8000000000000 0" ∷
+    "255 4001000000000000 -2 3fe2000000000000 0" ∷
+    "12 400a000000000000 -1 3ff9000000000000 1" ∷
+    "3 3fee000000000000 1 3fe6000000000000 1" ∷
+    "" ∷
     []
 
 abbrev pub lanesRoad : Road
@@ -249,11 +260,17 @@ lanesRoad =
           []) (
           lane true true (cubic 0x3fd8000000000000 0x3f73000000000000 0xbf65000000000000 0x3f57000000000000 0x3f39000000000000 ∷ []) [] ∷
           lane false false [] (height 0x4002000000000000 0x3f97800000000000 0x3f98800000000000 ∷ height 0x4003000000000000 0x3f99800000000000 0x3f9a800000000000 ∷ []) ∷
+          []) (
+          mark 0 7 0x3fb8000000000000 0x3ff0800000000000 ∷
+          mark 3 255 0x3fe2000000000000 0x4001000000000000 ∷
           []) ∷
           section 0x4014000000000000 (
           lane true false (cubic 0x3fdc000000000000 0x3f7b000000000000 0xbf6d000000000000 0x3f5f000000000000 0x3f40800000000000 ∷ []) [] ∷
           []) (
           lane false true (cubic 0x3ff8000000000000 0x3f81800000000000 0xbf72800000000000 0x3f63800000000000 0x3f44800000000000 ∷ []) (height 0x4004000000000000 0xbf9b800000000000 0x3f9c800000000000 ∷ []) ∷
+          []) (
+          mark 1 12 0x3ff9000000000000 0x400a000000000000 ∷
+          mark 0 3 0x3fe6000000000000 0x3fee000000000000 ∷
           []) ∷
           [];
       profiles = [];
@@ -307,7 +324,7 @@ stripsRoad =
       offsets = [];
       tshifts = [];
       sections =
-          section 0x0000000000000000 [] [] ∷
+          section 0x0000000000000000 [] [] [] ∷
           [];
       profiles = [];
       strips =

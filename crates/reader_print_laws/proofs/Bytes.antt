@@ -35,16 +35,16 @@ dark-bytes : (xs : List ℕ) → dark xs ≡ true → Bytes xs
 dark-bytes [] e = none
 dark-bytes (x ∷ xs) e = more x xs (dark-below x xs e) (dark-bytes xs (dark-rest x xs e))
 
-names-test : allBelow (λ t. allBelow (λ i. ltb (byteAt (columnsLine t) i) 256) (length (columnsLine t))) 15 ≡ true
+names-test : allBelow (λ t. allBelow (λ i. ltb (byteAt (columnsLine t) i) 256) (length (columnsLine t))) 16 ≡ true
 unfolding allBelow printedLine wordsOf titleOf columnsLine
 names-test = refl
 
-module _ (t : ℕ) (small : t < 15) where
+module _ (t : ℕ) (small : t < 16) where
   names-bytes : Bytes (columnsLine t)
   names-bytes i = go (ltb i (length (columnsLine t))) refl
     where
       go : (b : Bool) → ltb i (length (columnsLine t)) ≡ b → byteAt (columnsLine t) i < 256
-      go true e = ltb-true (byteAt (columnsLine t) i) 256 (all-at (λ i. ltb (byteAt (columnsLine t) i) 256) (length (columnsLine t)) (all-at (λ t. allBelow (λ i. ltb (byteAt (columnsLine t) i) 256) (length (columnsLine t))) 15 names-test t small) i (ltb-true i (length (columnsLine t)) e))
+      go true e = ltb-true (byteAt (columnsLine t) i) 256 (all-at (λ i. ltb (byteAt (columnsLine t) i) 256) (length (columnsLine t)) (all-at (λ t. allBelow (λ i. ltb (byteAt (columnsLine t) i) 256) (length (columnsLine t))) 16 names-test t small) i (ltb-true i (length (columnsLine t)) e))
       go false e = omega (arith, List·getD-eq-default (columnsLine t) 0 (ltb-false i (length (columnsLine t)) e))
 
   module _ (cells : Cells) (h : LineFits t cells) where
@@ -72,7 +72,7 @@ module _ (t : ℕ) (small : t < 15) where
   unfolding tableOf
   table-bytes rows f = joined (columnsLine t) (valuesLines t rows ++ (10 ∷ [])) names-bytes (joined (valuesLines t rows) (10 ∷ []) (lines-bytes rows f) (more 10 [] (omega arith) none))
 
-pub tables-bytes : (T : ℕ → List Cells) → Within T → (n t : ℕ) → t + n ≤ 15 → Bytes (tablesOf n t T)
+pub tables-bytes : (T : ℕ → List Cells) → Within T → (n t : ℕ) → t + n ≤ 16 → Bytes (tablesOf n t T)
 unfolding tablesOf
 tables-bytes T w zero t most = none
 tables-bytes T w (suc n) t most = joined (tableOf t (T t)) (tablesOf n (t + 1) T) (table-bytes t (omega arith) (T t) (w .line t (omega arith))) (tables-bytes T w n (t + 1) (omega arith))

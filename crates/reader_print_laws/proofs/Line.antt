@@ -28,33 +28,33 @@ use Rattle.reader_print_laws.proofs.Words.{cell-word, cell-read, word-s
 
 -- ---- the schema: every table has one to eight columns, in order
 
-some-test : allBelow (λ t. ltb 0 (wordCount t)) 15 ≡ true
+some-test : allBelow (λ t. ltb 0 (wordCount t)) 16 ≡ true
 unfolding allBelow schema.wordCount schema.counts
 some-test = refl
 
-few-test : allBelow (λ t. leb (wordCount t) 8) 15 ≡ true
+few-test : allBelow (λ t. leb (wordCount t) 8) 16 ≡ true
 unfolding allBelow schema.wordCount schema.counts
 few-test = refl
 
-order-test : allBelow (λ t. allBelow (λ i. eqb (orderedColumn (inOrder (wordCount t)) i) i) (wordCount t)) 15 ≡ true
+order-test : allBelow (λ t. allBelow (λ i. eqb (orderedColumn (inOrder (wordCount t)) i) i) (wordCount t)) 16 ≡ true
 unfolding allBelow schema.wordCount schema.counts
 order-test = refl
 
 abbrev pub goodRow : ℕ → Cells → Values
 goodRow at cells = record { good = true; next = at; cells = cells }
 
-module _ (t : ℕ) (small : t < 15) where
+module _ (t : ℕ) (small : t < 16) where
   pub columns-some : 0 < wordCount t
-  columns-some = ltb-true 0 (wordCount t) (all-at (λ t. ltb 0 (wordCount t)) 15 some-test t small)
+  columns-some = ltb-true 0 (wordCount t) (all-at (λ t. ltb 0 (wordCount t)) 16 some-test t small)
 
   pub columns-few : wordCount t ≤ 8
-  columns-few = leb-true (wordCount t) 8 (all-at (λ t. leb (wordCount t) 8) 15 few-test t small)
+  columns-few = leb-true (wordCount t) 8 (all-at (λ t. leb (wordCount t) 8) 16 few-test t small)
 
   abbrev order : Order
   order = inOrder (wordCount t)
 
   straight : (i : ℕ) → i < wordCount t → orderedColumn order i ≡ i
-  straight i l = eqb-true (orderedColumn order i) i (all-at (λ i. eqb (orderedColumn order i) i) (wordCount t) (all-at (λ t. allBelow (λ i. eqb (orderedColumn (inOrder (wordCount t)) i) i) (wordCount t)) 15 order-test t small) i l)
+  straight i l = eqb-true (orderedColumn order i) i (all-at (λ i. eqb (orderedColumn order i) i) (wordCount t) (all-at (λ t. allBelow (λ i. eqb (orderedColumn (inOrder (wordCount t)) i) i) (wordCount t)) 16 order-test t small) i l)
 
   module _ (cells : Cells) (h : LineFits t cells) where
     -- the cells before column i are held

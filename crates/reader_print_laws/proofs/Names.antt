@@ -1,4 +1,4 @@
--- The line of names of each table, at the start of a text and then at any place: it is read with its columns in the schema's order. Fifteen lines, each by computing, whatever stands after it.
+-- The line of names of each table, at the start of a text and then at any place: it is read with its columns in the schema's order. Sixteen lines, each by computing, whatever stands after it.
 use Prim.Native.Nat.{ℕ, zero, suc, _+_, _<_}
 use native.Mathlib.Omega.{arith}
 use native.Mathlib.Nat.{add-assoc}
@@ -33,7 +33,7 @@ good at order = record { good = true; next = at; order = order }
 abbrev NamesRead : ℕ → List ℕ → ℕ → Type 0
 NamesRead table text at = (nameSpan text 0 .value ≡ nameOf table) × (headAt text (nameSpan text 0 .next) table ≡ good at (inOrder (wordCount table)))
 
-names-start : (table : ℕ) → table < 15 → (rest : List ℕ) → NamesRead table (columnsLine table ++ rest) (length (columnsLine table))
+names-start : (table : ℕ) → table < 16 → (rest : List ℕ) → NamesRead table (columnsLine table ++ rest) (length (columnsLine table))
 unfolding schema.names schema.nameOf schema.words schema.wordOf schema.firsts schema.counts schema.firstOf schema.wordCount schema.seek schema.placeOf nameFrom nameSpan columnAt namesFrom headAt printedLine wordsOf titleOf columnsLine
 names-start zero h rest = (refl, refl)
 names-start (suc zero) h rest = (refl, refl)
@@ -50,7 +50,8 @@ names-start (suc (suc (suc (suc (suc (suc (suc (suc (suc (suc (suc zero)))))))))
 names-start (suc (suc (suc (suc (suc (suc (suc (suc (suc (suc (suc (suc zero)))))))))))) h rest = (refl, refl)
 names-start (suc (suc (suc (suc (suc (suc (suc (suc (suc (suc (suc (suc (suc zero))))))))))))) h rest = (refl, refl)
 names-start (suc (suc (suc (suc (suc (suc (suc (suc (suc (suc (suc (suc (suc (suc zero)))))))))))))) h rest = (refl, refl)
-names-start (suc (suc (suc (suc (suc (suc (suc (suc (suc (suc (suc (suc (suc (suc (suc n))))))))))))))) h rest = absurd (omega arith)
+names-start (suc (suc (suc (suc (suc (suc (suc (suc (suc (suc (suc (suc (suc (suc (suc zero))))))))))))))) h rest = (refl, refl)
+names-start (suc (suc (suc (suc (suc (suc (suc (suc (suc (suc (suc (suc (suc (suc (suc (suc n)))))))))))))))) h rest = absurd (omega arith)
 
 -- ---- at any place
 
@@ -88,7 +89,7 @@ module _ (text : List ℕ) (at : ℕ) where
       go false f g = no-head g
 
   -- the line of names of a table, read where it stands
-  pub names-read : (table : ℕ) → table < 15 → (rest : List ℕ) → drop at text ≡ columnsLine table ++ rest
+  pub names-read : (table : ℕ) → table < 16 → (rest : List ℕ) → drop at text ≡ columnsLine table ++ rest
       → (nameSpan text at .value ≡ nameOf table) × (headAt text (nameSpan text at .next) table ≡ good (at + length (columnsLine table)) (inOrder (wordCount table)))
   unfolding headAt
   names-read table h rest e =

@@ -1,4 +1,4 @@
--- The statement of specs/PrintReads holds: the text is the fifteen tables, from its first byte to its end.
+-- The statement of specs/PrintReads holds: the text is the sixteen tables, from its first byte to its end.
 use native.Mathlib.Omega.{arith}
 use native.Mathlib.Nat.{zero-add}
 use mathlib.Core.Path.{refl, sym}
@@ -12,7 +12,7 @@ pub print-reads : PrintReads
 unfolding printed linesOf
 print-reads T w =
     record {
-      bytes = tables-bytes T w 15 0 (omega arith);
-      rows = λ t l. tables-read (printed T) T w 15 0 0 (omega arith) refl t t (sym (zero-add t)) l;
-      form = λ progress ws ns vs. tables-done (printed T) T w 15 0 0 (omega arith) refl 0 progress ws ns vs;
+      bytes = tables-bytes T w 16 0 (omega arith);
+      rows = λ t l. tables-read (printed T) T w 16 0 0 (omega arith) refl t t (sym (zero-add t)) l;
+      form = λ progress ws ns vs. tables-done (printed T) T w 16 0 0 (omega arith) refl 0 progress ws ns vs;
     }

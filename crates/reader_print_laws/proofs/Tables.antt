@@ -1,4 +1,4 @@
--- A table, and the fifteen tables, read where they stand: their lines come back, and the reader goes on after them. By induction on the lines, then on the tables.
+-- A table, and the sixteen tables, read where they stand: their lines come back, and the reader goes on after them. By induction on the lines, then on the tables.
 use Prim.Native.Nat.{ℕ, zero, suc, _+_, _<_, _≤_}
 use native.Mathlib.Omega.{arith}
 use native.Mathlib.Nat.{le-of-suc-le-suc}
@@ -27,7 +27,7 @@ abbrev DoneAt : ℕ → Outcome → Type 0
 DoneAt q (done at count progress ws ns vs) = at ≡ q
 DoneAt q (stop m) = ⊥
 
-module _ (text : List ℕ) (t : ℕ) (small : t < 15) where
+module _ (text : List ℕ) (t : ℕ) (small : t < 16) where
   abbrev order : Order
   order = inOrder (wordCount t)
 
@@ -97,7 +97,7 @@ module _ (text : List ℕ) (t : ℕ) (small : t < 15) where
 -- ---- n tables, from table t on, with nothing after them
 
 module _ (text : List ℕ) (T : ℕ → List Cells) (w : Within T) where
-  pub tables-read : (n t at : ℕ) → t + n ≤ 15 → drop at text ≡ tablesOf n t T → (i u : ℕ) → u ≡ t + i → i < n → getD (tablesLines n t text at) i [] ≡ T u
+  pub tables-read : (n t at : ℕ) → t + n ≤ 16 → drop at text ≡ tablesOf n t T → (i u : ℕ) → u ≡ t + i → i < n → getD (tablesLines n t text at) i [] ≡ T u
   unfolding tablesOf tablesLines
   tables-read zero t at most e i u q l = absurd (omega arith)
   tables-read (suc n) t at most e i u q l =
@@ -109,7 +109,7 @@ module _ (text : List ℕ) (T : ℕ → List Cells) (w : Within T) where
       go zero u q l ih = ap T (omega arith)
       go (suc i) u q l ih = ih i u (omega arith) (le-of-suc-le-suc l)
 
-  pub tables-done : (n t at : ℕ) → t + n ≤ 15 → drop at text ≡ tablesOf n t T → (count : ℕ) (progress : Progress) (ws : List ℕ) (ns : List Float) (vs : List ℕ) → Done (tablesFrom n t text at count progress ws ns vs)
+  pub tables-done : (n t at : ℕ) → t + n ≤ 16 → drop at text ≡ tablesOf n t T → (count : ℕ) (progress : Progress) (ws : List ℕ) (ns : List Float) (vs : List ℕ) → Done (tablesFrom n t text at count progress ws ns vs)
   unfolding tablesOf tablesFrom
   tables-done zero t at most e count progress ws ns vs = rw (le-ltb at (length text) (omega (arith, length-drop at text, ap length e))) tt
   tables-done (suc n) t at most e count progress ws ns vs =

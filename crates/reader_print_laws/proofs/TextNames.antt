@@ -61,11 +61,11 @@ due-below n (suc (suc (suc (suc (suc (suc zero)))))) e = ltb-true 6 n e
 due-below n (suc (suc (suc (suc (suc (suc (suc zero))))))) e = ltb-true 7 n e
 due-below n (suc (suc (suc (suc (suc (suc (suc (suc c)))))))) e = no-good e
 
-all-test : allBelow (λ t. allBelow (λ c. isDue (allDue (wordCount t)) c) (wordCount t)) 15 ≡ true
+all-test : allBelow (λ t. allBelow (λ c. isDue (allDue (wordCount t)) c) (wordCount t)) 16 ≡ true
 unfolding allBelow schema.wordCount schema.counts
 all-test = refl
 
-trues-test : allBelow (λ t. eqb (trues (allDue (wordCount t) .of)) (wordCount t)) 15 ≡ true
+trues-test : allBelow (λ t. eqb (trues (allDue (wordCount t) .of)) (wordCount t)) 16 ≡ true
 unfolding allBelow trues schema.wordCount schema.counts
 trues-test = refl
 
@@ -82,7 +82,7 @@ pub record Full (t : ℕ) (order : Order) : Type 0 where
   pub columns : (j : ℕ) → j < wordCount t → orderedColumn order j < wordCount t
   pub named : (c : ℕ) → c < wordCount t → Named order (wordCount t) c
 
-module _ (t : ℕ) (small : t < 15) where
+module _ (t : ℕ) (small : t < 16) where
   record Naming (i : ℕ) (due : Due) (order : Order) : Type 0 where
     long : length (order .of) ≡ 8
     left : trues (due .of) + i ≡ wordCount t
@@ -94,10 +94,10 @@ module _ (t : ℕ) (small : t < 15) where
   naming-start =
       record {
         long = refl;
-        left = let e = eqb-true (trues (allDue (wordCount t) .of)) (wordCount t) (all-at (λ t. eqb (trues (allDue (wordCount t) .of)) (wordCount t)) 15 trues-test t small) in omega arith;
+        left = let e = eqb-true (trues (allDue (wordCount t) .of)) (wordCount t) (all-at (λ t. eqb (trues (allDue (wordCount t) .of)) (wordCount t)) 16 trues-test t small) in omega arith;
         inside = due-below (wordCount t);
         columns = λ j l. absurd (omega arith);
-        named = λ c l e. let f : isDue (allDue (wordCount t)) c ≡ true = all-at (λ c. isDue (allDue (wordCount t)) c) (wordCount t) (all-at (λ t. allBelow (λ c. isDue (allDue (wordCount t)) c) (wordCount t)) 15 all-test t small) c l in no-good (sym e ∙ f);
+        named = λ c l e. let f : isDue (allDue (wordCount t)) c ≡ true = all-at (λ c. isDue (allDue (wordCount t)) c) (wordCount t) (all-at (λ t. allBelow (λ c. isDue (allDue (wordCount t)) c) (wordCount t)) 16 all-test t small) c l in no-good (sym e ∙ f);
       }
 
   naming-next : (i : ℕ) (due : Due) (order : Order) (d : ℕ) → i < wordCount t → isDue due d ≡ true → Naming i due order → Naming (i + 1) (metIn due d) (orderedBy order i d)

@@ -34,7 +34,7 @@ record LineSized (t : ℕ) (cells : Cells) : Type 0 where
   sized : (c : ℕ) → c < wordCount t → Sized (columnKind t c) (cellOf cells c)
   rest : (c : ℕ) → wordCount t ≤ c → cellOf cells c ≡ 0
 
-module _ (t : ℕ) (small : t < 15) where
+module _ (t : ℕ) (small : t < 16) where
   module _ (order : Order) (full : Full t order) where
     -- i words are kept
     record Kept (i : ℕ) (acc : Cells) : Type 0 where
@@ -148,7 +148,7 @@ TableSized u rows = (length rows ≤ limitOf u) × ((k : ℕ) → k < length row
 nothing-sized : (u : ℕ) → TableSized u []
 nothing-sized u = (omega arith, λ k m. absurd (omega arith))
 
-tables-sized : (n t : ℕ) (text : List ℕ) (at : ℕ) → t + n ≤ 15 → (i u : ℕ) → u ≡ t + i → TableSized u (getD (tablesLines n t text at) i [])
+tables-sized : (n t : ℕ) (text : List ℕ) (at : ℕ) → t + n ≤ 16 → (i u : ℕ) → u ≡ t + i → TableSized u (getD (tablesLines n t text at) i [])
 unfolding tablesLines
 tables-sized zero t text at most i u e = nothing-sized u
 tables-sized (suc n) t text at most i u e = go (tableLines t text at) (table-sized t (omega arith) text at) i e (λ next j f. tables-sized n (t + 1) text next (omega arith) j u f)
@@ -161,12 +161,12 @@ tables-sized (suc n) t text at most i u e = go (tableLines t text at) (table-siz
 
 rows-sized : (text : List ℕ) (t : ℕ) → TableSized t (linesOf text t)
 unfolding linesOf
-rows-sized text t = tables-sized 15 0 text 0 (omega arith) t t (sym (zero-add t))
+rows-sized text t = tables-sized 16 0 text 0 (omega arith) t t (sym (zero-add t))
 
 pub text-within : TextWithin
 text-within text = record { few = λ t l. rows-sized text t .0; line = line }
   where
-    line : (t : ℕ) → t < 15 → (k : ℕ) → k < length (linesOf text t) → LineFits t (getD (linesOf text t) k noCells)
+    line : (t : ℕ) → t < 16 → (k : ℕ) → k < length (linesOf text t) → LineFits t (getD (linesOf text t) k noCells)
     line t l k m =
         let s = rows-sized text t .1 k m in
         record {

@@ -86,22 +86,22 @@ whole-word cell = go (ltb cell 10000)
 -- ---- the listed words
 
 -- a list has words
-list-below : (list i : ℕ) → i < wordCount list → list < 20
+list-below : (list i : ℕ) → i < wordCount list → list < 21
 unfolding schema.wordCount schema.counts
-list-below list i h = go (ltb list 20) refl
+list-below list i h = go (ltb list 21) refl
   where
-    go : (t : Bool) → ltb list 20 ≡ t → list < 20
-    go true t = ltb-true list 20 t
-    go false t = absurd (omega (arith, List·getD-eq-default schema.counts 0 (ltb-false list 20 t)))
+    go : (t : Bool) → ltb list 21 ≡ t → list < 21
+    go true t = ltb-true list 21 t
+    go false t = absurd (omega (arith, List·getD-eq-default schema.counts 0 (ltb-false list 21 t)))
 
 -- a test of every word of every list
-all-listed : (p : ℕ → ℕ → Bool) → allBelow (λ list. allBelow (p list) (wordCount list)) 20 ≡ true → (list i : ℕ) → i < wordCount list → p list i ≡ true
-all-listed p e list i h = all-at (p list) (wordCount list) (all-at (λ list. allBelow (p list) (wordCount list)) 20 e list (list-below list i h)) i h
+all-listed : (p : ℕ → ℕ → Bool) → allBelow (λ list. allBelow (p list) (wordCount list)) 21 ≡ true → (list i : ℕ) → i < wordCount list → p list i ≡ true
+all-listed p e list i h = all-at (p list) (wordCount list) (all-at (λ list. allBelow (p list) (wordCount list)) 21 e list (list-below list i h)) i h
 
 abbrev isWord : ℕ → ℕ → Bool
 isWord list i = ltb 0 (length (getD (wordsOf list) i [])) && dark (getD (wordsOf list) i [])
 
-word-test : allBelow (λ list. allBelow (isWord list) (wordCount list)) 20 ≡ true
+word-test : allBelow (λ list. allBelow (isWord list) (wordCount list)) 21 ≡ true
 unfolding allBelow dark schema.wordCount schema.counts wordsOf
 word-test = refl
 
@@ -115,7 +115,7 @@ abbrev isRead : List ℕ → ℕ → ℕ → Bool
 isRead after list i =
     eqb (placeOf list (nameSpan (getD (wordsOf list) i [] ++ after) 0 .value)) i && eqb (nameSpan (getD (wordsOf list) i [] ++ after) 0 .next) (length (getD (wordsOf list) i []))
 
-read-test : (r : ℕ) (rest : List ℕ) → allBelow (λ list. allBelow (isRead (stopOf r ∷ rest) list) (wordCount list)) 20 ≡ true
+read-test : (r : ℕ) (rest : List ℕ) → allBelow (λ list. allBelow (isRead (stopOf r ∷ rest) list) (wordCount list)) 21 ≡ true
 unfolding allBelow schema.wordCount schema.counts schema.words schema.wordOf schema.firsts schema.firstOf schema.seek schema.placeOf wordsOf nameSpan nameFrom stopOf
 read-test zero rest = refl
 read-test (suc r) rest = refl

@@ -65,6 +65,6 @@ unfoldable pub tablesOf : ℕ → ℕ → (ℕ → List Cells) → List ℕ
 tablesOf zero table T = []
 tablesOf (suc n) table T = tableOf table (T table) ++ tablesOf n (table + 1) T
 
--- the text of the lines of the fifteen tables
+-- the text of the lines of the sixteen tables
 unfoldable pub printed : (ℕ → List Cells) → List ℕ
 printed T = tablesOf tableCount roadTable T

@@ -59,6 +59,8 @@ sampleText =
     "" ∷
     "cubic side place term start a b c d" ∷
     "" ∷
+    "mark section id start end kind" ∷
+    "" ∷
     "want s t" ∷
     "" ∷
     []

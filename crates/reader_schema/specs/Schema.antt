@@ -8,7 +8,7 @@ use mathlib.Core.Bool.{cond}
 use mathlib.Core.List.{List, [], _∷_, _++_, map}
 use lib.ListN.{length, getD}
 use lib.Dec.{eqb, ltb}
-use Rattle.records.specs.Layout.{mostGeoms, mostElevs, mostBanks, mostOffsets, mostShifts, mostSections, mostLanes, mostExtents, mostHeights, mostProfiles, mostShapes, mostCubics, mostWants}
+use Rattle.records.specs.Layout.{mostGeoms, mostElevs, mostBanks, mostOffsets, mostShifts, mostSections, mostLanes, mostExtents, mostHeights, mostProfiles, mostShapes, mostCubics, mostMarks, mostWants}
 use Rattle.reader_schema.specs.Tables.{tableCount, columnsMost}
 
 -- What a column holds: an f64, a whole number, or one of a list's words: a geometry's kind; an extent's; the words 0 and 1; a side; a term.
@@ -87,6 +87,7 @@ tables =
     table "shape" mostShapes (whole "profile" ∷ number "t" ∷ abcd) ∷
     table "strip" 4 (side "side" ∷ bit "place" ∷ bit "relative" ∷ []) ∷
     table "cubic" mostCubics (side "side" ∷ bit "place" ∷ term "term" ∷ number "start" ∷ abcd) ∷
+    table "mark" mostMarks (whole "section" ∷ whole "id" ∷ number "start" ∷ number "end" ∷ whole "kind" ∷ []) ∷  -- document 02, point 2: "section id start end kind, kind a whole number"
     table "want" mostWants (number "s" ∷ number "t" ∷ []) ∷
     []
 

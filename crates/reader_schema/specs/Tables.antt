@@ -43,11 +43,15 @@ stripTable = 12
 abbrev pub cubicTable : ℕ
 cubicTable = 13
 
+-- document 02, point 2: "A new table, mark, after strip and cubic"
+abbrev pub markTable : ℕ
+markTable = 14
+
 abbrev pub wantTable : ℕ
-wantTable = 14
+wantTable = 15
 
 abbrev pub tableCount : ℕ
-tableCount = 15
+tableCount = 16
 
 -- no table has more columns: a line's cells have as many places
 abbrev pub columnsMost : ℕ

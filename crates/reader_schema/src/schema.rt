@@ -8,6 +8,7 @@ use crate::tables::GEOM_TABLE;
 use crate::tables::HEIGHT_TABLE;
 use crate::tables::LANE_TABLE;
 use crate::tables::LIST_COUNT;
+use crate::tables::MARK_TABLE;
 use crate::tables::SHAPE_KINDS;
 use crate::tables::SHAPE_TABLE;
 use crate::tables::SIDES;
@@ -35,6 +36,7 @@ const NAMES: [u64; TABLE_COUNT] = [
     0x7368617065, // shape
     0x7374726970, // strip
     0x6375626963, // cubic
+    0x6d61726b, // mark
     0x77616e74, // want
 ];
 
@@ -54,11 +56,12 @@ const LINES: [u16; TABLE_COUNT] = [
     256, // shape
     4, // strip
     160, // cubic
+    256, // mark
     16, // want
 ];
 
 // How many words the tables' columns have, and the keyword columns.
-const COLUMN_WORDS: usize = 66;
+const COLUMN_WORDS: usize = 71;
 
 const KEYWORD_WORDS: usize = 14;
 
@@ -144,6 +147,12 @@ const COLUMNS: [u64; COLUMN_WORDS] = [
     0x62, // b
     0x63, // c
     0x64, // d
+    // mark
+    0x73656374696f6e, // section
+    0x6964, // id
+    0x7374617274, // start
+    0x656e64, // end
+    0x6b696e64, // kind
     // want
     0x73, // s
     0x74, // t
@@ -188,12 +197,13 @@ const FIRSTS: [u8; LIST_COUNT] = [
     47, // shape
     53, // strip
     56, // cubic
-    64, // want
-    66, // kind
-    69, // extent
-    71, // level, place, relative
-    73, // side
-    75, // term
+    64, // mark
+    69, // want
+    71, // kind
+    74, // extent
+    76, // level, place, relative
+    78, // side
+    80, // term
 ];
 
 const COUNTS: [u8; LIST_COUNT] = [
@@ -211,6 +221,7 @@ const COUNTS: [u8; LIST_COUNT] = [
     6, // shape
     3, // strip
     8, // cubic
+    5, // mark
     2, // want
     3, // kind
     2, // extent
@@ -234,6 +245,8 @@ const SHAPE: [u8; COLUMNS_MOST] = [WHOLE, 0, 0, 0, 0, 0, 0, 0];
 const STRIP: [u8; COLUMNS_MOST] = [SIDES, BITS, BITS, 0, 0, 0, 0, 0];
 
 const CUBIC: [u8; COLUMNS_MOST] = [SIDES, BITS, TERMS, 0, 0, 0, 0, 0];
+
+const MARK: [u8; COLUMNS_MOST] = [WHOLE, WHOLE, 0, 0, WHOLE, 0, 0, 0];
 
 // The name of a table as a number; 0, which no word is, past the last table.
 pub fn table_name(table: usize) -> u64
@@ -292,6 +305,7 @@ pub fn kind_of(table: usize, column: usize) -> u8
         SHAPE_TABLE => SHAPE[column],
         STRIP_TABLE => STRIP[column],
         CUBIC_TABLE => CUBIC[column],
+        MARK_TABLE => MARK[column],
         _ => 0,
     }
 }

@@ -27,13 +27,15 @@ pub const STRIP_TABLE: usize = 12;
 
 pub const CUBIC_TABLE: usize = 13;
 
-pub const WANT_TABLE: usize = 14;
+pub const MARK_TABLE: usize = 14;
 
-pub const TABLE_COUNT: usize = 15;
+pub const WANT_TABLE: usize = 15;
+
+pub const TABLE_COUNT: usize = 16;
 
 pub const COLUMNS_MOST: usize = 8;
 
-// What a column holds: an f64, a whole number, or a word of a list, by the list's number. Lists 0 to 14 are the columns of that table; the words of
+// What a column holds: an f64, a whole number, or a word of a list, by the list's number. Lists 0 to 15 are the columns of that table; the words of
 // keyword columns follow.
 pub const NUMBER: u8 = 0;
 

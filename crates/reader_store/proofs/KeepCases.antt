@@ -1,5 +1,6 @@
 -- A line kept: a law for each branch of the functions that keep it, giving the progress and the words together.
-use Prim.Native.Nat.{ℕ, _+_, _*_, _%_}
+use Prim.Native.Nat.{ℕ, _+_, _-_, _*_, _%_, _<_}
+use native.Mathlib.Omega.{arith}
 use mathlib.Core.Path.{_≡_, refl}
 use mathlib.Core.Bool.{true, false, _&&_}
 use mathlib.Core.List.{List}
@@ -8,10 +9,11 @@ use lib.Dec.{leb}
 use lib.ListN.{getD, set}
 use Rattle.reader_lines.specs.Columns.{cellOf}
 use Rattle.reader_lines.specs.declared.columns.Cells.{Cells}
-use Rattle.reader_store.specs.Layout.{oneMore, wordsBelow, ruleOf}
+use Rattle.reader_store.specs.Layout.{codeOf, oneMore, wordsBelow, ruleOf}
 use Rattle.reader_store.specs.Progress.{stripOf, stripLine, listedAs, unsoundProgress}
-use Rattle.reader_store.specs.Parents.{parentOf}
-use Rattle.reader_store.specs.Keep.{firstLine, added, inOrder, underWords, underProgress, stripNamed, stripsKept, stripProgress, ruledWords, ruledProgress, keptWords, keptProgress}
+use Rattle.reader_store.specs.Parents.{markLane, parentOf}
+use Rattle.reader_store.specs.Keep.{firstLine, added, inOrder, underWords, underProgress, stripNamed, stripsKept, stripProgress, markKind, markPut, ownWords, ruledWords, ruledProgress, keptWords, keptProgress}
+use Rattle.reader_store.specs.declared.parents.Index.{Index}
 use Rattle.reader_store.specs.declared.parents.Parent.{Parent}
 use Rattle.reader_store.specs.declared.progress.Progress.{Progress}
 use Rattle.reader_store.specs.declared.progress.Strips.{Strips}
@@ -54,21 +56,41 @@ module _ (ws : List ℕ) (k : ℕ) (cells : Cells) (progress : Progress) {strip 
   unfolding stripProgress stripsKept
   strip-new h g p q s = rw (← e, ← f, eq-eqb line 0 h, ← g, s, q, p) (refl, refl)
 
+pub kind-below : (cell : ℕ) → cell < 10000 → 0 ≡ markKind cell
+unfolding codeOf
+kind-below cell h = let e : cell - 10000 ≡ 0 = omega arith in rw e
+
+module _ (ws : List ℕ) (k : ℕ) (cells : Cells) where
+  pub mark-put : {a b c v w : ℕ} {lane : Index} {xs ys : List ℕ} → a ≡ cellOf cells 0 → b ≡ cellOf cells 1 → lane ≡ markLane ws a b → v ≡ codeOf (lane .index)
+      → c ≡ cellOf cells 4 → w ≡ markKind c → xs ≡ set ws (1379 + k * 2) v → ys ≡ set xs (1379 + k * 2 + 1) w → ys ≡ markPut ws k cells
+  unfolding markPut
+  mark-put e f g h i j p q = rw (← e, ← f, ← g, ← h, ← i, ← j, ← p, q)
+
+  module _ (rule : ℕ) where
+    pub own-mark : {xs : List ℕ} → rule ≡ 6 → xs ≡ markPut ws k cells → xs ≡ ownWords ws rule k cells
+    unfolding ownWords
+    own-mark h e = rw (eq-eqb rule 6 h, e)
+
+    pub own-none : (rule ≡ 6 → ⊥) → ws ≡ ownWords ws rule k cells
+    unfolding ownWords
+    own-none h = rw (ne-eqb rule 6 h)
+
 module _ (ws : List ℕ) (rule k : ℕ) (cells : Cells) (progress : Progress) where
   pub ruled-none : rule ≡ 0 → (progress ≡ ruledProgress ws rule k cells progress) × (ws ≡ ruledWords ws rule k cells progress)
   unfolding ruledProgress ruledWords
   ruled-none h = rw (eq-eqb rule 0 h) (refl, refl)
 
   module _ (z : rule ≡ 0 → ⊥) {r : Progress} {xs : List ℕ} where
-    pub ruled-strip : rule ≡ 6 → r ≡ stripProgress k cells progress → xs ≡ stripsKept ws cells progress
+    pub ruled-strip : rule ≡ 7 → r ≡ stripProgress k cells progress → xs ≡ stripsKept ws cells progress
         → (r ≡ ruledProgress ws rule k cells progress) × (xs ≡ ruledWords ws rule k cells progress)
     unfolding ruledProgress ruledWords
-    ruled-strip h p q = rw (ne-eqb rule 0 z, eq-eqb rule 6 h) (p, q)
+    ruled-strip h p q = rw (ne-eqb rule 0 z, eq-eqb rule 7 h) (p, q)
 
-    pub ruled-under : {parent : Parent} → (rule ≡ 6 → ⊥) → parent ≡ parentOf ws rule cells (progress .strips) → r ≡ underProgress parent progress → xs ≡ underWords ws k parent progress
+    pub ruled-under : {parent : Parent} {us : List ℕ} → (rule ≡ 7 → ⊥) → parent ≡ parentOf ws rule cells (progress .strips) → us ≡ ownWords ws rule k cells
+        → r ≡ underProgress parent progress → xs ≡ underWords us k parent progress
         → (r ≡ ruledProgress ws rule k cells progress) × (xs ≡ ruledWords ws rule k cells progress)
     unfolding ruledProgress ruledWords
-    ruled-under h e p q = rw (ne-eqb rule 0 z, ne-eqb rule 6 h, ← e) (p, q)
+    ruled-under h e f p q = rw (ne-eqb rule 0 z, ne-eqb rule 7 h, ← e, ← f) (p, q)
 
 pub kept-is : (table k : ℕ) (cells : Cells) (progress : Progress) (ws : List ℕ) {us xs : List ℕ} {rule : ℕ} {r : Progress} → us ≡ wordsBelow table k cells 8 ws → rule ≡ ruleOf table
     → r ≡ ruledProgress us rule k cells progress → xs ≡ ruledWords us rule k cells progress → (r ≡ keptProgress table k cells progress ws) × (xs ≡ keptWords table k cells progress ws)

@@ -10,7 +10,7 @@ use Rattle.reader_lines.specs.Columns.{cellOf}
 use Rattle.reader_lines.specs.declared.columns.Cells.{Cells}
 use Rattle.reader_store.specs.Layout.{baseOf, strideOf}
 use Rattle.reader_store.specs.Progress.{stripOf, stripLine}
-use Rattle.reader_store.specs.Parents.{noIndex, indexAt, counted, sideOf, sectionWord, laneTurn, laneAmong, laneIndex, termOf, indexOf, rangeOf, parentOf}
+use Rattle.reader_store.specs.Parents.{noIndex, indexAt, counted, sideOf, sectionWord, laneTurn, laneAmong, laneIndex, markLane, markIndex, termOf, indexOf, rangeOf, parentOf}
 use Rattle.reader_store.specs.declared.parents.Index.{Index}
 use Rattle.reader_store.specs.declared.parents.Parent.{Parent}
 use Rattle.reader_store.specs.declared.progress.Strips.{Strips}
@@ -83,6 +83,16 @@ module _ (ws : List ℕ) (section id : ℕ) {n : ℕ} {s : Index} (e : n ≡ get
   unfolding laneIndex
   lane-some h p q g k = rw (← e, ← f, h, ← p, ← q, ← g, k)
 
+  pub mark-lane-is : {l r : ℕ} {x : Index} → l ≡ getD ws (sectionWord (s .index) + 1) 0 → r ≡ getD ws (sectionWord (s .index) + 2) 0 → x ≡ laneAmong 0 l r id
+      → x ≡ markLane ws section id
+  unfolding markLane
+  mark-lane-is p q g = rw (← e, ← f, ← p, ← q, g)
+
+  pub mark-index-is : {x : Index} → x ≡ markLane ws section id
+      → record { there = s .there && x .there; rank = s .rank; index = s .index } ≡ markIndex ws section id
+  unfolding markIndex markLane
+  mark-index-is g = rw (g, ← e, ← f)
+
 pub term-is : (strips : Strips) (side place term : ℕ) {strip line : ℕ} → strip ≡ stripOf side place → line ≡ stripLine strips strip
     → record { there = not (eqb line 0); rank = line * 5 + term % 5; index = strip * 11 + term % 5 * 2 } ≡ termOf strips side place term
 unfolding termOf
@@ -97,9 +107,13 @@ module _ (ws : List ℕ) (rule : ℕ) (cells : Cells) (strips : Strips) {a b : �
   unfolding indexOf
   index-profile z h g k = rw (ne-eqb rule 5 z, eq-eqb rule 4 h, ← e, ← g, k)
 
-  pub index-lane : {r : Index} → (rule ≡ 5 → ⊥) → (rule ≡ 4 → ⊥) → r ≡ laneIndex ws a b → r ≡ indexOf ws rule cells strips
+  pub index-mark : {r : Index} → (rule ≡ 5 → ⊥) → (rule ≡ 4 → ⊥) → rule ≡ 6 → r ≡ markIndex ws a b → r ≡ indexOf ws rule cells strips
   unfolding indexOf
-  index-lane z h k = rw (ne-eqb rule 5 z, ne-eqb rule 4 h, ← e, ← f, k)
+  index-mark z y h k = rw (ne-eqb rule 5 z, ne-eqb rule 4 y, eq-eqb rule 6 h, ← e, ← f, k)
+
+  pub index-lane : {r : Index} → (rule ≡ 5 → ⊥) → (rule ≡ 4 → ⊥) → (rule ≡ 6 → ⊥) → r ≡ laneIndex ws a b → r ≡ indexOf ws rule cells strips
+  unfolding indexOf
+  index-lane z y h k = rw (ne-eqb rule 5 z, ne-eqb rule 4 y, ne-eqb rule 6 h, ← e, ← f, k)
 
   pub parent-lane : {r : Parent} → rule ≡ 1 → r ≡ laneTurn ws a b → r ≡ parentOf ws rule cells strips
   unfolding parentOf

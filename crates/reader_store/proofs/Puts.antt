@@ -50,14 +50,14 @@ module _ (table k : ℕ) (cells : Cells) where
   unfolding wordsBelow
   words-more n ws e f g = rw (add-one, ← e, ← f, g)
 
-  pub wants-put : (vs : List ℕ) {a b : ℕ} {xs ys : List ℕ} → table ≡ 14 → a ≡ cellOf cells 0 → b ≡ cellOf cells 1 → xs ≡ set vs (k * 2) a → ys ≡ set xs (k * 2 + 1) b
+  pub wants-put : (vs : List ℕ) {a b : ℕ} {xs ys : List ℕ} → table ≡ 15 → a ≡ cellOf cells 0 → b ≡ cellOf cells 1 → xs ≡ set vs (k * 2) a → ys ≡ set xs (k * 2 + 1) b
       → ys ≡ wantsKept table k cells vs
   unfolding wantsKept
-  wants-put vs h e f p q = rw (eq-eqb table 14 h, q, p, e, f)
+  wants-put vs h e f p q = rw (eq-eqb table 15 h, q, p, e, f)
 
-  pub wants-not : (vs : List ℕ) → (table ≡ 14 → ⊥) → vs ≡ wantsKept table k cells vs
+  pub wants-not : (vs : List ℕ) → (table ≡ 15 → ⊥) → vs ≡ wantsKept table k cells vs
   unfolding wantsKept
-  wants-not vs h = rw (ne-eqb table 14 h)
+  wants-not vs h = rw (ne-eqb table 15 h)
 
 module _ (table k : ℕ) {d : ℕ} (e : d ≡ countPlace table) (ws : List ℕ) where
   pub count-put : 0 < d → set ws (d - 1) k ≡ countKept table k ws

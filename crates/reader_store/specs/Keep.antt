@@ -1,17 +1,18 @@
 -- Document 01, "The job text": a line kept, with its cells at their places and the line under its parent. Read `keptWords` and `keptProgress` first, at the end.
 -- "At most 6 a side", "0..16 a lane" and the like are not tested here: admission tests them on the road that is kept.
-use Prim.Native.Nat.{ℕ, _+_, _*_, _%_}
+use Prim.Native.Nat.{ℕ, _+_, _-_, _*_, _%_}
 use mathlib.Core.Bool.{Bool, _&&_, cond}
 use mathlib.Core.List.{List}
 use lib.ListN.{getD, set}
 use lib.Dec.{eqb, leb}
-use Rattle.records.specs.Layout.{stripWords as stripBase, stripStride}
+use Rattle.records.specs.Layout.{stripWords as stripBase, stripStride, markWords, markStride}
 use Rattle.reader_schema.specs.Tables.{columnsMost}
+use Rattle.reader_cells.specs.Cells.{wholeBias}
 use Rattle.reader_lines.specs.Columns.{cellOf}
 use Rattle.reader_lines.specs.declared.columns.Cells.{Cells}
-use Rattle.reader_store.specs.Layout.{oneMore, wordsBelow, ruleOf, noRule, stripRule}
+use Rattle.reader_store.specs.Layout.{codeOf, oneMore, wordsBelow, ruleOf, noRule, markRule, stripRule}
 use Rattle.reader_store.specs.Progress.{bitIn, stripOf, stripLine, listedAs, unsoundProgress}
-use Rattle.reader_store.specs.Parents.{parentOf}
+use Rattle.reader_store.specs.Parents.{parentOf, markLane}
 use Rattle.reader_store.specs.declared.parents.Parent.{Parent}
 use Rattle.reader_store.specs.declared.progress.Progress.{Progress}
 
@@ -50,10 +51,24 @@ stripProgress k cells progress =
     (record { sound = progress .sound; last = progress .last; strips = listedAs (progress .strips) (stripNamed cells) (oneMore k) })
     (unsoundProgress progress)
 
+-- document 02, point 2: "kind a whole number 1..255": as a word. One below 0 becomes 0, which is no kind either.
+abbrev pub markKind : ℕ → ℕ
+markKind cell = codeOf (cell - wholeBias)
+
+-- line k of the table mark: its lane by its place in its section, its kind
+unfoldable pub markPut : List ℕ → ℕ → Cells → List ℕ
+markPut ws k cells =
+    set (set ws (markWords + k * markStride) (codeOf (markLane ws (cellOf cells 0) (cellOf cells 1) .index))) (markWords + k * markStride + 1) (markKind (cellOf cells 4))
+
+-- a mark's own words; other lines under a parent have none
+unfoldable pub ownWords : List ℕ → ℕ → ℕ → Cells → List ℕ
+ownWords ws rule k cells = cond (eqb rule markRule) (markPut ws k cells) ws
+
 -- by the rule of the table: nothing more, a strip, or a line under its parent
 unfoldable pub ruledWords : List ℕ → ℕ → ℕ → Cells → Progress → List ℕ
 ruledWords ws rule k cells progress =
-    cond (eqb rule noRule) ws (cond (eqb rule stripRule) (stripsKept ws cells progress) (underWords ws k (parentOf ws rule cells (progress .strips)) progress))
+    cond (eqb rule noRule) ws
+    (cond (eqb rule stripRule) (stripsKept ws cells progress) (underWords (ownWords ws rule k cells) k (parentOf ws rule cells (progress .strips)) progress))
 
 unfoldable pub ruledProgress : List ℕ → ℕ → ℕ → Cells → Progress → Progress
 ruledProgress ws rule k cells progress =

@@ -1,8 +1,9 @@
 -- The layout of a road in lent memory by table, as data, and the cells of one line put into it. Document 01: "`Vec` fields become ranges in lent slices".
 -- Where each table stands is said once, in crate records (specs/Layout).
--- numbers: length; geom; elev; bank; offset; tshift; section starts; extents; heights; profiles; shapes; cubics, each at its table's limit.
+-- numbers: length; geom; elev; bank; offset; tshift; section starts; extents; heights; profiles; shapes; cubics; spans of marks, each at its table's limit.
 -- words: seven counts; a kind for each geometry; (first lane, left, right) of each section; (extent, level, extents' range, heights' range) of each lane;
--- the shapes' range of each profile; (presence, and the ranges of width and of the terms 0 to 3) of each of four strips. wants: the patterns of s and t.
+-- the shapes' range of each profile; (presence, and the ranges of width and of the terms 0 to 3) of each of four strips; the marks' range of each section;
+-- (lane, kind) of each mark. wants: the patterns of s and t.
 -- Line k of a table is at most the 512th here (the tables' limits are tested before a line is kept), so every index and count is small.
 use Prim.Native.Nat.{ℕ, zero, suc, _+_, _-_, _*_}
 use mathlib.Core.Bool.{cond}
@@ -10,7 +11,7 @@ use mathlib.Core.List.{List, [], _∷_}
 use lib.ListN.{getD, set}
 use lib.Dec.{eqb, ltb}
 use lib.Ieee.{Float, binary64, ofBits}
-use Rattle.records.specs.Layout.{lengthPlace, geomBase, geomStride, elevBase, bankBase, offsetBase, tshiftBase, sectionBase, extentBase, heightBase, profileBase, shapeBase, cubicBase, cubicStride, heightStride, geomCountAt, elevCountAt, bankCountAt, offsetCountAt, tshiftCountAt, sectionCountAt, profileCountAt, kindWords, laneWords, laneStride, profileWords, profileStride, stripWords, wantStride}
+use Rattle.records.specs.Layout.{lengthPlace, geomBase, geomStride, elevBase, bankBase, offsetBase, tshiftBase, sectionBase, extentBase, heightBase, profileBase, shapeBase, cubicBase, cubicStride, heightStride, geomCountAt, elevCountAt, bankCountAt, offsetCountAt, tshiftCountAt, sectionCountAt, profileCountAt, kindWords, laneWords, laneStride, profileWords, profileStride, stripWords, spanBase, spanStride, sectionMarkWords, sectionMarkStride, wantStride}
 use Rattle.reader_schema.specs.Tables.{wantTable, columnsMost}
 use Rattle.reader_lines.specs.Columns.{cellOf}
 use Rattle.reader_lines.specs.declared.columns.Cells.{Cells}
@@ -32,6 +33,7 @@ places =
     (shapeBase ∷ cubicStride ∷ 0 ∷ 0 ∷ []) ∷  -- shape
     (0 ∷ 0 ∷ 0 ∷ 0 ∷ []) ∷  -- strip
     (cubicBase ∷ cubicStride ∷ 0 ∷ 0 ∷ []) ∷  -- cubic
+    (spanBase ∷ spanStride ∷ 0 ∷ 0 ∷ []) ∷  -- mark
     (0 ∷ 0 ∷ 0 ∷ 0 ∷ []) ∷  -- want
     []
 
@@ -68,13 +70,14 @@ numbers =
     (0 ∷ 1 ∷ 2 ∷ 3 ∷ 4 ∷ 5 ∷ 0 ∷ 0 ∷ []) ∷  -- shape
     (0 ∷ 0 ∷ 0 ∷ 0 ∷ 0 ∷ 0 ∷ 0 ∷ 0 ∷ []) ∷  -- strip
     (0 ∷ 0 ∷ 0 ∷ 1 ∷ 2 ∷ 3 ∷ 4 ∷ 5 ∷ []) ∷  -- cubic
+    (0 ∷ 0 ∷ 1 ∷ 2 ∷ 0 ∷ 0 ∷ 0 ∷ 0 ∷ []) ∷  -- mark
     (0 ∷ 0 ∷ 0 ∷ 0 ∷ 0 ∷ 0 ∷ 0 ∷ 0 ∷ []) ∷  -- want
     []
 
 unfoldable pub numberPlace : ℕ → ℕ → ℕ
 numberPlace table column = cond (ltb column columnsMost) (getD (getD numbers table []) column 0) 0
 
--- which of its line's words each column is, likewise: a geometry's kind, a lane's extent and level. A strip's relative has a rule of its own
+-- which of its line's words each column is, likewise: a geometry's kind, a lane's extent and level. A strip's relative, and a mark's lane and kind, have rules of their own
 unfoldable pub words : List (List ℕ)
 words =
     (0 ∷ 0 ∷ 0 ∷ 0 ∷ 0 ∷ 0 ∷ 0 ∷ 0 ∷ []) ∷  -- road
@@ -91,6 +94,7 @@ words =
     (0 ∷ 0 ∷ 0 ∷ 0 ∷ 0 ∷ 0 ∷ 0 ∷ 0 ∷ []) ∷  -- shape
     (0 ∷ 0 ∷ 0 ∷ 0 ∷ 0 ∷ 0 ∷ 0 ∷ 0 ∷ []) ∷  -- strip
     (0 ∷ 0 ∷ 0 ∷ 0 ∷ 0 ∷ 0 ∷ 0 ∷ 0 ∷ []) ∷  -- cubic
+    (0 ∷ 0 ∷ 0 ∷ 0 ∷ 0 ∷ 0 ∷ 0 ∷ 0 ∷ []) ∷  -- mark
     (0 ∷ 0 ∷ 0 ∷ 0 ∷ 0 ∷ 0 ∷ 0 ∷ 0 ∷ []) ∷  -- want
     []
 
@@ -114,13 +118,14 @@ counts =
     0 ∷  -- shape
     0 ∷  -- strip
     0 ∷  -- cubic
+    0 ∷  -- mark
     0 ∷  -- want
     []
 
 unfoldable pub countPlace : ℕ → ℕ
 countPlace table = getD counts table 0
 
--- the rule that a table's lines follow: none, a section's lanes, a lane's extents, its heights, a profile's shapes, a strip's cubics, strips
+-- the rule that a table's lines follow: none, a section's lanes, a lane's extents, its heights, a profile's shapes, a strip's cubics, a section's marks, strips
 abbrev pub noRule : ℕ
 noRule = 0
 
@@ -139,8 +144,11 @@ shapeRule = 4
 abbrev pub cubicRule : ℕ
 cubicRule = 5
 
+abbrev pub markRule : ℕ
+markRule = 6
+
 abbrev pub stripRule : ℕ
-stripRule = 6
+stripRule = 7
 
 unfoldable pub rules : List ℕ
 rules =
@@ -158,6 +166,7 @@ rules =
     shapeRule ∷  -- shape
     stripRule ∷  -- strip
     cubicRule ∷  -- cubic
+    markRule ∷  -- mark
     noRule ∷  -- want
     []
 
@@ -173,6 +182,7 @@ bases =
     (laneWords + 4) ∷  -- heights
     profileWords ∷  -- shapes
     (stripWords + 1) ∷  -- cubics
+    sectionMarkWords ∷  -- marks
     []
 
 unfoldable pub baseOf : ℕ → ℕ
@@ -186,6 +196,7 @@ strides =
     laneStride ∷  -- heights
     profileStride ∷  -- shapes
     1 ∷  -- cubics
+    sectionMarkStride ∷  -- marks
     []
 
 unfoldable pub strideOf : ℕ → ℕ

@@ -9,7 +9,7 @@ use Rattle.records.specs.Layout.{sectionCountAt, profileCountAt, sectionWords, 
 use Rattle.reader_cells.specs.Cells.{wholeBias}
 use Rattle.reader_lines.specs.Columns.{cellOf}
 use Rattle.reader_lines.specs.declared.columns.Cells.{Cells}
-use Rattle.reader_store.specs.Layout.{laneRule, shapeRule, cubicRule, baseOf, strideOf}
+use Rattle.reader_store.specs.Layout.{laneRule, shapeRule, cubicRule, markRule, baseOf, strideOf}
 use Rattle.reader_store.specs.Progress.{stripOf, stripLine}
 use Rattle.reader_store.specs.declared.parents.Index.{Index}
 use Rattle.reader_store.specs.declared.parents.Parent.{Parent}
@@ -75,6 +75,20 @@ laneWithin ws id s =
 unfoldable pub laneIndex : List ℕ → ℕ → ℕ → Index
 laneIndex ws section id = laneWithin ws id (counted section (getD ws sectionCountAt 0))
 
+-- The place of a mark's lane in its section, counted from 0: `laneAmong` with 0 as the first lane. Where the section is not there it means nothing.
+abbrev pub markLaneIn : List ℕ → ℕ → Index → Index
+markLaneIn ws id s = laneAmong 0 (getD ws (sectionWord (s .index) + 1) 0) (getD ws (sectionWord (s .index) + 2) 0) id
+
+unfoldable pub markLane : List ℕ → ℕ → ℕ → Index
+markLane ws section id = markLaneIn ws id (counted section (getD ws sectionCountAt 0))
+
+-- a mark under its section: the section exists, and it has the lane. Document 02, point 2: "any other wrong .. section or lane id is 3"
+abbrev pub markWithin : List ℕ → ℕ → Index → Index
+markWithin ws id s = record { there = s .there && markLaneIn ws id s .there; rank = s .rank; index = s .index }
+
+unfoldable pub markIndex : List ℕ → ℕ → ℕ → Index
+markIndex ws section id = markWithin ws id (counted section (getD ws sectionCountAt 0))
+
 -- a strip's width and its terms 0 to 3; a cell that names one is its place among them, so the remainder changes no such cell
 abbrev pub termCount : ℕ
 termCount = 5
@@ -92,12 +106,12 @@ termOf strips side place term =
       index = stripOf side place * stripStride + termIn term * 2;
     }
 
--- the parent that a line's first columns name: of a cubic side, place and term, of a shape the profile, of extents and heights section and id
+-- the parent that a line's first columns name: of a cubic side, place and term, of a shape the profile, of a mark the section, of extents and heights section and id
 unfoldable pub indexOf : List ℕ → ℕ → Cells → Strips → Index
 indexOf ws rule cells strips =
     cond (eqb rule cubicRule) (termOf strips (cellOf cells 0) (cellOf cells 1) (cellOf cells 2))
     (cond (eqb rule shapeRule) (counted (cellOf cells 0) (getD ws profileCountAt 0))
-    (laneIndex ws (cellOf cells 0) (cellOf cells 1)))
+    (cond (eqb rule markRule) (markIndex ws (cellOf cells 0) (cellOf cells 1)) (laneIndex ws (cellOf cells 0) (cellOf cells 1))))
 
 -- a parent's range (first, count) of lines: a line is the first where the count is 0
 unfoldable pub rangeOf : List ℕ → Index → ℕ → ℕ → Parent

@@ -7,6 +7,7 @@ use reader_schema::tables::EXTENT_TABLE;
 use reader_schema::tables::GEOM_TABLE;
 use reader_schema::tables::HEIGHT_TABLE;
 use reader_schema::tables::LANE_TABLE;
+use reader_schema::tables::MARK_TABLE;
 use reader_schema::tables::OFFSET_TABLE;
 use reader_schema::tables::PROFILE_TABLE;
 use reader_schema::tables::ROAD_TABLE;
@@ -38,7 +39,11 @@ use records::layout::PROFILE_STRIDE;
 use records::layout::PROFILE_WORDS;
 use records::layout::SECTION_BASE;
 use records::layout::SECTION_COUNT_AT;
+use records::layout::SECTION_MARK_STRIDE;
+use records::layout::SECTION_MARK_WORDS;
 use records::layout::SHAPE_BASE;
+use records::layout::SPAN_BASE;
+use records::layout::SPAN_STRIDE;
 use records::layout::STRIP_WORDS;
 use records::layout::TSHIFT_BASE;
 use records::layout::TSHIFT_COUNT_AT;
@@ -71,6 +76,7 @@ const FIRST_NUMBERS: [u16; TABLE_COUNT] = [
     SHAPE_BASE as u16, // shape
     0, // strip
     CUBIC_BASE as u16, // cubic
+    SPAN_BASE as u16, // mark
     0, // want
 ];
 
@@ -89,6 +95,7 @@ const NUMBER_STRIDES: [u16; TABLE_COUNT] = [
     CUBIC_STRIDE as u16, // shape
     0, // strip
     CUBIC_STRIDE as u16, // cubic
+    SPAN_STRIDE as u16, // mark
     0, // want
 ];
 
@@ -102,6 +109,7 @@ const FIRST_WORDS: [u16; TABLE_COUNT] = [
     0,
     0,
     LANE_WORDS as u16,
+    0,
     0,
     0,
     0,
@@ -127,6 +135,7 @@ const WORD_STRIDES: [u16; TABLE_COUNT] = [
     0,
     0,
     0,
+    0,
 ];
 
 // Which of its line's numbers each column is, counted from 1; 0 where it is none. Lanes, strips and wants have none.
@@ -143,6 +152,8 @@ const HEIGHT: [u8; COLUMNS_MOST] = [0, 0, 1, 2, 3, 0, 0, 0];
 const SHAPE: [u8; COLUMNS_MOST] = [0, 1, 2, 3, 4, 5, 0, 0];
 
 const CUBIC: [u8; COLUMNS_MOST] = [0, 0, 0, 1, 2, 3, 4, 5];
+
+const MARK: [u8; COLUMNS_MOST] = [0, 0, 1, 2, 0, 0, 0, 0];
 
 // Which of its line's words each column is, likewise: a geometry's kind, a lane's extent and level.
 const GEOM_CODES: [u8; COLUMNS_MOST] = [0, 0, 0, 0, 0, 1, 0, 0];
@@ -165,10 +176,12 @@ const COUNTS: [u8; TABLE_COUNT] = [
     0, // shape
     0, // strip
     0, // cubic
+    0, // mark
     0, // want
 ];
 
-// The rule that a table's lines follow: none, a section's lanes, a lane's extents, its heights, a profile's shapes, a strip's cubics, strips.
+// The rule that a table's lines follow: none, a section's lanes, a lane's extents, its heights, a profile's shapes, a strip's cubics,
+// a section's marks, strips.
 pub(crate) const NO_RULE: u8 = 0;
 
 pub(crate) const LANE_RULE: u8 = 1;
@@ -181,7 +194,9 @@ pub(crate) const SHAPE_RULE: u8 = 4;
 
 pub(crate) const CUBIC_RULE: u8 = 5;
 
-pub(crate) const STRIP_RULE: u8 = 6;
+pub(crate) const MARK_RULE: u8 = 6;
+
+pub(crate) const STRIP_RULE: u8 = 7;
 
 const RULES: [u8; TABLE_COUNT] = [
     NO_RULE, // road
@@ -198,6 +213,7 @@ const RULES: [u8; TABLE_COUNT] = [
     SHAPE_RULE, // shape
     STRIP_RULE, // strip
     CUBIC_RULE, // cubic
+    MARK_RULE, // mark
     NO_RULE, // want
 ];
 
@@ -211,6 +227,7 @@ const BASES: [u16; RANGES] = [
     LANE_WORDS as u16 + 4, // heights
     PROFILE_WORDS as u16, // shapes
     STRIP_WORDS as u16 + 1, // cubics
+    SECTION_MARK_WORDS as u16, // marks
 ];
 
 const STRIDES: [u8; RANGES] = [
@@ -220,6 +237,7 @@ const STRIDES: [u8; RANGES] = [
     LANE_STRIDE as u8, // heights
     PROFILE_STRIDE as u8, // shapes
     1, // cubics
+    SECTION_MARK_STRIDE as u8, // marks
 ];
 
 pub(crate) fn place_at(table: usize, part: usize) -> u16
@@ -254,6 +272,7 @@ pub(crate) fn number_place(table: usize, column: usize) -> u8
         HEIGHT_TABLE => HEIGHT[column],
         SHAPE_TABLE => SHAPE[column],
         CUBIC_TABLE => CUBIC[column],
+        MARK_TABLE => MARK[column],
         _ => 0,
     }
 }

@@ -3,18 +3,21 @@ ghost use mathlib.Core.Path.{_≡_};
 ghost use Rattle.reader_schema.specs.Tables.{columnsMost};
 ghost use Rattle.reader_store.specs.Layout.{numbersBelow, wantsKept, countKept};
 ghost use Rattle.reader_store.specs.Progress.{endedProgress};
-ghost use Rattle.reader_store.specs.Keep.{firstLine, added, underProgress, underWords, stripProgress, stripsKept, ruledProgress, ruledWords, keptProgress, keptWords};
+ghost use Rattle.reader_store.specs.Keep.{firstLine, added, underProgress, underWords, stripProgress, stripsKept, markKind, markPut, ownWords, ruledProgress, ruledWords, keptProgress, keptWords};
 use crate::columns::put_numbers;
 use crate::columns::put_wants;
 use crate::columns::put_words;
+use crate::layout::MARK_RULE;
 use crate::layout::NO_RULE;
 use crate::layout::STRIP_RULE;
 use crate::layout::count_place;
 use crate::layout::rule_of;
+use crate::memory::code;
 use crate::memory::one_more;
 use crate::memory::set_word;
 use crate::memory::word;
 use crate::parents::Parent;
+use crate::parents::mark_lane;
 use crate::parents::parent_of;
 use crate::progress::Progress;
 use crate::progress::ended;
@@ -22,7 +25,10 @@ use crate::progress::line_of;
 use crate::progress::listed;
 use crate::progress::strip_of;
 use crate::progress::unsound;
+use reader_cells::WHOLE_BIAS;
 use reader_lines::Cells;
+use records::layout::MARK_STRIDE;
+use records::layout::MARK_WORDS;
 use records::layout::STRIP_STRIDE;
 use records::layout::STRIP_WORDS;
 
@@ -89,7 +95,40 @@ fn keep_strip(words: &mut [u16], k: u16, cells: Cells, progress: Progress) -> Pr
     }
 }
 
-// Keeps line k under its parent, or as a strip, by the rule of its table.
+// A mark's kind as a word. One below 0 becomes 0, which is no kind either, and never comes round to one.
+fn mark_kind(cell: u64) -> u16
+    ensures { λ r. ⌜ r ≡ markKind cell ⌝ }
+{
+    if cell < WHOLE_BIAS {
+        return 0;
+    }
+    code(cell - WHOLE_BIAS)
+}
+
+// Keeps line k's lane, by its place in its section, and its kind.
+fn put_mark(words: &mut [u16], k: u16, cells: Cells)
+    ensures { λ _. ⌜ now (words .exit) ≡ markPut (now (words .entry)) k cells ⌝ }
+{
+    let lane = mark_lane(
+        words,
+        reader_lines::cell_of(cells, 0),
+        reader_lines::cell_of(cells, 1),
+    );
+    let i = MARK_WORDS + k as usize * MARK_STRIDE;
+    set_word(words, i, code(lane.index as u64));
+    set_word(words, i + 1, mark_kind(reader_lines::cell_of(cells, 4)));
+}
+
+// Keeps a mark's own words; other lines under a parent have none.
+fn put_own(words: &mut [u16], rule: u8, k: u16, cells: Cells)
+    ensures { λ _. ⌜ now (words .exit) ≡ ownWords (now (words .entry)) rule k cells ⌝ }
+{
+    if rule == MARK_RULE {
+        put_mark(words, k, cells);
+    }
+}
+
+// Keeps line k under its parent, or as a strip, by the rule of its table. The parent is found before the line's own words are written.
 fn keep_ruled(words: &mut [u16], rule: u8, k: u16, cells: Cells, progress: Progress) -> Progress
     ensures { λ r. ⌜ r ≡ ruledProgress (now (words .entry)) rule k cells progress ⌝ }
     ensures { λ _. ⌜ now (words .exit) ≡ ruledWords (now (words .entry)) rule k cells progress ⌝ }
@@ -102,6 +141,7 @@ fn keep_ruled(words: &mut [u16], rule: u8, k: u16, cells: Cells, progress: Progr
     }
     let strips = progress.strips;
     let parent = parent_of(words, rule, cells, strips);
+    put_own(words, rule, k, cells);
     keep_under(words, k, parent, progress)
 }
 

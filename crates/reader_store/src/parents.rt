@@ -1,9 +1,10 @@
-// The parent of a line: a lane's section, an extent's or a height's lane, a shape's profile, a cubic's strip and term.
+// The parent of a line: a lane's or a mark's section, an extent's or a height's lane, a shape's profile, a cubic's strip and term.
 ghost use mathlib.Core.Path.{_≡_};
 ghost use Prim.Native.Nat.{_<_};
-ghost use Rattle.reader_store.specs.Parents.{noIndex, indexAt, counted, sideOf, laneTurn, laneAmong, laneIndex, termOf, indexOf, rangeOf, parentOf};
+ghost use Rattle.reader_store.specs.Parents.{noIndex, indexAt, counted, sideOf, laneTurn, laneAmong, laneIndex, markLane, markIndex, termOf, indexOf, rangeOf, parentOf};
 use crate::layout::CUBIC_RULE;
 use crate::layout::LANE_RULE;
+use crate::layout::MARK_RULE;
 use crate::layout::SHAPE_RULE;
 use crate::layout::base_of;
 use crate::layout::stride_of;
@@ -147,6 +148,28 @@ fn lane_of(words: &[u16], section: u64, id: u64) -> Index
     lane_by(word(words, i), word(words, i + 1), word(words, i + 2), id)
 }
 
+// The place of a mark's lane in its section, counted from 0, left ones first. Where the section is not there it means nothing.
+pub(crate) fn mark_lane(words: &[u16], section: u64, id: u64) -> Index
+    ensures { λ r. ⌜ r ≡ markLane (now (words .entry)) section id ⌝ }
+{
+    let s = counted_of(section, word(words, SECTION_COUNT_AT));
+    let i = SECTION_WORDS + SECTION_STRIDE * s.index as usize;
+    lane_by(0, word(words, i + 1), word(words, i + 2), id)
+}
+
+// A mark under its section, which must have the mark's lane.
+fn mark_index(words: &[u16], section: u64, id: u64) -> Index
+    ensures { λ r. ⌜ r ≡ markIndex (now (words .entry)) section id ⌝ }
+{
+    let s = counted_of(section, word(words, SECTION_COUNT_AT));
+    let lane = mark_lane(words, section, id);
+    Index {
+        there: s.there & lane.there,
+        rank: s.rank,
+        index: s.index,
+    }
+}
+
 // The term of a strip. Its rank goes by the strip's line, its index by the strip's fixed place.
 fn term_of(strips: Strips, side: u64, place: u64, term: u64) -> Index
     ensures { λ r. ⌜ r ≡ termOf strips side place term ⌝ }
@@ -172,6 +195,9 @@ fn index_of(words: &[u16], rule: u8, cells: Cells, strips: Strips) -> Index
     }
     if rule == SHAPE_RULE {
         return counted_of(a, word(words, PROFILE_COUNT_AT));
+    }
+    if rule == MARK_RULE {
+        return mark_index(words, a, b);
     }
     lane_of(words, a, b)
 }

@@ -3,7 +3,7 @@ use Prim.Native.Nat.{ℕ, zero, suc, _+_, _<_}
 use native.Mathlib.Omega.{arith}
 use native.Mathlib.Nat.{add-zero, add-suc, add-assoc}
 use mathlib.Core.Path.{_≡_, refl, sym, _∙_, ap}
-use mathlib.Core.Bool.{Bool, true, _&&_, and-true, and-assoc}
+use mathlib.Core.Bool.{Bool, true, false, _&&_, and-true, and-assoc}
 use mathlib.Core.List.{List, [], _∷_, map}
 use lib.ListN.{length, getD}
 use Rattle.records_lent.specs.Lists.{tabulate, allBelow}
@@ -26,6 +26,18 @@ pub all-pass : (p : ℕ → Bool) (n : ℕ) → ((i : ℕ) → i < n → p i ≡
 unfolding allBelow
 all-pass p zero h = refl
 all-pass p (suc n) h = both-same (all-pass p n (λ i l. h i (omega arith))) (h n (omega arith))
+
+-- two tests at each index
+pub all-both : (p q : ℕ → Bool) (n : ℕ) → allBelow (λ i. p i && q i) n ≡ allBelow p n && allBelow q n
+unfolding allBelow
+all-both p q zero = refl
+all-both p q (suc n) = ap (λ (x : Bool). x && (p n && q n)) (all-both p q n) ∙ four (allBelow p n) (allBelow q n) (p n)
+  where
+    four : (a b c : Bool) → (a && b) && (c && q n) ≡ (a && c) && (b && q n)
+    four false b c = refl
+    four true false false = refl
+    four true false true = refl
+    four true true c = refl
 
 -- a indices from f on, then b more
 pub all-split : (p : ℕ → Bool) (f a b : ℕ) → allBelow (λ j. p (f + j)) (a + b) ≡ allBelow (λ j. p (f + j)) a && allBelow (λ j. p (f + a + j)) b
@@ -52,7 +64,7 @@ module _ {A : Type 0} (p : A → Bool) where
         let fits = part .fits in
         all-same (λ j. ok (f + j)) (λ j. p (s (getD rows (f + j) noCells))) c (λ j l. h (f + j) (omega arith))
         ∙ sym (every-table (λ j. s (getD rows (f + j) noCells)) c)
-        ∙ ap (every p) (table-part (λ j. s (getD rows j noCells)) s rows f c fits (λ j l. refl) ∙ ap (map s) (sym (those-part t rows f c part)))
+        ∙ ap (every p) (table-part (λ j. s (getD rows j noCells)) s rows f c fits (λ j a b. refl) ∙ ap (map s) (sym (those-part t rows f c part)))
 
     -- every line with its number
     pub every-numbered : (s : ℕ → Cells → A) → ((i : ℕ) → i < length rows → ok i ≡ p (s i (getD rows i noCells))) → allBelow ok (length rows) ≡ every p (numbered s 0 rows)

@@ -15,7 +15,7 @@ use Rattle.reader_lines.specs.declared.columns.Cells.{Cells}
 use Rattle.reader_store.specs.Layout.{words, rules, ruleOf}
 use Rattle.reader_store.specs.Progress.{stripLine, startProgress}
 use Rattle.reader_store.specs.Parents.{counted, termOf}
-use Rattle.reader_store.specs.Keep.{stripNamed, ruledProgress, keptProgress}
+use Rattle.reader_store.specs.Keep.{stripNamed, markPut, ruledProgress, keptProgress}
 use Rattle.reader_store.specs.declared.parents.Index.{Index}
 use Rattle.reader_store.specs.declared.progress.Progress.{Progress}
 use Rattle.reader_store.proofs.ParentCases.{counted-in}
@@ -25,13 +25,14 @@ use Rattle.reader_text_laws.specs.Said.{ofLane}
 use Rattle.reader_text_laws.specs.Family.{lineAt, Counted, Follow, ofPair, Family}
 use Rattle.reader_text_laws.proofs.Folds.{trackAfter, after-sound, plain-track, State, Step}
 use Rattle.reader_text_laws.proofs.States.{Reading, state, state-step, state-first, state-end, reading, sound-reading, state-last, state-long, blank}
-use Rattle.reader_text_laws.proofs.Ranges.{extent-ranged, height-ranged, shape-ranged, cubic-ranged, ranges-right}
+use Rattle.reader_text_laws.proofs.Ranges.{NoWord, noOwn, none-owned, extent-ranged, height-ranged, shape-ranged, cubic-ranged, ranges-right}
 use Rattle.reader_text_laws.proofs.Lanes.{sectionIn, lanes-right}
 use Rattle.reader_text_laws.proofs.LaneLines.{and-both, both}
 use Rattle.reader_text_laws.proofs.LaneIds.{ids-kept, id-turn}
 use Rattle.reader_text_laws.proofs.Listed.{strip-cells, cubic-cells}
-use Rattle.reader_text_laws.proofs.ChildLines.{sections-few, lanes-few, profiles-few, lanes, rows-8, counts-8, rows-9, counts-9, extents, heights, shapes, laneAs, extent-parents, height-parents, shape-parents, profile-named, lane-follow, follow-there, follow-order, strips-12}
+use Rattle.reader_text_laws.proofs.ChildLines.{sections-few, lanes-few, profiles-few, lanes, rows-8, counts-8, rows-9, counts-9, extents, heights, shapes, laneAs, extent-parents, height-parents, shape-parents, profile-named, lane-names, lane-there, lane-follow, follow-there, follow-order, strips-12}
 use Rattle.reader_text_laws.proofs.StripLines.{stripAt, strips-few, blank-12, seen-13, noted-13, I, cubics, cubic-parents, Term, termAs, term-rank, term-there, two-bits, mods, compared, strips-right}
+use Rattle.reader_text_laws.proofs.MarkLines.{mark-ranged, MarkWord, mark-there, Marked, rows-14, counts-14, most-14, markNamed, marked-in, parents-14, owned-14, mark-there-14, mark-rising}
 
 -- ---- strips by their pairs
 
@@ -67,25 +68,25 @@ mod-five z h = omega arith
 
 -- ---- a sound text
 
-module _ (text : List ℕ) (l n : ℕ) (st : ℕ → State) (rd : Reading text l n 15 st) where
+module _ (text : List ℕ) (l n : ℕ) (st : ℕ → State) (rd : Reading text l n 16 st) where
   abbrev T : ℕ → List Cells
   T t = linesOf text t
 
   few : length (T 10) ≤ 16
-  few = profiles-few text l n 15 st rd
+  few = profiles-few text l n 16 st rd
 
   family-lanes : Counted (length (T 6)) (T 7)
   family-lanes =
-      let inv = lanes text l n 15 st rd (omega arith) in
+      let inv = lanes text l n 16 st rd (omega arith) in
       (λ j h. let a = inv .spans .good j h in let b = inv .section j h in (b, omega arith), λ i j g h. let a = inv .spans .rising i j g h in let b = inv .section i (omega arith) in let c = inv .section j h in omega arith)
 
   family-extents : Follow (T 7) (T 8) ofLane
   family-extents =
-      lane-follow (T 7) (length (T 6)) (st 8 .words) (rows-8 text l n 15 st rd (omega arith)) (counts-8 text l n 15 st rd (omega arith)) (lanes-few text l n 15 st rd) 121 (T 8) (st 8 .progress .strips) (trackAfter 8 0 (T 8) (st 8 .progress) (st 8 .words)) _ (extents text l n 15 st rd (omega arith) (omega arith))
+      lane-follow (T 7) (length (T 6)) (st 8 .words) (rows-8 text l n 16 st rd (omega arith)) (counts-8 text l n 16 st rd (omega arith)) (lanes-few text l n 16 st rd) 121 (T 8) (st 8 .progress .strips) (trackAfter 8 0 (T 8) (st 8 .progress) (st 8 .words)) _ (extents text l n 16 st rd (omega arith) (omega arith))
 
   family-heights : Follow (T 7) (T 9) ofLane
   family-heights =
-      lane-follow (T 7) (length (T 6)) (st 9 .words) (rows-9 text l n 15 st rd (omega arith) (omega arith)) (counts-9 text l n 15 st rd (omega arith) (omega arith)) (lanes-few text l n 15 st rd) 123 (T 9) (st 9 .progress .strips) (trackAfter 9 0 (T 9) (st 9 .progress) (st 9 .words)) _ (heights text l n 15 st rd (omega arith) (omega arith) (omega arith))
+      lane-follow (T 7) (length (T 6)) (st 9 .words) (rows-9 text l n 16 st rd (omega arith) (omega arith)) (counts-9 text l n 16 st rd (omega arith) (omega arith)) (lanes-few text l n 16 st rd) 123 (T 9) (st 9 .progress .strips) (trackAfter 9 0 (T 9) (st 9 .progress) (st 9 .words)) _ (heights text l n 16 st rd (omega arith) (omega arith) (omega arith))
 
   family-shapes : Counted (length (T 10)) (T 11)
   family-shapes = (
@@ -99,15 +100,15 @@ module _ (text : List ℕ) (l n : ℕ) (st : ℕ → State) (rd : Reading text l
         let d = q .0 in
         let e = q .2 in
         let f = q .3 in
-        let r = shapes text l n 15 st rd (omega arith) (omega arith) (omega arith) (omega arith) .spans .rising i j g h in
+        let r = shapes text l n 16 st rd (omega arith) (omega arith) (omega arith) (omega arith) .spans .rising i j g h in
         omega arith,
   )
     where
       at : (j : ℕ) → j < length (T 11) → (10000 ≤ cellOf (getD (T 11) j noCells) 0) × (counted (cellOf (getD (T 11) j noCells) 0) (getD (st 11 .words) 6 0) .index < length (T 10)) × (counted (cellOf (getD (T 11) j noCells) 0) (getD (st 11 .words) 6 0) .rank ≡ counted (cellOf (getD (T 11) j noCells) 0) (getD (st 11 .words) 6 0) .index) × (counted (cellOf (getD (T 11) j noCells) 0) (getD (st 11 .words) 6 0) .index ≡ cellOf (getD (T 11) j noCells) 0 - 10000)
-      at j h = profile-named text l n 15 st rd (omega arith) (omega arith) (omega arith) (getD (T 11) j noCells) (shapes text l n 15 st rd (omega arith) (omega arith) (omega arith) (omega arith) .there j h)
+      at j h = profile-named text l n 16 st rd (omega arith) (omega arith) (omega arith) (getD (T 11) j noCells) (shapes text l n 16 st rd (omega arith) (omega arith) (omega arith) (omega arith) .there j h)
 
   line-of : (j : ℕ) → j < length (T 12) → stripLine (st 13 .progress .strips) (stripAt (T 12) j) ≡ suc j
-  line-of j h = noted-13 text l n 15 st rd (omega arith) few j h
+  line-of j h = noted-13 text l n 16 st rd (omega arith) few j h
 
   family-strips : (i j : ℕ) → i < length (T 12) → j < length (T 12) → ofPair (lineAt (T 12) i) (lineAt (T 12) j) ≡ true → i ≡ j
   family-strips i j h g e = let z : suc i ≡ suc j = sym (line-of i h) ∙ ap (stripLine (st 13 .progress .strips)) (sym (pair-same (getD (T 12) i noCells) (getD (T 12) j noCells) e)) ∙ line-of j g in omega arith
@@ -117,14 +118,14 @@ module _ (text : List ℕ) (l n : ℕ) (st : ℕ → State) (rd : Reading text l
   ranked i k h e = term-rank (st 13 .progress .strips) (getD (T 13) i noCells) ∙ ap (λ (q : ℕ). q * 5 + cellOf (getD (T 13) i noCells) 2 % 5) (ap (stripLine (st 13 .progress .strips)) (pair-same (getD (T 12) k noCells) (getD (T 13) i noCells) e) ∙ line-of k h)
 
   rising : (i j : ℕ) → i ≤ j → j < length (T 13) → termAs (st 13 .progress .strips) (getD (T 13) i noCells) .rank ≤ termAs (st 13 .progress .strips) (getD (T 13) j noCells) .rank
-  rising i j g h = cubics text l n 15 st rd (omega arith) few (omega arith) .spans .rising i j g h
+  rising i j g h = cubics text l n 16 st rd (omega arith) few (omega arith) .spans .rising i j g h
 
   five : (i : ℕ) → cellOf (getD (T 13) i noCells) 2 % 5 < 5
   five i = mods (cellOf (getD (T 13) i noCells) 0) (cellOf (getD (T 13) i noCells) 1) (cellOf (getD (T 13) i noCells) 2) .1
 
   family-cubics : Follow (T 12) (T 13) ofPair
   family-cubics = (
-    λ j h. found j (stripLine (st 13 .progress .strips) (stripAt (T 13) j)) refl (term-there (st 13 .progress .strips) (getD (T 13) j noCells) (cubics text l n 15 st rd (omega arith) few (omega arith) .there j h)),
+    λ j h. found j (stripLine (st 13 .progress .strips) (stripAt (T 13) j)) refl (term-there (st 13 .progress .strips) (getD (T 13) j noCells) (cubics text l n 16 st rd (omega arith) few (omega arith) .there j h)),
     λ i j k m g h a b e f.
         rank-strip k m (cellOf (getD (T 13) i noCells) 2 % 5) (cellOf (getD (T 13) j noCells) 2 % 5) (five i) (five j)
         (subst (λ (q : ℕ). q ≤ suc m * 5 + cellOf (getD (T 13) j noCells) 2 % 5) (ranked i k a e) (subst (λ (q : ℕ). termAs (st 13 .progress .strips) (getD (T 13) i noCells) .rank ≤ q) (ranked j m b f) (rising i j g h))),
@@ -133,7 +134,7 @@ module _ (text : List ℕ) (l n : ℕ) (st : ℕ → State) (rd : Reading text l
       found : (j k : ℕ) → stripLine (st 13 .progress .strips) (stripAt (T 13) j) ≡ k → (stripLine (st 13 .progress .strips) (stripAt (T 13) j) ≡ 0 → ⊥) → (k : ℕ) × (k < length (T 12)) × (ofPair (getD (T 12) k noCells) (getD (T 13) j noCells) ≡ true)
       found j zero e f = absurd (f e)
       found j (suc k) e f =
-          let s = seen-13 text l n 15 st rd (omega arith) few (stripAt (T 13) j) k (mods (cellOf (getD (T 13) j noCells) 0) (cellOf (getD (T 13) j noCells) 1) 0 .0) e in
+          let s = seen-13 text l n 16 st rd (omega arith) few (stripAt (T 13) j) k (mods (cellOf (getD (T 13) j noCells) 0) (cellOf (getD (T 13) j noCells) 1) 0 .0) e in
           let a = strip-cells text k in
           let b = cubic-cells text j in
           (k, s .0, pair-of (getD (T 12) k noCells) (getD (T 13) j noCells) (a .0) (a .1) (b .0) (b .1) (sym (s .1)))
@@ -148,27 +149,53 @@ module _ (text : List ℕ) (l n : ℕ) (st : ℕ → State) (rd : Reading text l
       let c = rank-term (stripLine (st 13 .progress .strips) (stripAt (T 13) i)) (stripLine (st 13 .progress .strips) (stripAt (T 13) j)) (cellOf (getD (T 13) i noCells) 2 % 5) (cellOf (getD (T 13) j noCells) 2 % 5) (ap (stripLine (st 13 .progress .strips)) (sym (pair-same (getD (T 13) i noCells) (getD (T 13) j noCells) e))) (subst (λ (x : ℕ). x ≤ stripLine (st 13 .progress .strips) (stripAt (T 13) j) * 5 + cellOf (getD (T 13) j noCells) 2 % 5) p (subst (λ (x : ℕ). termAs (st 13 .progress .strips) (getD (T 13) i noCells) .rank ≤ x) q r)) in
       subst (λ (x : ℕ). x ≤ cellOf (getD (T 13) j noCells) 2) a (subst (λ (x : ℕ). cellOf (getD (T 13) i noCells) 2 % 5 ≤ x) b c)
 
+  mark-at : (j : ℕ) → j < length (T 14) → Marked (length (T 6)) (st 14 .words) (getD (T 14) j noCells)
+  mark-at j h = marked-in text l n 16 st rd (omega arith) (getD (T 14) j noCells) (mark-there-14 text l n 16 st rd (omega arith) (omega arith) j h)
+
+  family-marks : Counted (length (T 6)) (T 14)
+  family-marks = (
+    λ j h. let q = mark-at j h in let a = q .section in let b = q .known in (a, omega arith),
+    λ i j g h.
+        let p = mark-at i (omega arith) in
+        let q = mark-at j h in
+        let a = p .section in
+        let b = p .rank in
+        let c = q .section in
+        let d = q .rank in
+        let r = mark-rising text l n 16 st rd (omega arith) (omega arith) i j g h in
+        omega arith,
+  )
+
+  family-mark-lanes : (j : ℕ) → j < length (T 14) → (k : ℕ) × (k < length (T 7)) × (ofLane (lineAt (T 7) k) (lineAt (T 14) j) ≡ true)
+  family-mark-lanes j h =
+      let z = rows-14 text l n 16 st rd (omega arith) in
+      let c = counts-14 text l n 16 st rd (omega arith) in
+      let w = most-14 text l n 16 st rd (omega arith) in
+      lane-names (T 7) (length (T 6)) (st 14 .words) z c w (getD (T 14) j noCells) (sym (mark-there (T 7) (length (T 6)) (st 14 .words) z c w (getD (T 14) j noCells)) ∙ mark-there-14 text l n 16 st rd (omega arith) (omega arith) j h)
+
   pub sound-family : 0 < length (T 0) → Family T
   sound-family road =
       record {
         road = road;
         lanes = family-lanes;
-        ids = λ i h. ids-kept (T 7) (length (T 6)) (st 8 .words) (rows-8 text l n 15 st rd (omega arith)) i h (lanes-few text l n 15 st rd);
+        ids = λ i h. ids-kept (T 7) (length (T 6)) (st 8 .words) (rows-8 text l n 16 st rd (omega arith)) i h (lanes-few text l n 16 st rd);
         extents = family-extents;
         heights = family-heights;
         shapes = family-shapes;
         strips = family-strips;
         cubics = family-cubics;
         terms = family-terms;
+        marks = family-marks;
+        mark-lanes = family-mark-lanes;
       }
 
 -- ---- a right family
 
-plain : ((k : ℕ) (cells : Cells) (progress : Progress) (ws : List ℕ) → (keptProgress 0 k cells progress ws ≡ progress) × (keptProgress 1 k cells progress ws ≡ progress) × (keptProgress 2 k cells progress ws ≡ progress) × (keptProgress 3 k cells progress ws ≡ progress) × (keptProgress 4 k cells progress ws ≡ progress) × (keptProgress 5 k cells progress ws ≡ progress) × (keptProgress 6 k cells progress ws ≡ progress) × (keptProgress 10 k cells progress ws ≡ progress) × (keptProgress 14 k cells progress ws ≡ progress))
+plain : ((k : ℕ) (cells : Cells) (progress : Progress) (ws : List ℕ) → (keptProgress 0 k cells progress ws ≡ progress) × (keptProgress 1 k cells progress ws ≡ progress) × (keptProgress 2 k cells progress ws ≡ progress) × (keptProgress 3 k cells progress ws ≡ progress) × (keptProgress 4 k cells progress ws ≡ progress) × (keptProgress 5 k cells progress ws ≡ progress) × (keptProgress 6 k cells progress ws ≡ progress) × (keptProgress 10 k cells progress ws ≡ progress) × (keptProgress 15 k cells progress ws ≡ progress))
 unfolding keptProgress ruledProgress ruleOf rules
 plain k cells progress ws = (refl, refl, refl, refl, refl, refl, refl, refl, refl)
 
-module _ (text : List ℕ) (l m n at count : ℕ) (progress : Progress) (ws : List ℕ) (ns : List Float) (vs : List ℕ) (form : tablesFrom 15 0 text 0 0 startProgress (zeros l) (zeroNumbers m) (zeros n) ≡ done at count progress ws ns vs) (words-long : 1347 ≤ length (zeros l)) (numbers-long : 7937 ≤ length (zeroNumbers m)) where
+module _ (text : List ℕ) (l m n at count : ℕ) (progress : Progress) (ws : List ℕ) (ns : List Float) (vs : List ℕ) (form : tablesFrom 16 0 text 0 0 startProgress (zeros l) (zeroNumbers m) (zeros n) ≡ done at count progress ws ns vs) (words-long : 1891 ≤ length (zeros l)) (numbers-long : 8449 ≤ length (zeroNumbers m)) where
   abbrev T' : ℕ → List Cells
   T' t = linesOf text t
 
@@ -181,10 +208,10 @@ module _ (text : List ℕ) (l m n at count : ℕ) (progress : Progress) (ws : Li
   abbrev rd' : (u : ℕ) → ((t : ℕ) → t < u → Sound t) → Reading text l n u st'
   rd' u f = reading text l m n at count progress ws ns vs form words-long numbers-long u f
 
-  abbrev step' : (t : ℕ) → t < 15 → Step t (T' t) (st' t) (st' (suc t))
+  abbrev step' : (t : ℕ) → t < 16 → Step t (T' t) (st' t) (st' (suc t))
   step' t h = state-step text l m n at count progress ws ns vs form words-long numbers-long t h
 
-  last' : (t : ℕ) → t ≤ 15 → st' t .progress .last ≡ 0
+  last' : (t : ℕ) → t ≤ 16 → st' t .progress .last ≡ 0
   last' t h = state-last text l n 0 st' (rd' 0 (λ t h. absurd (omega arith))) t h
 
   extend : (u : ℕ) → ((t : ℕ) → t < u → Sound t) → Sound u → (t : ℕ) → t < suc u → Sound t
@@ -194,7 +221,7 @@ module _ (text : List ℕ) (l m n at count : ℕ) (progress : Progress) (ws : Li
   plain-sound t f s = ap (λ (x : Progress). x .sound) (plain-track t f (T' t) 0 (st' t .progress) (st' t .words)) ∙ s
 
   module _ (family : Family T') where
-    go-on : (t : ℕ) → t < 15 → Sound t → st' (suc t) .progress .sound ≡ true
+    go-on : (t : ℕ) → t < 16 → Sound t → st' (suc t) .progress .sound ≡ true
     go-on t h s = step' t h .sound-if s (λ z. subst (λ (u : ℕ). 0 < length (T' u)) (sym z) (family .road))
 
     section-there : (k : ℕ) → k < length (T' 7) → (10000 ≤ cellOf (getD (T' 7) k noCells) 0) × (sectionIn (T' 7) k < length (T' 6))
@@ -216,7 +243,7 @@ module _ (text : List ℕ) (l m n at count : ℕ) (progress : Progress) (ws : Li
         let z = rows-8 text l n 8 st' r (omega arith) in
         let c = counts-8 text l n 8 st' r (omega arith) in
         let w = lanes-few text l n 8 st' r in
-        ranges-right 121 6 (λ i. i < length (T' 7)) (T' 8) (st' 8 .progress .strips) (st' 8 .words) (laneAs (T' 7) (length (T' 6)) (st' 8 .words) z c w) 2 (extent-parents text l n 8 st' r (omega arith)) 8 extent-ranged
+        ranges-right 121 6 (λ i. i < length (T' 7)) NoWord (T' 8) (st' 8 .progress .strips) (st' 8 .words) (laneAs (T' 7) (length (T' 6)) (st' 8 .words) z c w) 2 (extent-parents text l n 8 st' r (omega arith)) 8 noOwn (none-owned 121 6 (λ i. i < length (T' 7)) (T' 8)) extent-ranged
         (follow-there (T' 7) (length (T' 6)) (st' 8 .words) z c w (T' 8) (family .extents)) (follow-order (T' 7) (length (T' 6)) (st' 8 .words) z c w (T' 8) (family .extents))
         (st' 8 .progress) refl s (last' 8 (omega arith))
 
@@ -226,13 +253,13 @@ module _ (text : List ℕ) (l m n at count : ℕ) (progress : Progress) (ws : Li
         let z = rows-9 text l n 9 st' r (omega arith) (omega arith) in
         let c = counts-9 text l n 9 st' r (omega arith) (omega arith) in
         let w = lanes-few text l n 9 st' r in
-        ranges-right 123 6 (λ i. i < length (T' 7)) (T' 9) (st' 9 .progress .strips) (st' 9 .words) (laneAs (T' 7) (length (T' 6)) (st' 9 .words) z c w) 3 (height-parents text l n 9 st' r (omega arith) (omega arith)) 9 height-ranged
+        ranges-right 123 6 (λ i. i < length (T' 7)) NoWord (T' 9) (st' 9 .progress .strips) (st' 9 .words) (laneAs (T' 7) (length (T' 6)) (st' 9 .words) z c w) 3 (height-parents text l n 9 st' r (omega arith) (omega arith)) 9 noOwn (none-owned 123 6 (λ i. i < length (T' 7)) (T' 9)) height-ranged
         (follow-there (T' 7) (length (T' 6)) (st' 9 .words) z c w (T' 9) (family .heights)) (follow-order (T' 7) (length (T' 6)) (st' 9 .words) z c w (T' 9) (family .heights))
         (st' 9 .progress) refl s (last' 9 (omega arith))
 
     sound-11 : ((t : ℕ) → t < 11 → Sound t) → st' 11 .progress .sound ≡ true → Sound 11
     sound-11 f s =
-        ranges-right 1271 2 (λ i. i < length (T' 10)) (T' 11) (st' 11 .progress .strips) (st' 11 .words) (λ cells. counted (cellOf cells 0) (getD (st' 11 .words) 6 0)) 4 (shape-parents text l n 11 st' (rd' 11 f) (omega arith) (omega arith) (omega arith)) 11 shape-ranged
+        ranges-right 1271 2 (λ i. i < length (T' 10)) NoWord (T' 11) (st' 11 .progress .strips) (st' 11 .words) (λ cells. counted (cellOf cells 0) (getD (st' 11 .words) 6 0)) 4 (shape-parents text l n 11 st' (rd' 11 f) (omega arith) (omega arith) (omega arith)) 11 noOwn (none-owned 1271 2 (λ i. i < length (T' 10)) (T' 11)) shape-ranged
         (λ k h. sym (ap (λ (i : Index). i .there) (here k h)))
         (λ k h. let q = family .shapes .1 k (suc k) (omega arith) h in subst (λ (i : Index). i .rank ≤ counted (cellOf (getD (T' 11) (suc k) noCells) 0) (getD (st' 11 .words) 6 0) .rank) (here k (omega arith)) (subst (λ (i : Index). cellOf (getD (T' 11) k noCells) 0 - 10000 ≤ i .rank) (here (suc k) h) (omega arith)))
         (st' 11 .progress) refl s (last' 11 (omega arith))
@@ -291,8 +318,26 @@ module _ (text : List ℕ) (l m n at count : ℕ) (progress : Progress) (ws : Li
 
       sound-13 : st' 13 .progress .sound ≡ true → Sound 13
       sound-13 s =
-          ranges-right 1304 1 Term (T' 13) (st' 13 .progress .strips) (st' 13 .words) (I text l n 13 st' (rd' 13 f) (omega arith) (few' 13 (rd' 13 f))) 5 (cubic-parents text l n 13 st' (rd' 13 f) (omega arith) (few' 13 (rd' 13 f))) 13 cubic-ranged
+          ranges-right 1304 1 Term NoWord (T' 13) (st' 13 .progress .strips) (st' 13 .words) (I text l n 13 st' (rd' 13 f) (omega arith) (few' 13 (rd' 13 f))) 5 (cubic-parents text l n 13 st' (rd' 13 f) (omega arith) (few' 13 (rd' 13 f))) 13 noOwn (none-owned 1304 1 Term (T' 13)) cubic-ranged
           term-here term-order (st' 13 .progress) refl s (last' 13 (omega arith))
+
+    sound-14 : ((t : ℕ) → t < 14 → Sound t) → st' 14 .progress .sound ≡ true → Sound 14
+    sound-14 f s =
+        ranges-right 1347 2 (λ i. i < length (T' 6)) MarkWord (T' 14) (st' 14 .progress .strips) (st' 14 .words) (markNamed text l n 14 st' r (omega arith)) 6 (parents-14 text l n 14 st' r (omega arith)) 14 markPut (owned-14 text l n 14 st' r (omega arith)) mark-ranged
+        there
+        (λ k h. let q = family .marks .1 k (suc k) (omega arith) h in let a = marked-in text l n 14 st' r (omega arith) (getD (T' 14) k noCells) (there k (omega arith)) .rank in let b = marked-in text l n 14 st' r (omega arith) (getD (T' 14) (suc k) noCells) (there (suc k) h) .rank in omega arith)
+        (st' 14 .progress) refl s (last' 14 (omega arith))
+      where
+        r : Reading text l n 14 st'
+        r = rd' 14 f
+
+        there : (k : ℕ) → k < length (T' 14) → markNamed text l n 14 st' (rd' 14 f) (omega arith) (getD (T' 14) k noCells) .there ≡ true
+        there k h =
+            let z = rows-14 text l n 14 st' (rd' 14 f) (omega arith) in
+            let c = counts-14 text l n 14 st' (rd' 14 f) (omega arith) in
+            let w = most-14 text l n 14 st' (rd' 14 f) (omega arith) in
+            let q = family .mark-lanes k h in
+            mark-there (T' 7) (length (T' 6)) (st' 14 .words) z c w (getD (T' 14) k noCells) ∙ lane-there (T' 7) (length (T' 6)) (st' 14 .words) z c w (getD (T' 14) k noCells) (q .0) (q .1) (q .2)
 
     upto-0 : (t : ℕ) → t < 0 → Sound t
     upto-0 t h = absurd (omega arith)
@@ -427,7 +472,7 @@ module _ (text : List ℕ) (l m n at count : ℕ) (progress : Progress) (ws : Li
     begun-14 = go-on 13 (omega arith) table-13
 
     table-14 : Sound 14
-    table-14 = plain-sound 14 (λ k cells x us. plain k cells x us .8) begun-14
+    table-14 = sound-14 upto-14 begun-14
 
     upto-15 : (t : ℕ) → t < 15 → Sound t
     upto-15 = extend 14 upto-14 table-14
@@ -435,8 +480,17 @@ module _ (text : List ℕ) (l m n at count : ℕ) (progress : Progress) (ws : Li
     begun-15 : st' 15 .progress .sound ≡ true
     begun-15 = go-on 14 (omega arith) table-14
 
+    table-15 : Sound 15
+    table-15 = plain-sound 15 (λ k cells x us. plain k cells x us .8) begun-15
+
+    upto-16 : (t : ℕ) → t < 16 → Sound t
+    upto-16 = extend 15 upto-15 table-15
+
+    begun-16 : st' 16 .progress .sound ≡ true
+    begun-16 = go-on 15 (omega arith) table-15
+
     pub family-sound : progress .sound ≡ true
-    family-sound = ap (λ (s : State). s .progress .sound) (sym (state-end text l m n at count progress ws ns vs form words-long numbers-long)) ∙ begun-15
+    family-sound = ap (λ (s : State). s .progress .sound) (sym (state-end text l m n at count progress ws ns vs form words-long numbers-long)) ∙ begun-16
 
   pub sound-is-family : (progress .sound ≡ true → Family T') × (Family T' → progress .sound ≡ true)
   sound-is-family = (

@@ -94,7 +94,7 @@ unfolding trackAfter
 plain-track t f [] k progress ws = refl
 plain-track t f (r ∷ rs) k progress ws = plain-track t f rs (k + 1) (keptProgress t k r progress ws) (keptWords t k r progress ws) ∙ f k r progress ws
 
-words-low : (t : ℕ) → t < 15 → (rows : List Cells) (k : ℕ) (progress : Progress) (ws : List ℕ) → Low 7 (wordsAfter t k rows progress ws) ws
+words-low : (t : ℕ) → t < 16 → (rows : List Cells) (k : ℕ) (progress : Progress) (ws : List ℕ) → Low 7 (wordsAfter t k rows progress ws) ws
 unfolding wordsAfter
 words-low t h [] k progress ws = low-same 7 ws
 words-low t h (r ∷ rs) k progress ws =
@@ -150,7 +150,7 @@ lines-by (suc fuel) t order text at k progress ws ns vs =
     go false true p o ih = lines-next t k (valuesAt text at t order .cells) progress ws vs p o ih
     go false false p o ih = tt
 
-module _ (t : ℕ) (small : t < 15) where
+module _ (t : ℕ) (small : t < 16) where
   count-high : (n p : ℕ) (ws : List ℕ) → 7 ≤ p → getD (countKept t n ws) p 0 ≡ getD ws p 0
   unfolding countKept
   count-high n p ws h = go (ltb 0 (countPlace t)) refl
@@ -274,7 +274,7 @@ join n t s s' rows tables c0 c1 e a (done at c progress ws ns vs) h =
     counts zero z = h .none (omega arith) ∙ e
     counts (suc i) z = h .count i (omega arith)
 
-chain-by : (n t : ℕ) (text : List ℕ) (at c0 : ℕ) (s : State) (ns : List Float) → t + n ≤ 15 → ChainBy n t s (tablesLines n t text at) c0 (tablesFrom n t text at c0 (s .progress) (s .words) ns (s .wants))
+chain-by : (n t : ℕ) (text : List ℕ) (at c0 : ℕ) (s : State) (ns : List Float) → t + n ≤ 16 → ChainBy n t s (tablesLines n t text at) c0 (tablesFrom n t text at c0 (s .progress) (s .words) ns (s .wants))
 unfolding tablesLines tablesFrom
 chain-by zero t text at c0 s ns most = go (ltb at (length text))
   where
@@ -300,7 +300,7 @@ abbrev pub startState : ℕ → ℕ → State
 startState l n = record { progress = startProgress; words = zeros l; wants = zeros n }
 
 -- the states of a text of right form
-pub chain : (text : List ℕ) (l m n at count : ℕ) (progress : Progress) (ws : List ℕ) (ns : List Float) (vs : List ℕ) → tablesFrom 15 0 text 0 0 startProgress (zeros l) (zeroNumbers m) (zeros n) ≡ done at count progress ws ns vs
-    → Chain 15 0 (startState l n) (tablesLines 15 0 text 0) (record { progress = progress; words = ws; wants = vs }) 0 count
+pub chain : (text : List ℕ) (l m n at count : ℕ) (progress : Progress) (ws : List ℕ) (ns : List Float) (vs : List ℕ) → tablesFrom 16 0 text 0 0 startProgress (zeros l) (zeroNumbers m) (zeros n) ≡ done at count progress ws ns vs
+    → Chain 16 0 (startState l n) (tablesLines 16 0 text 0) (record { progress = progress; words = ws; wants = vs }) 0 count
 chain text l m n at count progress ws ns vs form =
-    subst (λ (o : Outcome). ChainBy 15 0 (startState l n) (tablesLines 15 0 text 0) 0 o) form (chain-by 15 0 text 0 0 (startState l n) (zeroNumbers m) (omega arith))
+    subst (λ (o : Outcome). ChainBy 16 0 (startState l n) (tablesLines 16 0 text 0) 0 o) form (chain-by 16 0 text 0 0 (startState l n) (zeroNumbers m) (omega arith))

@@ -1,9 +1,11 @@
 -- What the words of sections say of the lines of lane: a section's left and right lanes are parts of the table (`left-part`, `right-part`), and the lane that a section and an id name is the one line that has both (`lane-named`).
 use Prim.Native.Nat.{ℕ, _+_, _-_, _*_, _<_, _≤_}
 use native.Mathlib.Omega.{arith}
+use native.Mathlib.Nat.{eq-or-lt-of-le}
 use mathlib.Core.Path.{_≡_, refl, sym, _∙_, ap, subst}
 use mathlib.Core.Bool.{Bool, true, false, _&&_, cond}
 use mathlib.Core.List.{List}
+use mathlib.Core.Logic.{⊎-elim}
 use lib.ListN.{length, getD}
 use lib.Dec.{eqb, ltb}
 use borrow.Author.Tests.{ltb-true, ltb-false, eqb-true, eqb-false, eq-eqb, lt-ltb}
@@ -30,6 +32,26 @@ pub both : (a b : Bool) → a ≡ true → b ≡ true → a && b ≡ true
 both true true e f = refl
 both true false e f = f
 both false b e f = e
+
+-- a lane that is there is a left one or a right one, and its place is that of its id
+pub among-cases : {A : Type 0} (first left right id : ℕ) → laneAmong first left right id .there ≡ true
+    → (10000 < id → id ≤ left + 10000 → laneAmong first left right id ≡ indexAt (first + (id - 10001)) → A) → (id < 10000 → 10000 ≤ id + right → laneAmong first left right id ≡ indexAt (first + left + (9999 - id)) → A) → A
+unfolding laneAmong
+among-cases {A} first left right id t l r = go (eqb id 10000) (ltb 10000 id) (ltb (left + 10000) id) (ltb (id + right) 10000) refl refl refl refl t l r
+  where
+    lane : Bool → Bool → Bool → Bool → Index
+    lane a b c d = cond a noIndex (cond b (cond c noIndex (indexAt (first + (id - 10001)))) (cond d noIndex (indexAt (first + left + (9999 - id)))))
+
+    below : (n : ℕ) → n ≤ 10000 → (n ≡ 10000 → ⊥) → n < 10000
+    below n h f = ⊎-elim (λ e. absurd (f e)) (λ l. l) (eq-or-lt-of-le h)
+
+    go : (a b c d : Bool) → eqb id 10000 ≡ a → ltb 10000 id ≡ b → ltb (left + 10000) id ≡ c → ltb (id + right) 10000 ≡ d → lane a b c d .there ≡ true
+        → (10000 < id → id ≤ left + 10000 → lane a b c d ≡ indexAt (first + (id - 10001)) → A) → (id < 10000 → 10000 ≤ id + right → lane a b c d ≡ indexAt (first + left + (9999 - id)) → A) → A
+    go true b c d p q u v e l r = never e
+    go false true true d p q u v e l r = never e
+    go false true false d p q u v e l r = l (ltb-true 10000 id q) (ltb-false (left + 10000) id u) refl
+    go false false c true p q u v e l r = never e
+    go false false c false p q u v e l r = r (below id (ltb-false 10000 id q) (eqb-false id 10000 p)) (ltb-false (id + right) 10000 v) refl
 
 -- the sections' words and the lines, in words that may have changed elsewhere
 pub record LaneRows (all : List Cells) (S : ℕ) (us : List ℕ) : Type 0 where
@@ -152,35 +174,14 @@ module _ (all : List Cells) (S : ℕ) (us : List ℕ) (rows : LaneRows all S us)
         record { inside = omega arith; ranked = refl; same-section = omega arith; same-id = e }
 
     named-by : laneAmong (firstAt us s) (leftsAt us s) (rightsAt us s) id .there ≡ true → Named section id (laneAmong (firstAt us s) (leftsAt us s) (rightsAt us s) id)
-    unfolding laneAmong
-    named-by = go (eqb id 10000) (ltb 10000 id) (ltb (leftsAt us s + 10000) id) (ltb (id + rightsAt us s) 10000) refl refl refl refl
-      where
-        lane : Bool → Bool → Bool → Bool → Index
-        lane a b c d = cond a noIndex (cond b (cond c noIndex (indexAt (firstAt us s + (id - 10001)))) (cond d noIndex (indexAt (firstAt us s + leftsAt us s + (9999 - id)))))
-
-        go : (a b c d : Bool) → eqb id 10000 ≡ a → ltb 10000 id ≡ b → ltb (leftsAt us s + 10000) id ≡ c → ltb (id + rightsAt us s) 10000 ≡ d → lane a b c d .there ≡ true → Named section id (lane a b c d)
-        go true b c d p q r t e = never e
-        go false true true d p q r t e = never e
-        go false true false d p q r t e =
-            let x = ltb-true 10000 id q in
-            let y = ltb-false (leftsAt us s + 10000) id r in
-            let w = rows .lefts s (firstAt us s + (id - 10001)) known (omega arith) (omega arith) in
-            named-at (firstAt us s + (id - 10001)) (omega arith) (omega arith) (omega arith)
-        go false false c true p q r t e = never e
-        go false false c false p q r t e =
-            let x = ltb-false 10000 id q in
-            let z = eqb-false id 10000 p in
-            let x' : id < 10000 = below-it id x z in
-            let y = ltb-false (id + rightsAt us s) 10000 t in
-            let w = rows .rights s (firstAt us s + leftsAt us s + (9999 - id)) known (omega arith) (omega arith) in
-            named-at (firstAt us s + leftsAt us s + (9999 - id)) (omega arith) (omega arith) (omega arith)
-          where
-            below-it : (n : ℕ) → n ≤ 10000 → (n ≡ 10000 → ⊥) → n < 10000
-            below-it n h f = go2 (ltb n 10000) refl
-              where
-                go2 : (b : Bool) → ltb n 10000 ≡ b → n < 10000
-                go2 true e = ltb-true n 10000 e
-                go2 false e = let g = ltb-false n 10000 e in absurd (f (omega arith))
+    named-by t =
+        among-cases (firstAt us s) (leftsAt us s) (rightsAt us s) id t
+        (λ x y e.
+        let w = rows .lefts s (firstAt us s + (id - 10001)) known (omega arith) (omega arith) in
+        subst (Named section id) (sym e) (named-at (firstAt us s + (id - 10001)) (omega arith) (omega arith) (omega arith)))
+        (λ x y e.
+        let w = rows .rights s (firstAt us s + leftsAt us s + (9999 - id)) known (omega arith) (omega arith) in
+        subst (Named section id) (sym e) (named-at (firstAt us s + leftsAt us s + (9999 - id)) (omega arith) (omega arith) (omega arith)))
 
   pub lane-named : (section id : ℕ) → getD us 5 0 ≡ S → laneIndex us section id .there ≡ true → Named section id (laneIndex us section id)
   unfolding laneIndex

@@ -15,7 +15,7 @@ use Rattle.reader_lines.specs.Columns.{cellOf, noCells}
 use Rattle.reader_lines.specs.declared.columns.Cells.{Cells}
 use Rattle.reader_store.specs.Layout.{places, placeAt, oneMore, codeOf, words, wordPlace, wordPut, wordsBelow, rules, ruleOf}
 use Rattle.reader_store.specs.Parents.{noIndex, indexAt, counted, sideOf, laneUnder, laneTurn, parentOf}
-use Rattle.reader_store.specs.Keep.{firstLine, added, underWords, underProgress, ruledWords, ruledProgress, keptWords, keptProgress}
+use Rattle.reader_store.specs.Keep.{firstLine, added, underWords, underProgress, ownWords, ruledWords, ruledProgress, keptWords, keptProgress}
 use Rattle.reader_store.specs.declared.parents.Index.{Index}
 use Rattle.reader_store.specs.declared.parents.Parent.{Parent}
 use Rattle.reader_store.specs.declared.progress.Progress.{Progress}
@@ -48,7 +48,7 @@ lane-words k cells us = refl
 lane-line : (k : ℕ) (cells : Cells) (progress : Progress) (us : List ℕ)
     → (keptWords 7 k cells progress us ≡ underWords (wordsBelow 7 k cells 8 us) k (laneTurn (wordsBelow 7 k cells 8 us) (cellOf cells 0) (cellOf cells 1)) progress)
     × (keptProgress 7 k cells progress us ≡ underProgress (laneTurn (wordsBelow 7 k cells 8 us) (cellOf cells 0) (cellOf cells 1)) progress)
-unfolding keptWords ruledWords keptProgress ruledProgress ruleOf rules parentOf
+unfolding keptWords ruledWords ownWords keptProgress ruledProgress ruleOf rules parentOf
 lane-line k cells progress us = (refl, refl)
 
 -- the first line of a section without lanes, and of one that has some
@@ -93,7 +93,7 @@ pub record Lanes (all : List Cells) (S : ℕ) (strips : Strips) (ws : List ℕ) 
   pub lefts : (i j : ℕ) → i < S → firstAt us i ≤ j → j < firstAt us i + leftsAt us i → idIn all j + firstAt us i ≡ 10001 + j
   pub rights : (i j : ℕ) → i < S → firstAt us i + leftsAt us i ≤ j → j < firstAt us i + leftsAt us i + rightsAt us i → idIn all j + j + 1 ≡ 10000 + (firstAt us i + leftsAt us i)
 
-module _ (all : List Cells) (S : ℕ) (strips : Strips) (ws : List ℕ) (sections : S ≤ 16) (few : length all ≤ 192) (long : 1347 ≤ length ws) (counts : getD ws 5 0 ≡ S) where
+module _ (all : List Cells) (S : ℕ) (strips : Strips) (ws : List ℕ) (sections : S ≤ 16) (few : length all ≤ 192) (long : 1891 ≤ length ws) (counts : getD ws 5 0 ≡ S) where
   module _ (k : ℕ) (progress : Progress) (us : List ℕ) (small : k < length all) (inv : Lanes all S strips ws k progress us) where
     abbrev cells : Cells
     cells = getD all k noCells

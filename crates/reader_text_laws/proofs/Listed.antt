@@ -24,7 +24,7 @@ use Rattle.reader_calls.specs.Reading.{zeros}
 use Rattle.reader_laws.proofs.LowWords.{or-else}
 use Rattle.reader_laws.proofs.CountsKept.{zeros-blank}
 
-some-test : allBelow (λ t. allBelow (λ c. leb (columnKind t c) 1 || ltb 0 (wordCount (columnKind t c))) 8) 15 ≡ true
+some-test : allBelow (λ t. allBelow (λ c. leb (columnKind t c) 1 || ltb 0 (wordCount (columnKind t c))) 8) 16 ≡ true
 unfolding allBelow columnKind kinds wordCount counts
 some-test = refl
 
@@ -62,10 +62,10 @@ set-either (x ∷ xs) zero v (suc c) P f p = p
 set-either (x ∷ xs) (suc d) v zero P f p = p
 set-either (x ∷ xs) (suc d) v (suc c) P f p = set-either xs d v c P (λ e. f (ap suc e)) p
 
-module _ (t : ℕ) (small : t < 15) where
+module _ (t : ℕ) (small : t < 16) where
   none-listed : Listed t noCells
   none-listed c h =
-      let b = or-else (leb (columnKind t c) 1) (ltb 0 (wordCount (columnKind t c))) (all-at (λ c. leb (columnKind t c) 1 || ltb 0 (wordCount (columnKind t c))) 8 (all-at (λ t. allBelow (λ c. leb (columnKind t c) 1 || ltb 0 (wordCount (columnKind t c))) 8) 15 some-test t small) c (column-below t c h)) (lt-leb (columnKind t c) 1 h) in
+      let b = or-else (leb (columnKind t c) 1) (ltb 0 (wordCount (columnKind t c))) (all-at (λ c. leb (columnKind t c) 1 || ltb 0 (wordCount (columnKind t c))) 8 (all-at (λ t. allBelow (λ c. leb (columnKind t c) 1 || ltb 0 (wordCount (columnKind t c))) 8) 16 some-test t small) c (column-below t c h)) (lt-leb (columnKind t c) 1 h) in
       subst (λ (n : ℕ). n < wordCount (columnKind t c)) (sym (no-cells c)) (ltb-true 0 (wordCount (columnKind t c)) b)
 
   row-from : (n : ℕ) (text : List ℕ) (at : ℕ) (order : Order) (i : ℕ) (cells : Cells) → Listed t cells → Listed t (valuesRead n text at t order i cells .cells)
@@ -130,7 +130,7 @@ module _ (t : ℕ) (small : t < 15) where
       go true false p h = tt
       go false b p h = λ k. none-listed
 
-tables-listed : (n t : ℕ) (text : List ℕ) (at : ℕ) → t + n ≤ 15 → (i u : ℕ) → u ≡ t + i → u < 15 → (k : ℕ) → Listed u (getD (getD (tablesLines n t text at) i []) k noCells)
+tables-listed : (n t : ℕ) (text : List ℕ) (at : ℕ) → t + n ≤ 16 → (i u : ℕ) → u ≡ t + i → u < 16 → (k : ℕ) → Listed u (getD (getD (tablesLines n t text at) i []) k noCells)
 unfolding tablesLines
 tables-listed zero t text at most i u e h k = none-listed u h
 tables-listed (suc n) t text at most i u e h k = go (tableLines t text at) (table-listed t (omega arith) text at) i e (λ next j f. tables-listed n (t + 1) text next (omega arith) j u f h k)
@@ -140,11 +140,11 @@ tables-listed (suc n) t text at most i u e h k = go (tableLines t text at) (tabl
     go (lines rows next) f zero e ih = let z : t ≡ u = omega arith in subst (λ (w : ℕ). Listed w (getD rows k noCells)) z (f k)
     go (lines rows next) f (suc i) e ih = ih next i (omega arith)
 
-pub rows-listed : (text : List ℕ) (t : ℕ) → t < 15 → (k : ℕ) → Listed t (getD (linesOf text t) k noCells)
+pub rows-listed : (text : List ℕ) (t : ℕ) → t < 16 → (k : ℕ) → Listed t (getD (linesOf text t) k noCells)
 unfolding linesOf
-rows-listed text t h k = tables-listed 15 0 text 0 (omega arith) t t (sym (zero-add t)) h k
+rows-listed text t h k = tables-listed 16 0 text 0 (omega arith) t t (sym (zero-add t)) h k
 
-list-counts : (columnKind 12 0 ≡ 18) × (columnKind 12 1 ≡ 17) × (columnKind 12 2 ≡ 17) × (columnKind 13 0 ≡ 18) × (columnKind 13 1 ≡ 17) × (columnKind 13 2 ≡ 19) × (wordCount 18 ≡ 2) × (wordCount 17 ≡ 2) × (wordCount 19 ≡ 5) × (columnKind 1 5 ≡ 15) × (columnKind 7 2 ≡ 16) × (columnKind 7 3 ≡ 17) × (wordCount 15 ≡ 3) × (wordCount 16 ≡ 2)
+list-counts : (columnKind 12 0 ≡ 19) × (columnKind 12 1 ≡ 18) × (columnKind 12 2 ≡ 18) × (columnKind 13 0 ≡ 19) × (columnKind 13 1 ≡ 18) × (columnKind 13 2 ≡ 20) × (wordCount 19 ≡ 2) × (wordCount 18 ≡ 2) × (wordCount 20 ≡ 5) × (columnKind 1 5 ≡ 16) × (columnKind 7 2 ≡ 17) × (columnKind 7 3 ≡ 18) × (wordCount 16 ≡ 3) × (wordCount 17 ≡ 2)
 unfolding columnKind kinds wordCount counts
 list-counts = (refl, refl, refl, refl, refl, refl, refl, refl, refl, refl, refl, refl, refl, refl)
 
@@ -152,22 +152,22 @@ below : (t kind c n : ℕ) (cells : Cells) → columnKind t c ≡ kind → wordC
 below t kind c n cells e f h g = let a = g c (omega arith) in subst (λ (m : ℕ). cellOf cells c < m) (ap wordCount e ∙ f) a
 
 pub geom-cell : (text : List ℕ) (k : ℕ) → cellOf (getD (linesOf text 1) k noCells) 5 < 3
-geom-cell text k = below 1 15 5 3 (getD (linesOf text 1) k noCells) (list-counts .9) (list-counts .12) (omega arith) (rows-listed text 1 (omega arith) k)
+geom-cell text k = below 1 16 5 3 (getD (linesOf text 1) k noCells) (list-counts .9) (list-counts .12) (omega arith) (rows-listed text 1 (omega arith) k)
 
 pub lane-cells : (text : List ℕ) (k : ℕ) → (cellOf (getD (linesOf text 7) k noCells) 2 < 2) × (cellOf (getD (linesOf text 7) k noCells) 3 < 2)
 lane-cells text k =
     let g = rows-listed text 7 (omega arith) k in
     let r = getD (linesOf text 7) k noCells in
-    (below 7 16 2 2 r (list-counts .10) (list-counts .13) (omega arith) g, below 7 17 3 2 r (list-counts .11) (list-counts .7) (omega arith) g)
+    (below 7 17 2 2 r (list-counts .10) (list-counts .13) (omega arith) g, below 7 18 3 2 r (list-counts .11) (list-counts .7) (omega arith) g)
 
 pub strip-cells : (text : List ℕ) (k : ℕ) → (cellOf (getD (linesOf text 12) k noCells) 0 < 2) × (cellOf (getD (linesOf text 12) k noCells) 1 < 2) × (cellOf (getD (linesOf text 12) k noCells) 2 < 2)
 strip-cells text k =
     let g = rows-listed text 12 (omega arith) k in
     let r = getD (linesOf text 12) k noCells in
-    (below 12 18 0 2 r (list-counts .0) (list-counts .6) (omega arith) g, below 12 17 1 2 r (list-counts .1) (list-counts .7) (omega arith) g, below 12 17 2 2 r (list-counts .2) (list-counts .7) (omega arith) g)
+    (below 12 19 0 2 r (list-counts .0) (list-counts .6) (omega arith) g, below 12 18 1 2 r (list-counts .1) (list-counts .7) (omega arith) g, below 12 18 2 2 r (list-counts .2) (list-counts .7) (omega arith) g)
 
 pub cubic-cells : (text : List ℕ) (k : ℕ) → (cellOf (getD (linesOf text 13) k noCells) 0 < 2) × (cellOf (getD (linesOf text 13) k noCells) 1 < 2) × (cellOf (getD (linesOf text 13) k noCells) 2 < 5)
 cubic-cells text k =
     let g = rows-listed text 13 (omega arith) k in
     let r = getD (linesOf text 13) k noCells in
-    (below 13 18 0 2 r (list-counts .3) (list-counts .6) (omega arith) g, below 13 17 1 2 r (list-counts .4) (list-counts .7) (omega arith) g, below 13 19 2 5 r (list-counts .5) (list-counts .8) (omega arith) g)
+    (below 13 19 0 2 r (list-counts .3) (list-counts .6) (omega arith) g, below 13 18 1 2 r (list-counts .4) (list-counts .7) (omega arith) g, below 13 20 2 5 r (list-counts .5) (list-counts .8) (omega arith) g)

@@ -15,23 +15,25 @@ use Rattle.records_cubic.specs.declared.cubics.Cubic.{Cubic}
 use Rattle.records_cubic.specs.Cubics.{noCubic}
 use Rattle.records.specs.declared.points.GeomRec.{GeomRec}
 use Rattle.records.specs.declared.points.HeightDef.{HeightDef}
+use Rattle.records.specs.declared.points.Mark.{Mark}
 use Rattle.records.specs.Layout.{extentBase, shapeBase, cubicBase}
-use Rattle.records.specs.Roads.{Road, Section, Lane, Profile, Strip, absent, present, noHeight, roadOf, cubicsIn, heightsIn, laneIn, sectionIn, profileIn, columnIn, stripIn}
+use Rattle.records.specs.Roads.{Road, Section, Lane, Profile, Strip, absent, present, noHeight, roadOf, cubicsIn, heightsIn, laneIn, markIn, sectionIn, profileIn, columnIn, stripIn}
 use Rattle.records.proofs.CubicLaws.{height-count}
 use Rattle.admission_structure.proofs.StructureLaws.{cubics-full}
 use Rattle.reader_lines.specs.Columns.{cellOf, noCells}
 use Rattle.reader_lines.specs.declared.columns.Cells.{Cells}
 use Rattle.reader_store.specs.Layout.{places, placeAt, numbers, numberPlace, words, wordPlace, codeOf, counts, countPlace, bases, baseOf, strides, strideOf}
 use Rattle.reader_store.specs.Progress.{stripLine}
+use Rattle.reader_store.specs.Keep.{markKind}
 use Rattle.reader_store.specs.declared.progress.Progress.{Progress}
 use Rattle.reader_calls.specs.Reading.{done, zeros}
 use Rattle.reader_laws.specs.Lines.{linesOf, cubicIn, heightIn}
-use Rattle.reader_laws.proofs.Layouts.{Five, extent-five, shape-five, cubic-five, cubic-join, height-join, sections-join, section-start-join, left-join, right-join, lane-join, profiles-join, profile-join, column-join}
+use Rattle.reader_laws.proofs.Layouts.{Five, extent-five, shape-five, cubic-five, cubic-join, height-join, sections-join, section-start-join, left-join, right-join, marks-join, mark-join, mark-same, lane-join, profiles-join, profile-join, column-join}
 use Rattle.reader_laws.proofs.ReadTables.{Stored}
 use Rattle.reader_laws.proofs.TablesKept.{number-kept, rows-inside}
 use Rattle.reader_laws.proofs.CountsKept.{count-kept}
-use Rattle.reader_laws.proofs.RoadRead.{line-read, height-line-read, elevations-read, superelevations-read, offsets-read, tshifts-read, geoms-read, unused-all-read, length-read}
-use Rattle.reader_text_laws.specs.Said.{those, numbered, under, leftUnder, rightUnder, ofLane, ofStrip, ofTerm, laneSaid, sectionSaid, profileSaid, termSaid, stripBy, stripSaid, roadSaid}
+use Rattle.reader_laws.proofs.RoadRead.{line-read, height-line-read, mark-span-read, elevations-read, superelevations-read, offsets-read, tshifts-read, geoms-read, unused-all-read, length-read}
+use Rattle.reader_text_laws.specs.Said.{those, numbered, under, leftUnder, rightUnder, ofLane, ofStrip, ofTerm, placeSaid, laneSaid, markSaid, sectionSaid, profileSaid, termSaid, stripBy, stripSaid, roadSaid}
 use Rattle.reader_text_laws.proofs.Those.{Part, part-same, those-part, part-length, any, table-part, table-numbered}
 use Rattle.reader_text_laws.proofs.Folds.{State}
 use Rattle.reader_text_laws.proofs.States.{state, state-end, state-size, Reading, sound-reading}
@@ -39,8 +41,9 @@ use Rattle.reader_text_laws.proofs.Ranges.{Outside}
 use Rattle.reader_text_laws.proofs.Lanes.{firstAt, leftsAt, rightsAt}
 use Rattle.reader_text_laws.proofs.LaneLines.{LaneRows, left-part, right-part}
 use Rattle.reader_text_laws.proofs.Listed.{strip-cells}
-use Rattle.reader_text_laws.proofs.ChildLines.{lanes-few, profiles-few, lanes, lanes-after, frame-8, frame-9, frame-10, frame-11, extent-part-9, height-part-10, shape-part-12}
+use Rattle.reader_text_laws.proofs.ChildLines.{sections-few, lanes-few, profiles-few, lanes, lanes-after, extent-part-9, height-part-10, shape-part-12}
 use Rattle.reader_text_laws.proofs.StripLines.{end-12, strip-none, strip-one, term-part}
+use Rattle.reader_text_laws.proofs.MarkLines.{before-10, before-9, before-8, end-14, mark-part-16, mark-words-16, mark-kind-16}
 
 -- a code that is kept as a word is 1 where the cell is
 code-one : (v : ℕ) → eqb (codeOf v) 1 ≡ eqb v 1
@@ -61,8 +64,8 @@ relative-two v h = (ne-eqb (v % 2 + 1) 0 (λ z. omega arith), go (eqb v 1) refl)
 lane-same : {a a' b b' : Bool} {c c' : List Cubic} {d d' : List HeightDef} → a ≡ a' → b ≡ b' → c ≡ c' → d ≡ d' → _≡_ {A = Lane} (record { border = a; level = b; extents = c; heights = d }) (record { border = a'; level = b'; extents = c'; heights = d' })
 lane-same p q r t = cc
 
-section-same : {a a' : Float} {b b' c c' : List Lane} → a ≡ a' → b ≡ b' → c ≡ c' → _≡_ {A = Section} (record { start = a; left = b; right = c }) (record { start = a'; left = b'; right = c' })
-section-same p q r = cc
+section-same : {a a' : Float} {b b' c c' : List Lane} {d d' : List Mark} → a ≡ a' → b ≡ b' → c ≡ c' → d ≡ d' → _≡_ {A = Section} (record { start = a; left = b; right = c; marks = d }) (record { start = a'; left = b'; right = c'; marks = d' })
+section-same p q r t = cc
 
 profile-same : {a a' : Float} {b b' : List Cubic} → a ≡ a' → b ≡ b' → _≡_ {A = Profile} (record { s = a; shapes = b }) (record { s = a'; shapes = b' })
 profile-same p q = cc
@@ -89,74 +92,95 @@ module _ (text : List ℕ) (l m n at count : ℕ) (progress : Progress) (ws : Li
   abbrev st : ℕ → State
   st t = state text l m n at count progress ws ns vs (read .tables) (read .words-long) (read .numbers-long) t
 
-  abbrev reading : Reading text l n 15 st
+  abbrev reading : Reading text l n 16 st
   reading =
       let a = read in
       sound-reading text l m n at count progress ws ns vs (a .tables) (a .words-long) (a .numbers-long) (a .sound)
 
-  ended : (p : ℕ) → getD ws p 0 ≡ getD (st 15 .words) p 0
+  ended : (p : ℕ) → getD ws p 0 ≡ getD (st 16 .words) p 0
   ended p = let a = read in ap (λ (s : State). getD (s .words) p 0) (sym (state-end text l m n at count progress ws ns vs (a .tables) (a .words-long) (a .numbers-long)))
 
   -- memory keeps its length
   pub words-kept : length ws ≡ length (zeros l)
   words-kept =
       let a = read in
-      ap (λ (s : State). length (s .words)) (sym (state-end text l m n at count progress ws ns vs (a .tables) (a .words-long) (a .numbers-long))) ∙ state-size text l n 15 st reading 15 (omega arith)
+      ap (λ (s : State). length (s .words)) (sym (state-end text l m n at count progress ws ns vs (a .tables) (a .words-long) (a .numbers-long))) ∙ state-size text l n 16 st reading 16 (omega arith)
 
   few : length (T 10) ≤ 16
-  few = profiles-few text l n 15 st reading
+  few = profiles-few text l n 16 st reading
 
   -- ---- memory after the last table, by the table that left it
 
+  end-13 : (p : ℕ) → 71 ≤ p → p < 1347 → getD ws p 0 ≡ getD (st 14 .words) p 0
+  end-13 p h g = ended p ∙ end-14 text l n 16 st reading (omega arith) (omega arith) p h g
+
   end-11 : (p : ℕ) → 71 ≤ p → p < 1271 → getD ws p 0 ≡ getD (st 10 .words) p 0
-  end-11 p h g =
-      ended p ∙ end-12 text l n 15 st reading (omega arith) few (omega arith) p h (omega arith)
-      ∙ frame-11 text l n 15 st reading (omega arith) (omega arith) (omega arith) (omega arith) p (omega arith) (λ i q. (λ e. omega arith, λ e. omega arith))
-      ∙ frame-10 text l n 15 st reading (omega arith) (omega arith) (omega arith) p h
+  end-11 p h g = end-13 p h (omega arith) ∙ before-10 text l n 16 st reading (omega arith) p h g
 
   abbrev Lane? : ℕ → Type 0
   Lane? i = i < length (T 7)
 
   end-9 : (p : ℕ) → 71 ≤ p → p < 1271 → Outside Lane? 123 6 p → getD ws p 0 ≡ getD (st 9 .words) p 0
-  end-9 p h g f = end-11 p h g ∙ frame-9 text l n 15 st reading (omega arith) (omega arith) (omega arith) p (omega arith) f
+  end-9 p h g f = end-13 p h (omega arith) ∙ before-9 text l n 16 st reading (omega arith) p h g f
 
   end-8 : (p : ℕ) → 71 ≤ p → p < 1271 → Outside Lane? 123 6 p → Outside Lane? 121 6 p → getD ws p 0 ≡ getD (st 8 .words) p 0
-  end-8 p h g f e = end-9 p h g f ∙ frame-8 text l n 15 st reading (omega arith) (omega arith) p (omega arith) e
+  end-8 p h g f e = end-13 p h (omega arith) ∙ before-8 text l n 16 st reading (omega arith) p h g f e
 
   pub lane-rows : LaneRows (T 7) (length (T 6)) ws
-  lane-rows = lanes-after text l n 15 st reading (omega arith) ws (λ p a b. end-8 p a (omega arith) (λ i q. (λ e. omega arith, λ e. omega arith)) (λ i q. (λ e. omega arith, λ e. omega arith)))
+  lane-rows = lanes-after text l n 16 st reading (omega arith) ws (λ p a b. end-8 p a (omega arith) (λ i q. (λ e. omega arith, λ e. omega arith)) (λ i q. (λ e. omega arith, λ e. omega arith)))
 
   pub lane-extent : (j : ℕ) → j < length (T 7) → getD ws (119 + j * 6) 0 ≡ codeOf (cellOf (getD (T 7) j noCells) 2)
   lane-extent j h =
-      let f = lanes-few text l n 15 st reading in
+      let f = lanes-few text l n 16 st reading in
       end-8 (119 + j * 6) (omega arith) (omega arith) (λ i q. (λ e. omega arith, λ e. omega arith)) (λ i q. (λ e. omega arith, λ e. omega arith))
-      ∙ reading .step 7 (omega arith) .high (119 + j * 6) (omega arith) ∙ lanes text l n 15 st reading (omega arith) .extent j h
+      ∙ reading .step 7 (omega arith) .high (119 + j * 6) (omega arith) ∙ lanes text l n 16 st reading (omega arith) .extent j h
 
   pub lane-level : (j : ℕ) → j < length (T 7) → getD ws (119 + j * 6 + 1) 0 ≡ codeOf (cellOf (getD (T 7) j noCells) 3)
   lane-level j h =
-      let f = lanes-few text l n 15 st reading in
+      let f = lanes-few text l n 16 st reading in
       end-8 (119 + j * 6 + 1) (omega arith) (omega arith) (λ i q. (λ e. omega arith, λ e. omega arith)) (λ i q. (λ e. omega arith, λ e. omega arith))
-      ∙ reading .step 7 (omega arith) .high (119 + j * 6 + 1) (omega arith) ∙ lanes text l n 15 st reading (omega arith) .level j h
+      ∙ reading .step 7 (omega arith) .high (119 + j * 6 + 1) (omega arith) ∙ lanes text l n 16 st reading (omega arith) .level j h
 
   pub extent-part : (i : ℕ) → i < length (T 7) → Part (ofLane (getD (T 7) i noCells)) (T 8) (getD ws (121 + i * 6) 0) (getD ws (121 + i * 6 + 1) 0)
   extent-part i h =
-      let f = lanes-few text l n 15 st reading in
+      let f = lanes-few text l n 16 st reading in
       part-same (ofLane (getD (T 7) i noCells)) (T 8) (sym (end-9 (121 + i * 6) (omega arith) (omega arith) (λ j q. (λ e. omega arith, λ e. omega arith)))) (sym (end-9 (121 + i * 6 + 1) (omega arith) (omega arith) (λ j q. (λ e. omega arith, λ e. omega arith))))
-      (extent-part-9 text l n 15 st reading (omega arith) (omega arith) i h)
+      (extent-part-9 text l n 16 st reading (omega arith) (omega arith) i h)
 
   pub height-part : (i : ℕ) → i < length (T 7) → Part (ofLane (getD (T 7) i noCells)) (T 9) (getD ws (123 + i * 6) 0) (getD ws (123 + i * 6 + 1) 0)
   height-part i h =
-      let f = lanes-few text l n 15 st reading in
-      part-same (ofLane (getD (T 7) i noCells)) (T 9) (sym (end-11 (123 + i * 6) (omega arith) (omega arith))) (sym (end-11 (123 + i * 6 + 1) (omega arith) (omega arith))) (height-part-10 text l n 15 st reading (omega arith) (omega arith) (omega arith) i h)
+      let f = lanes-few text l n 16 st reading in
+      part-same (ofLane (getD (T 7) i noCells)) (T 9) (sym (end-11 (123 + i * 6) (omega arith) (omega arith))) (sym (end-11 (123 + i * 6 + 1) (omega arith) (omega arith))) (height-part-10 text l n 16 st reading (omega arith) (omega arith) (omega arith) i h)
 
   pub shape-part : (i : ℕ) → i < length (T 10) → Part (under i) (T 11) (getD ws (1271 + i * 2) 0) (getD ws (1271 + i * 2 + 1) 0)
   shape-part i h =
       let f = few in
-      part-same (under i) (T 11) (sym (ended (1271 + i * 2) ∙ end-12 text l n 15 st reading (omega arith) few (omega arith) (1271 + i * 2) (omega arith) (omega arith))) (sym (ended (1271 + i * 2 + 1) ∙ end-12 text l n 15 st reading (omega arith) few (omega arith) (1271 + i * 2 + 1) (omega arith) (omega arith))) (shape-part-12 text l n 15 st reading (omega arith) (omega arith) (omega arith) (omega arith) i h)
+      part-same (under i) (T 11) (sym (end-13 (1271 + i * 2) (omega arith) (omega arith) ∙ end-12 text l n 16 st reading (omega arith) few (omega arith) (1271 + i * 2) (omega arith) (omega arith))) (sym (end-13 (1271 + i * 2 + 1) (omega arith) (omega arith) ∙ end-12 text l n 16 st reading (omega arith) few (omega arith) (1271 + i * 2 + 1) (omega arith) (omega arith))) (shape-part-12 text l n 16 st reading (omega arith) (omega arith) (omega arith) (omega arith) i h)
+
+  -- a section's left and right lanes, counted
+  section-same-14 : (i : ℕ) → i < length (T 6) → (leftsAt (st 14 .words) i ≡ leftsAt ws i) × (rightsAt (st 14 .words) i ≡ rightsAt ws i)
+  section-same-14 i h = let s = sections-few text l n 16 st reading in (sym (end-13 (71 + 3 * i + 1) (omega arith) (omega arith)), sym (end-13 (71 + 3 * i + 2) (omega arith) (omega arith)))
+
+  pub mark-part : (i : ℕ) → i < length (T 6) → Part (under i) (T 14) (getD ws (1347 + i * 2) 0) (getD ws (1347 + i * 2 + 1) 0)
+  mark-part i h = part-same (under i) (T 14) (sym (ended (1347 + i * 2))) (sym (ended (1347 + i * 2 + 1))) (mark-part-16 text l n 16 st reading (omega arith) (omega arith) i h)
+
+  -- a mark's lane is one of its section
+  pub mark-lane : (i j : ℕ) → i < length (T 6) → j < length (T 14) → under i (getD (T 14) j noCells) ≡ true → (getD ws (1379 + j * 2) 0 ≡ placeSaid (leftsAt ws i) (cellOf (getD (T 14) j noCells) 1)) × (getD ws (1379 + j * 2) 0 < leftsAt ws i + rightsAt ws i)
+  mark-lane i j h g e =
+      let w = mark-words-16 text l n 16 st reading (omega arith) (omega arith) j g i e in
+      let s = section-same-14 i h in
+      let a = s .0 in
+      let b = s .1 in
+      let c = ended (1379 + j * 2) in
+      let d = w .1 in
+      (c ∙ w .0 ∙ ap (λ (q : ℕ). placeSaid q (cellOf (getD (T 14) j noCells) 1)) a, omega arith)
+
+  mark-kind : (j : ℕ) → j < length (T 14) → getD ws (1379 + j * 2 + 1) 0 ≡ markKind (cellOf (getD (T 14) j noCells) 4)
+  mark-kind j h = ended (1379 + j * 2 + 1) ∙ mark-kind-16 text l n 16 st reading (omega arith) (omega arith) j h
 
   -- ---- a part of a table, decoded
 
-  cubics-part : (t column base : ℕ) → Five t column base → t < 15 → (first k : ℕ) → first + k ≤ length (T t) → cubicsIn ws ns base first k ≡ map (cubicIn column) (span (T t) first k)
+  cubics-part : (t column base : ℕ) → Five t column base → t < 16 → (first k : ℕ) → first + k ≤ length (T t) → cubicsIn ws ns base first k ≡ map (cubicIn column) (span (T t) first k)
   cubics-part t column base five small first k fits =
       ext-getD (cubicIn column noCells) (cubicsIn ws ns base first k) (map (cubicIn column) (span (T t) first k)) (full ∙ sym (length-map (span (T t) first k) (cubicIn column) ∙ part-length (T t) first k fits))
       (λ i h.
@@ -204,7 +228,7 @@ module _ (text : List ℕ) (l m n at count : ℕ) (progress : Progress) (ws : Li
       (heights-part (getD ws (123 + j * 6) 0) (getD ws (123 + j * 6 + 1) 0) (height-part j h .fits) ∙ ap (map heightIn) (sym (those-part (ofLane (getD (T 7) j noCells)) (T 9) (getD ws (123 + j * 6) 0) (getD ws (123 + j * 6 + 1) 0) (height-part j h))))
 
   lanes-say : (p : Cells → Bool) (first k : ℕ) → Part p (T 7) first k → tabulate (λ j. laneIn ws ns (first + j)) k ≡ map (laneSaid T) (those p (T 7))
-  lanes-say p first k part = table-part (laneIn ws ns) (laneSaid T) (T 7) first k (part .fits) lane-says ∙ ap (map (laneSaid T)) (sym (those-part p (T 7) first k part))
+  lanes-say p first k part = (let f = part .fits in table-part (laneIn ws ns) (laneSaid T) (T 7) first k f (λ j a b. lane-says j (omega arith))) ∙ ap (map (laneSaid T)) (sym (those-part p (T 7) first k part))
 
   single : (numberPlace 6 0 ≡ 1) × (numberPlace 10 0 ≡ 1)
   unfolding numberPlace numbers
@@ -214,12 +238,33 @@ module _ (text : List ℕ) (l m n at count : ℕ) (progress : Progress) (ws : Li
   unfolding countPlace counts
   counted = (omega arith, omega arith)
 
+  -- ---- marks
+
+  lefts-say : (i : ℕ) → i < length (T 6) → leftsAt ws i ≡ length (those (leftUnder i) (T 7))
+  lefts-say i h =
+      let p = left-part (T 7) (length (T 6)) ws lane-rows i h in
+      sym (ap (λ (xs : List Cells). length xs) (those-part (leftUnder i) (T 7) (firstAt ws i) (leftsAt ws i) p) ∙ part-length (T 7) (firstAt ws i) (leftsAt ws i) (p .fits))
+
+  mark-says : (i j : ℕ) → i < length (T 6) → j < length (T 14) → under i (getD (T 14) j noCells) ≡ true → markIn ws ns j ≡ markSaid T i (getD (T 14) j noCells)
+  unfolding markSaid
+  mark-says i j h g e =
+      let s = mark-span-read text l m n at count progress ws ns vs read j g in
+      mark-join ws ns j ∙ mark-same (mark-lane i j h g e .0 ∙ ap (λ (q : ℕ). placeSaid q (cellOf (getD (T 14) j noCells) 1)) (lefts-say i h)) (mark-kind j g) (s .0) (s .1)
+
+  marks-say : (i : ℕ) → i < length (T 6) → tabulate (λ j. markIn ws ns (getD ws (1347 + i * 2) 0 + j)) (getD ws (1347 + i * 2 + 1) 0) ≡ map (markSaid T i) (those (under i) (T 14))
+  marks-say i h =
+      let p = mark-part i h in
+      let f = p .fits in
+      table-part (markIn ws ns) (markSaid T i) (T 14) (getD ws (1347 + i * 2) 0) (getD ws (1347 + i * 2 + 1) 0) f (λ j a b. mark-says i j h (omega arith) (p .passes j a b))
+      ∙ ap (map (markSaid T i)) (sym (those-part (under i) (T 14) (getD ws (1347 + i * 2) 0) (getD ws (1347 + i * 2 + 1) 0) p))
+
   pub section-says : (i : ℕ) → i < length (T 6) → sectionIn ws ns i ≡ sectionSaid T i (getD (T 6) i noCells)
-  unfolding sectionSaid
+  unfolding sectionSaid baseOf bases strideOf strides
   section-says i h =
       section-same (section-start-join ws ns i ∙ number-kept text l m n at count progress ws ns vs read 6 i 0 (omega arith) h (let e = single .0 in omega arith))
       (left-join ws ns i ∙ lanes-say (leftUnder i) (firstAt ws i) (leftsAt ws i) (left-part (T 7) (length (T 6)) ws lane-rows i h))
       (right-join ws ns i ∙ lanes-say (rightUnder i) (firstAt ws i + leftsAt ws i) (rightsAt ws i) (right-part (T 7) (length (T 6)) ws lane-rows i h))
+      (marks-join ws ns i ∙ marks-say i h)
 
   pub sections-say : roadOf ws ns .sections ≡ numbered (sectionSaid T) 0 (T 6)
   sections-say = sections-join ws ns ∙ ap (tabulate (sectionIn ws ns)) (count-kept text l m n at count progress ws ns vs read 6 (omega arith) (counted .0)) ∙ table-numbered (sectionIn ws ns) (sectionSaid T) (T 6) section-says
@@ -240,7 +285,7 @@ module _ (text : List ℕ) (l m n at count : ℕ) (progress : Progress) (ws : Li
 
   module _ (a b : ℕ) (side : a < 2) (place : b < 2) where
     pub column-part : (c : ℕ) → c < 5 → Part (ofTerm a b c) (T 13) (getD ws (1304 + ((a * 2 + b) * 11 + c * 2) * 1) 0) (getD ws (1304 + ((a * 2 + b) * 11 + c * 2) * 1 + 1) 0)
-    column-part c h = part-same (ofTerm a b c) (T 13) (sym (ended (1304 + ((a * 2 + b) * 11 + c * 2) * 1))) (sym (ended (1304 + ((a * 2 + b) * 11 + c * 2) * 1 + 1))) (term-part text l n 15 st reading (omega arith) few (omega arith) a b c side place h)
+    column-part c h = part-same (ofTerm a b c) (T 13) (sym (end-13 (1304 + ((a * 2 + b) * 11 + c * 2) * 1) (omega arith) (omega arith))) (sym (end-13 (1304 + ((a * 2 + b) * 11 + c * 2) * 1 + 1) (omega arith) (omega arith))) (term-part text l n 16 st reading (omega arith) few (omega arith) a b c side place h)
 
     term-says : (c : ℕ) → c < 5 → columnIn ws ns (a * 2 + b) c ≡ termSaid T a b c
     unfolding placeAt places baseOf bases strideOf strides
@@ -265,11 +310,11 @@ module _ (text : List ℕ) (l m n at count : ℕ) (progress : Progress) (ws : Li
     strip-cases {A} none one = go (stripLine (st 13 .progress .strips) (a * 2 + b)) refl
       where
         go : (k : ℕ) → stripLine (st 13 .progress .strips) (a * 2 + b) ≡ k → A
-        go zero e = let p = strip-none text l n 15 st reading (omega arith) few (omega arith) a b side place e in none (ended (1303 + (a * 2 + b) * 11) ∙ p .0) (those-part (ofStrip a b) (T 12) 0 0 (p .1))
+        go zero e = let p = strip-none text l n 16 st reading (omega arith) few (omega arith) a b side place e in none (end-13 (1303 + (a * 2 + b) * 11) (omega arith) (omega arith) ∙ p .0) (those-part (ofStrip a b) (T 12) 0 0 (p .1))
         go (suc j) e =
-            let p = strip-one text l n 15 st reading (omega arith) few (omega arith) a b j side place e in
+            let p = strip-one text l n 16 st reading (omega arith) few (omega arith) a b j side place e in
             let f = p .1 .fits in
-            one (getD (T 12) j noCells) (strip-cells text j .2) (ended (1303 + (a * 2 + b) * 11) ∙ p .0) (those-part (ofStrip a b) (T 12) j 1 (p .1) ∙ one-of (T 12) j (omega arith))
+            one (getD (T 12) j noCells) (strip-cells text j .2) (end-13 (1303 + (a * 2 + b) * 11) (omega arith) (omega arith) ∙ p .0) (those-part (ofStrip a b) (T 12) j 1 (p .1) ∙ one-of (T 12) j (omega arith))
 
     strip-by : (v : ℕ) (rows : List Cells) → getD ws (1303 + (a * 2 + b) * 11) 0 ≡ v → those (ofStrip a b) (T 12) ≡ rows
         → cond (eqb v 0) absent (present (record { relative = eqb v 2; width = columnIn ws ns (a * 2 + b) 0; terms = columnIn ws ns (a * 2 + b) 1 ∷ columnIn ws ns (a * 2 + b) 2 ∷ columnIn ws ns (a * 2 + b) 3 ∷ columnIn ws ns (a * 2 + b) 4 ∷ [] })) ≡ stripBy T a b rows

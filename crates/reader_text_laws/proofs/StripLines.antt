@@ -25,8 +25,8 @@ use Rattle.reader_laws.specs.Lines.{linesOf}
 use Rattle.reader_text_laws.specs.Said.{ofStrip, ofTerm}
 use Rattle.reader_text_laws.proofs.Those.{Part, part-same}
 use Rattle.reader_text_laws.proofs.Folds.{trackAfter, wordsAfter, after-lines, right-lines, State, Step}
-use Rattle.reader_text_laws.proofs.States.{Reading, state-long, still-14}
-use Rattle.reader_text_laws.proofs.Ranges.{Outside, Parents, Kept, cubic-ranged, ranges-kept, one-more}
+use Rattle.reader_text_laws.proofs.States.{Reading, state-long}
+use Rattle.reader_text_laws.proofs.Ranges.{NoWord, noOwn, none-owned, Outside, Parents, Kept, cubic-ranged, ranges-kept, one-more}
 use Rattle.reader_text_laws.proofs.LaneLines.{and-both, both}
 use Rattle.reader_text_laws.proofs.Listed.{strip-cells, cubic-cells}
 use Rattle.reader_text_laws.proofs.ChildLines.{kept-part, strips-12, frame-11, blank-11}
@@ -107,7 +107,7 @@ pub record StripsKept (all : List Cells) (ws : List ℕ) (k : ℕ) (progress : P
   pub seen : (i j : ℕ) → i < 4 → stripLine (progress .strips) i ≡ suc j → (j < k) × (stripAt all j ≡ i) × (getD us (1303 + i * 11) 0 ≡ cellOf (getD all j noCells) 2 % 2 + 1)
   pub noted : (j : ℕ) → j < k → stripLine (progress .strips) (stripAt all j) ≡ suc j
 
-module _ (all : List Cells) (ws : List ℕ) (few : length all ≤ 4) (long : 1347 ≤ length ws) where
+module _ (all : List Cells) (ws : List ℕ) (few : length all ≤ 4) (long : 1891 ≤ length ws) where
   strips-line : (k : ℕ) (progress : Progress) (us : List ℕ) → k < length all → keptProgress 12 k (getD all k noCells) progress us .sound ≡ true → StripsKept all ws k progress us
       → StripsKept all ws (k + 1) (keptProgress 12 k (getD all k noCells) progress us) (keptWords 12 k (getD all k noCells) progress us)
   strips-line k progress us h s inv =
@@ -291,7 +291,7 @@ module _ (text : List ℕ) (l n u : ℕ) (state : ℕ → State) (reading : Read
   abbrev st : ℕ → State
   st t = state t
 
-  abbrev step : (t : ℕ) → t < 15 → Step t (linesOf text t) (st t) (st (suc t))
+  abbrev step : (t : ℕ) → t < 16 → Step t (linesOf text t) (st t) (st (suc t))
   step t h = reading .step t h
 
   abbrev T : ℕ → List Cells
@@ -368,7 +368,7 @@ module _ (text : List ℕ) (l n u : ℕ) (state : ℕ → State) (reading : Read
     apart : (i j : ℕ) → Term i → Term j → (1304 + i * 1 ≡ 1304 + j * 1 → i ≡ j) × (1304 + i * 1 ≡ 1304 + j * 1 + 1 → ⊥)
     apart i j g h = (λ e. omega arith, λ e. no-next (g .strip) (g .term) (h .strip) (h .term) (g .term-small) (h .term-small) (let a = g .is in let b = h .is in omega arith))
 
-    pub cubic-parents : Parents 5 1304 1 Term (T 13) noted (st 13 .words) I
+    pub cubic-parents : Parents 5 1304 1 Term NoWord (T 13) noted (st 13 .words) I
     cubic-parents =
         record {
           few = let f = reading .few 13 (omega arith) in let e = limits-are .1 in omega arith;
@@ -382,24 +382,24 @@ module _ (text : List ℕ) (l n u : ℕ) (state : ℕ → State) (reading : Read
         }
 
     module _ (s13 : 13 < u) where
-      pub cubics : Kept 1304 1 Term (T 13) noted (st 13 .words) I (length (T 13)) (trackAfter 13 0 (T 13) (st 13 .progress) (st 13 .words)) (wordsAfter 13 0 (T 13) (st 13 .progress) (st 13 .words))
+      pub cubics : Kept 1304 1 Term NoWord (T 13) noted (st 13 .words) I (length (T 13)) (trackAfter 13 0 (T 13) (st 13 .progress) (st 13 .words)) (wordsAfter 13 0 (T 13) (st 13 .progress) (st 13 .words))
       cubics =
-          ranges-kept 1304 1 Term (T 13) noted (st 13 .words) I 5
+          ranges-kept 1304 1 Term NoWord (T 13) noted (st 13 .words) I 5
           cubic-parents
-          13 cubic-ranged (st 13 .progress) refl (reading .sound 13 (omega arith))
+          13 noOwn (none-owned 1304 1 Term (T 13)) cubic-ranged (st 13 .progress) refl (reading .sound 13 (omega arith))
 
       frame-13 : (p : ℕ) → 7 ≤ p → Outside Term 1304 1 p → getD (st 14 .words) p 0 ≡ getD (st 13 .words) p 0
-      frame-13 p h f = step 13 (omega arith) .high p h ∙ cubics .frame p f
+      frame-13 p h f = step 13 (omega arith) .high p h ∙ cubics .frame p f (λ e. e)
 
-      -- the words of memory after the last table
-      pub end-14 : (p : ℕ) → 71 ≤ p → getD (st 15 .words) p 0 ≡ getD (st 14 .words) p 0
-      end-14 p h = still-14 text l n u state reading .1 p h
+      -- the words of memory after the table cubic
+      pub end-12 : (p : ℕ) → 71 ≤ p → p < 1303 → getD (st 14 .words) p 0 ≡ getD (st 12 .words) p 0
+      end-12 p h g = frame-13 p (omega arith) (λ i q. (λ e. omega arith, λ e. omega arith)) ∙ frame-12 p (omega arith) (λ i q e. omega arith)
 
-      pub end-12 : (p : ℕ) → 71 ≤ p → p < 1303 → getD (st 15 .words) p 0 ≡ getD (st 12 .words) p 0
-      end-12 p h g = end-14 p h ∙ frame-13 p (omega arith) (λ i q. (λ e. omega arith, λ e. omega arith)) ∙ frame-12 p (omega arith) (λ i q e. omega arith)
+      pub blank-14 : (p : ℕ) → 1347 ≤ p → getD (st 14 .words) p 0 ≡ 0
+      blank-14 p h = frame-13 p (omega arith) (λ i g. let a = g .strip-small in let b = g .term-small in let c = g .is in (λ e. omega arith, λ e. omega arith)) ∙ blank-13 p (omega arith) (λ i q e. omega arith)
 
-      end-13 : (i : ℕ) → i < 4 → getD (st 15 .words) (1303 + i * 11) 0 ≡ getD (st 13 .words) (1303 + i * 11) 0
-      end-13 i h = end-14 (1303 + i * 11) (omega arith) ∙ frame-13 (1303 + i * 11) (omega arith) (λ j g. (λ e. no-presence j i (g .strip) (g .term) (g .term-small) (g .is) .0 (sym e), λ e. no-presence j i (g .strip) (g .term) (g .term-small) (g .is) .1 (sym e)))
+      end-13 : (i : ℕ) → i < 4 → getD (st 14 .words) (1303 + i * 11) 0 ≡ getD (st 13 .words) (1303 + i * 11) 0
+      end-13 i h = frame-13 (1303 + i * 11) (omega arith) (λ j g. (λ e. no-presence j i (g .strip) (g .term) (g .term-small) (g .is) .0 (sym e), λ e. no-presence j i (g .strip) (g .term) (g .term-small) (g .is) .1 (sym e)))
 
       -- ---- a strip by its side and place
 
@@ -419,12 +419,12 @@ module _ (text : List ℕ) (l n u : ℕ) (state : ℕ → State) (reading : Read
           joined x y p q = omega arith
 
       -- no line: the presence is 0 and no line has the pair
-      pub strip-none : (a b : ℕ) → a < 2 → b < 2 → stripLine noted (a * 2 + b) ≡ 0 → (getD (st 15 .words) (1303 + (a * 2 + b) * 11) 0 ≡ 0) × Part (ofStrip a b) (T 12) 0 0
+      pub strip-none : (a b : ℕ) → a < 2 → b < 2 → stripLine noted (a * 2 + b) ≡ 0 → (getD (st 14 .words) (1303 + (a * 2 + b) * 11) 0 ≡ 0) × Part (ofStrip a b) (T 12) 0 0
       strip-none a b h g e =
           (end-13 (a * 2 + b) (omega arith) ∙ none-13 (a * 2 + b) (omega arith) e, record { fits = omega arith; within = λ j q f. let s = cell-strip j a b h g .1 f in let z : _≡_ {A = ℕ} 0 (suc j) = sym e ∙ ap (stripLine noted) (sym s) ∙ noted-13 j q in absurd (omega arith); passes = λ j p q. absurd (omega arith) })
 
       -- a line: the presence is its relative plus 1, and it alone has the pair
-      pub strip-one : (a b j : ℕ) → a < 2 → b < 2 → stripLine noted (a * 2 + b) ≡ suc j → (getD (st 15 .words) (1303 + (a * 2 + b) * 11) 0 ≡ cellOf (getD (T 12) j noCells) 2 % 2 + 1) × Part (ofStrip a b) (T 12) j 1
+      pub strip-one : (a b j : ℕ) → a < 2 → b < 2 → stripLine noted (a * 2 + b) ≡ suc j → (getD (st 14 .words) (1303 + (a * 2 + b) * 11) 0 ≡ cellOf (getD (T 12) j noCells) 2 % 2 + 1) × Part (ofStrip a b) (T 12) j 1
       strip-one a b j h g e =
           let s = seen-13 (a * 2 + b) j (omega arith) e in
           let in12 = s .0 in (
@@ -437,13 +437,13 @@ module _ (text : List ℕ) (l n u : ℕ) (state : ℕ → State) (reading : Read
           )
 
       -- the cubics of a strip's term
-      pub term-part : (a b c : ℕ) → a < 2 → b < 2 → c < 5 → Part (ofTerm a b c) (T 13) (getD (st 15 .words) (1304 + ((a * 2 + b) * 11 + c * 2) * 1) 0) (getD (st 15 .words) (1304 + ((a * 2 + b) * 11 + c * 2) * 1 + 1) 0)
+      pub term-part : (a b c : ℕ) → a < 2 → b < 2 → c < 5 → Part (ofTerm a b c) (T 13) (getD (st 14 .words) (1304 + ((a * 2 + b) * 11 + c * 2) * 1) 0) (getD (st 14 .words) (1304 + ((a * 2 + b) * 11 + c * 2) * 1 + 1) 0)
       term-part a b c h g k =
           let p =
-          kept-part 1304 1 Term (T 13) noted (st 13 .words) I (trackAfter 13 0 (T 13) (st 13 .progress) (st 13 .words)) (wordsAfter 13 0 (T 13) (st 13 .progress) (st 13 .words)) cubics i
+          kept-part 1304 1 Term NoWord (T 13) noted (st 13 .words) I (trackAfter 13 0 (T 13) (st 13 .progress) (st 13 .words)) (wordsAfter 13 0 (T 13) (st 13 .progress) (st 13 .words)) cubics i
           (record { strip = a * 2 + b; term = c; strip-small = omega arith; term-small = k; is = refl }) (ofTerm a b c) to from
           in
-          part-same (ofTerm a b c) (T 13) (sym (end-14 (1304 + i * 1) (omega arith) ∙ step 13 (omega arith) .high (1304 + i * 1) (omega arith))) (sym (end-14 (1304 + i * 1 + 1) (omega arith) ∙ step 13 (omega arith) .high (1304 + i * 1 + 1) (omega arith))) p
+          part-same (ofTerm a b c) (T 13) (sym (step 13 (omega arith) .high (1304 + i * 1) (omega arith))) (sym (step 13 (omega arith) .high (1304 + i * 1 + 1) (omega arith))) p
         where
           i : ℕ
           i = (a * 2 + b) * 11 + c * 2

@@ -31,11 +31,11 @@ module _ (text : List ℕ) (l m n at count : ℕ) (progress : Progress) (ws : Li
   stored-says read = record { road = road-says text l m n at count progress ws ns vs read; wants = count-says text l m n at count progress ws ns vs read; wants-held = wants-say text l m n at count progress ws ns vs read }
 
   module _ (f : Formed text l m n at count progress ws ns vs) where
-    long-words : 1347 ≤ length (zeros l)
+    long-words : 1891 ≤ length (zeros l)
     unfolding zeros
     long-words = let e = length-replicate {A = ℕ} l 0 in let h = f .words-long in omega arith
 
-    long-numbers : 7937 ≤ length (zeroNumbers m)
+    long-numbers : 8449 ≤ length (zeroNumbers m)
     unfolding zeroNumbers
     long-numbers = let e = length-replicate {A = Float} m (ofBits binary64 0) in let h = f .numbers-long in omega arith
 
@@ -46,8 +46,8 @@ module _ (text : List ℕ) (l m n at count : ℕ) (progress : Progress) (ws : Li
     judged : readingOf text l m n ≡ judge end
     unfolding readingOf readingBy
     judged =
-        let a = le-leb 1347 (length (zeros l)) long-words in
-        let b = le-leb 7937 (length (zeroNumbers m)) long-numbers in
+        let a = le-leb 1891 (length (zeros l)) long-words in
+        let b = le-leb 8449 (length (zeroNumbers m)) long-numbers in
         let c = le-leb 32 (length (zeros n)) long-wants in
         let d = le-ltb 65536 (length text) (f .text-short) in
         rw (a, b, c, d, f .tables)

@@ -65,12 +65,12 @@ any (x ∷ xs) zero d e h = refl
 any (x ∷ xs) (suc i) d e h = any xs i d e (le-of-suc-le-suc h)
 
 -- the values of a function from f on are those of the lines of that part, each by itself
-pub table-part : {B : Type 0} (g : ℕ → B) (s : Cells → B) (rows : List Cells) (f c : ℕ) → f + c ≤ length rows → ((j : ℕ) → j < length rows → g j ≡ s (getD rows j noCells)) → tabulate (λ j. g (f + j)) c ≡ map s (span rows f c)
+pub table-part : {B : Type 0} (g : ℕ → B) (s : Cells → B) (rows : List Cells) (f c : ℕ) → f + c ≤ length rows → ((j : ℕ) → f ≤ j → j < f + c → g j ≡ s (getD rows j noCells)) → tabulate (λ j. g (f + j)) c ≡ map s (span rows f c)
 table-part g s rows f c h e =
     ext-getD (s noCells) (tabulate (λ j. g (f + j)) c) (map s (span rows f c)) (length-table (λ j. g (f + j)) c ∙ sym (length-map (span rows f c) s ∙ part-length rows f c h))
     (λ i l.
     let m : i < c = subst (λ (k : ℕ). i < k) (length-table (λ j. g (f + j)) c) l in
-    table-at (λ j. g (f + j)) c i (s noCells) m ∙ e (f + i) (omega arith) ∙ ap s (sym (span-at rows f c i noCells m)) ∙ sym (List·getD-map s (span rows f c) i noCells))
+    table-at (λ j. g (f + j)) c i (s noCells) m ∙ e (f + i) (omega arith) (omega arith) ∙ ap s (sym (span-at rows f c i noCells m)) ∙ sym (List·getD-map s (span rows f c) i noCells))
 
 cons-same : {B : Type 0} {x y : B} {xs ys : List B} → x ≡ y → xs ≡ ys → _≡_ {A = List B} (x ∷ xs) (y ∷ ys)
 cons-same e f = cc

@@ -24,10 +24,10 @@ use Rattle.reader_text_laws.proofs.States.{state, state-step, state-fir
 
 -- ---- tables other than want
 
-none-kept : (t : ℕ) → (t ≡ 14 → ⊥) → (rows : List Cells) (k : ℕ) (vs : List ℕ) → wantsAfter t k rows vs ≡ vs
+none-kept : (t : ℕ) → (t ≡ 15 → ⊥) → (rows : List Cells) (k : ℕ) (vs : List ℕ) → wantsAfter t k rows vs ≡ vs
 unfolding wantsAfter wantsKept
 none-kept t h [] k vs = refl
-none-kept t h (r ∷ rs) k vs = none-kept t h rs (k + 1) (wantsKept t k r vs) ∙ ap (λ (b : Bool). cond b (set (set vs (k * 2) (cellOf r 0)) (k * 2 + 1) (cellOf r 1)) vs) (ne-eqb t 14 h)
+none-kept t h (r ∷ rs) k vs = none-kept t h rs (k + 1) (wantsKept t k r vs) ∙ ap (λ (b : Bool). cond b (set (set vs (k * 2) (cellOf r 0)) (k * 2 + 1) (cellOf r 1)) vs) (ne-eqb t 15 h)
 
 -- ---- the lines of want, from line k on
 
@@ -44,7 +44,7 @@ two-set pre n x y a b rest e =
 less-two : (z p : ℕ) → z - p ≡ suc (suc z) - suc (suc p)
 less-two z p = omega arith
 
-wants-from : (rows : List Cells) (k : ℕ) (pre : List ℕ) (z : ℕ) → length pre ≡ k * 2 → length rows * 2 ≤ z → wantsAfter 14 k rows (pre ++ zeros z) ≡ pre ++ wantsSaid rows z
+wants-from : (rows : List Cells) (k : ℕ) (pre : List ℕ) (z : ℕ) → length pre ≡ k * 2 → length rows * 2 ≤ z → wantsAfter 15 k rows (pre ++ zeros z) ≡ pre ++ wantsSaid rows z
 unfolding wantsAfter wantsKept zeros
 wants-from [] k pre z e h = ap (λ (q : ℕ). pre ++ zeros q) (whole z)
   where
@@ -53,12 +53,12 @@ wants-from [] k pre z e h = ap (λ (q : ℕ). pre ++ zeros q) (whole z)
 wants-from (r ∷ rs) k pre zero e h = absurd (omega arith)
 wants-from (r ∷ rs) k pre (suc zero) e h = absurd (omega arith)
 wants-from (r ∷ rs) k pre (suc (suc z)) e h =
-    ap (λ (zs : List ℕ). wantsAfter 14 (k + 1) rs zs) (two-set pre (k * 2) 0 0 (cellOf r 0) (cellOf r 1) (zeros z) e)
+    ap (λ (zs : List ℕ). wantsAfter 15 (k + 1) rs zs) (two-set pre (k * 2) 0 0 (cellOf r 0) (cellOf r 1) (zeros z) e)
     ∙ wants-from rs (k + 1) (pre ++ (cellOf r 0 ∷ cellOf r 1 ∷ [])) z (let l = length-append pre (cellOf r 0 ∷ cellOf r 1 ∷ []) in omega arith) (omega arith)
     ∙ append-assoc pre (cellOf r 0 ∷ cellOf r 1 ∷ []) (wantsSaid rs z)
     ∙ ap (λ (q : ℕ). pre ++ (cellOf r 0 ∷ cellOf r 1 ∷ (patterns rs ++ zeros q))) (less-two z (length (patterns rs)))
 
-limit-want : limitOf 14 ≡ 16
+limit-want : limitOf 15 ≡ 16
 unfolding limitOf limits
 limit-want = refl
 
@@ -68,32 +68,32 @@ zeros-length zero = refl
 zeros-length (suc n) = ap suc (zeros-length n)
 
 module _ (text : List ℕ) (l m n at count : ℕ) (progress : Progress) (ws : List ℕ) (ns : List Float) (vs : List ℕ) (read : Stored text l m n (done at count progress ws ns vs)) where
-  abbrev form : tablesFrom 15 0 text 0 0 startProgress (zeros l) (zeroNumbers m) (zeros n) ≡ done at count progress ws ns vs
+  abbrev form : tablesFrom 16 0 text 0 0 startProgress (zeros l) (zeroNumbers m) (zeros n) ≡ done at count progress ws ns vs
   form = read .tables
 
-  abbrev words-long : 1347 ≤ length (zeros l)
+  abbrev words-long : 1891 ≤ length (zeros l)
   words-long = read .words-long
 
-  abbrev numbers-long : 7937 ≤ length (zeroNumbers m)
+  abbrev numbers-long : 8449 ≤ length (zeroNumbers m)
   numbers-long = read .numbers-long
 
-  before : (t : ℕ) → t ≤ 14 → state text l m n at count progress ws ns vs form words-long numbers-long t .wants ≡ zeros n
+  before : (t : ℕ) → t ≤ 15 → state text l m n at count progress ws ns vs form words-long numbers-long t .wants ≡ zeros n
   before zero h = ap (λ (s : State). s .wants) (state-first text l m n at count progress ws ns vs form words-long numbers-long)
   before (suc t) h =
       state-step text l m n at count progress ws ns vs form words-long numbers-long t (omega arith) .wants
       ∙ none-kept t (λ e. omega arith) (linesOf text t) 0 (state text l m n at count progress ws ns vs form words-long numbers-long t .wants) ∙ before t (omega arith)
 
-  pub wants-say : vs ≡ wantsSaid (linesOf text 14) n
+  pub wants-say : vs ≡ wantsSaid (linesOf text 15) n
   wants-say =
-      let f = rows-few text l m n at count progress ws ns vs read 14 (omega arith) in
+      let f = rows-few text l m n at count progress ws ns vs read 15 (omega arith) in
       let g = limit-want in
       let w = read .wants-long in
       let z = zeros-length n in
       ap (λ (s : State). s .wants) (sym (state-end text l m n at count progress ws ns vs form words-long numbers-long))
-      ∙ state-step text l m n at count progress ws ns vs form words-long numbers-long 14 (omega arith) .wants
-      ∙ ap (λ (us : List ℕ). wantsAfter 14 0 (linesOf text 14) us) (before 14 (omega arith))
-      ∙ wants-from (linesOf text 14) 0 [] n refl (omega arith)
+      ∙ state-step text l m n at count progress ws ns vs form words-long numbers-long 15 (omega arith) .wants
+      ∙ ap (λ (us : List ℕ). wantsAfter 15 0 (linesOf text 15) us) (before 15 (omega arith))
+      ∙ wants-from (linesOf text 15) 0 [] n refl (omega arith)
 
-  pub count-says : count ≡ length (linesOf text 14)
+  pub count-says : count ≡ length (linesOf text 15)
   unfolding linesOf
-  count-says = chain text l m n at count progress ws ns vs form .count 14 refl
+  count-says = chain text l m n at count progress ws ns vs form .count 15 refl

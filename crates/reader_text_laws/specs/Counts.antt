@@ -33,6 +33,7 @@ sectionCounts section =
     && within 0 6 (length (section .right))  -- the same, right
     && every laneCounts (section .left)  -- "a lane" is one of either side
     && every laneCounts (section .right)  -- the same, right
+    && within 0 16 (length (section .marks))  -- document 02, point 2: "mark, .. at most 16 a section"
 
 unfoldable pub profileCounts : Profile → Bool
 profileCounts profile = within 1 16 (length (profile .shapes))  -- "shape: .. (1..16 a profile; ..)"
@@ -54,7 +55,7 @@ countsSaid road =
     && within 0 64 (length (road .offsets))  -- the same, offset
     && within 0 64 (length (road .tshifts))  -- the same, tshift
     && within 1 16 (length (road .sections))  -- "section: start (1..16)"
-    && every sectionCounts (road .sections)  -- lane, extent and height, as above
+    && every sectionCounts (road .sections)  -- lane, extent, height and mark, as above
     && within 0 16 (length (road .profiles))  -- "profile: s (0..16)"
     && every profileCounts (road .profiles)  -- shape, as above
     && every stripCounts (road .strips)  -- cubic, as above

@@ -6,7 +6,7 @@ use mathlib.Core.Bool.{Bool, true}
 use mathlib.Core.List.{List, _++_, map}
 use lib.ListN.{length, getD}
 use Rattle.records_lent.specs.Lists.{tabulate}
-use Rattle.reader_schema.specs.Tables.{roadTable, sectionTable, laneTable, extentTable, heightTable, profileTable, shapeTable, stripTable, cubicTable}
+use Rattle.reader_schema.specs.Tables.{roadTable, sectionTable, laneTable, extentTable, heightTable, profileTable, shapeTable, stripTable, cubicTable, markTable}
 use Rattle.reader_cells.specs.Cells.{wholeBias}
 use Rattle.reader_lines.specs.Columns.{cellOf, noCells}
 use Rattle.reader_lines.specs.declared.columns.Cells.{Cells}
@@ -49,3 +49,6 @@ pub record Family (T : ℕ → List Cells) : Type 0 where
   pub strips : (i j : ℕ) → i < length (T stripTable) → j < length (T stripTable) → ofPair (lineAt (T stripTable) i) (lineAt (T stripTable) j) ≡ true → i ≡ j
   pub cubics : Follow (T stripTable) (T cubicTable) ofPair
   pub terms : (i j : ℕ) → i ≤ j → j < length (T cubicTable) → ofPair (lineAt (T cubicTable) i) (lineAt (T cubicTable) j) ≡ true → cellOf (lineAt (T cubicTable) i) 2 ≤ cellOf (lineAt (T cubicTable) j) 2
+  -- document 02, point 2: "lines follow the sections' order, a section's ids in any order"; "any other wrong count, order, section or lane id is 3"
+  pub marks : Counted (length (T sectionTable)) (T markTable)
+  pub mark-lanes : (j : ℕ) → j < length (T markTable) → (k : ℕ) × (k < length (T laneTable)) × (ofLane (lineAt (T laneTable) k) (lineAt (T markTable) j) ≡ true)

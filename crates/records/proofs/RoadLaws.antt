@@ -18,7 +18,7 @@ use Rattle.records.specs.declared.points.Found.the-variants.{At, Nothing
 use Rattle.records_lent.specs.Lists.{tabulate, span}
 use Rattle.records_cubic.specs.Cubics.{cubicsOf}
 use Rattle.records.specs.Active.{lastStart, foundOf, orFirst, activeUpTo}
-use Rattle.records.specs.Roads.{Road, Lane, Section, Profile, Strip, absent, present, roadOf, geomIn, unusedIn, laneIn, sectionIn, profileIn, columnIn, stripIn, cubicsIn, heightsIn, heightsOf, wordAt, geomFrom, noGeom, geomAt, unusedOf, allZero, unusedZero, noSection, sectionOf, noLane, laneBy, laneOf, noProfile, profileAt, stripAt, stripKindOf, columnOf, columnBy, geomIndex, sectionIndex}
+use Rattle.records.specs.Roads.{Road, Lane, Section, Profile, Strip, absent, present, roadOf, geomIn, unusedIn, laneIn, sectionIn, profileIn, columnIn, stripIn, cubicsIn, heightsIn, heightsOf, wordAt, geomFrom, noGeom, geomAt, unusedOf, allZero, unusedZero, noSection, sectionOf, noLane, laneBy, laneOf, noMark, markAt, markIn, noProfile, profileAt, stripAt, stripKindOf, columnOf, columnBy, geomIndex, sectionIndex}
 use Rattle.records_lent.proofs.TableLaws.{length-table, table-at, table-past, span-at}
 use Rattle.records.proofs.ScanLaws.{lastStart-same}
 
@@ -127,6 +127,27 @@ module _ (words : List ℕ) (numbers : List Float) where
   pub no-lane : (i k : ℕ) (r : Bool) → getD words 5 0 ≤ i → laneOf road i r k ≡ noLane
   no-lane i k true h = ap (λ (x : Section). getD (x .right) k noLane) (section-past i h)
   no-lane i k false h = ap (λ (x : Section). getD (x .left) k noLane) (section-past i h)
+
+  -- ---- the marks of a section: from its first mark on
+  pub mark-count : (i : ℕ) → i < getD words 5 0 → length (sectionOf road i .marks) ≡ getD words (1348 + i * 2) 0
+  unfolding sectionIn
+  mark-count i h = ap (λ (x : Section). length (x .marks)) (section-in i h) ∙ length-table _ _ ∙ ap (wordAt words numbers) (plus 1347 1 (i * 2))
+
+  pub mark-in :
+      (i j : ℕ) → i < getD words 5 0 → j < getD words (1348 + i * 2) 0
+      → markAt road i j ≡ markIn words numbers (getD words (1347 + i * 2) 0 + j)
+  unfolding sectionIn
+  mark-in i j h l =
+      ap (λ (x : Section). getD (x .marks) j noMark) (section-in i h)
+      ∙ table-at (λ j. markIn words numbers (getD words (1347 + i * 2) 0 + j)) (getD words (1347 + i * 2 + 1) 0) j noMark (rw (plus 1347 1 (i * 2)) l)
+
+  pub mark-past : (i j : ℕ) → i < getD words 5 0 → getD words (1348 + i * 2) 0 ≤ j → markAt road i j ≡ noMark
+  unfolding sectionIn
+  mark-past i j h l = ap (λ (x : Section). getD (x .marks) j noMark) (section-in i h) ∙ table-past _ (getD words (1347 + i * 2 + 1) 0) j noMark (rw (plus 1347 1 (i * 2)) l)
+
+  -- no section, no mark
+  pub no-mark : (i j : ℕ) → getD words 5 0 ≤ i → markAt road i j ≡ noMark
+  no-mark i j h = ap (λ (x : Section). getD (x .marks) j noMark) (section-past i h)
 
   -- ---- profiles and strips
   pub profile-count : length (road .profiles) ≡ getD words 6 0

@@ -1,5 +1,5 @@
 -- Where a lent road's tables stand: `numbers` has the f64 columns, `words` the counts, codes and ranges. Document 01 leaves the layout free; docs/MEMORY.md is the same table for whoever lends a road.
--- A table has a first place, a stride (places a line) and a limit (lines). Limits are those of document 01, "The job text".
+-- A table has a first place, a stride (places a line) and a limit (lines). Limits are those of document 01, "The job text", and of document 02 for marks.
 use Prim.Native.Nat.{ℕ, _+_, _*_}
 
 -- ---- numbers: the road's length, then the tables
@@ -43,16 +43,22 @@ shapeBase = 5857
 abbrev pub cubicBase : ℕ
 cubicBase = 7137
 
+abbrev pub spanBase : ℕ
+spanBase = 7937
+
 -- "a lent road slice is shorter than the limits need": the numbers that they need
 abbrev pub numbersNeeded : ℕ
-numbersNeeded = 7937
+numbersNeeded = 8449
 
--- a cubic is five numbers, a height three
+-- a cubic is five numbers, a height three, the span of a mark two
 abbrev pub cubicStride : ℕ
 cubicStride = 5
 
 abbrev pub heightStride : ℕ
 heightStride = 3
+
+abbrev pub spanStride : ℕ
+spanStride = 2
 
 -- ---- words: how many lines seven of the tables have, then the tables
 
@@ -109,9 +115,23 @@ stripWords = 1303
 abbrev pub stripStride : ℕ
 stripStride = 11
 
+-- a section's marks: first mark, marks. They stand apart from its lanes, so that the places before them are those of roads without marks
+abbrev pub sectionMarkWords : ℕ
+sectionMarkWords = 1347
+
+abbrev pub sectionMarkStride : ℕ
+sectionMarkStride = 2
+
+-- a mark: the place of its lane among those of its section, its kind
+abbrev pub markWords : ℕ
+markWords = 1379
+
+abbrev pub markStride : ℕ
+markStride = 2
+
 -- likewise the words
 abbrev pub wordsNeeded : ℕ
-wordsNeeded = 1347
+wordsNeeded = 1891
 
 -- ---- wants: s and t of each, as bit patterns; reading a text fills them beside the road
 
@@ -179,6 +199,13 @@ mostCubicsATerm = 8
 
 abbrev pub mostCubics : ℕ
 mostCubics = 160
+
+-- document 02, point 2: "mark: .. at most 16 a section and 256 in all"
+abbrev pub mostMarksASection : ℕ
+mostMarksASection = 16
+
+abbrev pub mostMarks : ℕ
+mostMarks = 256
 
 -- "want: s t (0..16)"
 abbrev pub mostWants : ℕ

@@ -14,6 +14,7 @@ use Rattle.records.specs.declared.points.GeomRec.{GeomRec}
 use Rattle.records.specs.declared.points.GeomShape.{GeomShape}
 use Rattle.records.specs.declared.points.GeomShape.the-variants.{Line, Arc, Spiral}
 use Rattle.records.specs.declared.points.HeightDef.{HeightDef}
+use Rattle.records.specs.declared.points.Mark.{Mark}
 use Rattle.records.specs.declared.points.StripKind.{StripKind}
 use Rattle.records.specs.declared.points.StripKind.the-variants.{Absent, Absolute, Relative}
 use Rattle.records.specs.declared.points.Found.{Found}
@@ -21,7 +22,7 @@ use Rattle.records.specs.declared.points.Found.the-variants.{At, Nothing
 use Rattle.records_lent.specs.Lists.{tabulate, span}
 use Rattle.records_cubic.specs.Cubics.{cubicsOf}
 use Rattle.records.specs.Active.{lastStart, orFirst, activeUpTo}
-use Rattle.records.specs.Layout.{lengthPlace, geomBase, geomStride, elevBase, bankBase, offsetBase, tshiftBase, sectionBase, extentBase, heightBase, profileBase, shapeBase, cubicBase, cubicStride, heightStride, geomCountAt, elevCountAt, bankCountAt, offsetCountAt, tshiftCountAt, sectionCountAt, profileCountAt, kindWords, sectionWords, sectionStride, laneWords, laneStride, profileWords, profileStride, stripWords, stripStride}
+use Rattle.records.specs.Layout.{lengthPlace, geomBase, geomStride, elevBase, bankBase, offsetBase, tshiftBase, sectionBase, extentBase, heightBase, profileBase, shapeBase, cubicBase, cubicStride, heightStride, geomCountAt, elevCountAt, bankCountAt, offsetCountAt, tshiftCountAt, sectionCountAt, profileCountAt, kindWords, sectionWords, sectionStride, laneWords, laneStride, profileWords, profileStride, stripWords, stripStride, sectionMarkWords, sectionMarkStride, markWords, markStride, spanBase, spanStride}
 
 -- ---- the road
 
@@ -32,11 +33,12 @@ pub record Lane : Type 0 where
   pub extents : List Cubic
   pub heights : List HeightDef
 
--- "section: start", with its lanes left and right, each side from the center outward
+-- "section: start", with its lanes left and right, each side from the center outward, and its mark spans (document 02, point 2: "Mark spans in the section record")
 pub record Section : Type 0 where
   pub start : Float
   pub left : List Lane
   pub right : List Lane
+  pub marks : List Mark
 
 -- "profile: s", with its shapes
 pub record Profile : Type 0 where
@@ -145,15 +147,24 @@ module _ (words : List ℕ) (numbers : List Float) where
         heights = heightsIn (wordAt (k + 4)) (wordAt (k + 5));
       }
 
-  -- a section's lanes: from its first, the left ones, then the right ones
+  -- the j-th mark of the mark table
+  unfoldable pub markIn : ℕ → Mark
+  markIn j =
+      let k = markWords + j * markStride in
+      let n = spanBase + j * spanStride in
+      record { lane = wordAt k; kind = wordAt (k + 1); start = numberAt n; end = numberAt (n + 1) }
+
+  -- a section's lanes: from its first, the left ones, then the right ones; its range of marks
   unfoldable pub sectionIn : ℕ → Section
-  unfolding tabulate laneIn
+  unfolding tabulate laneIn markIn
   sectionIn i =
       let k = sectionWords + i * sectionStride in
+      let m = sectionMarkWords + i * sectionMarkStride in
       record {
         start = numberAt (sectionBase + i);
         left = tabulate (λ j. laneIn (wordAt k + j)) (wordAt (k + 1));
         right = tabulate (λ j. laneIn (wordAt k + wordAt (k + 1) + j)) (wordAt (k + 2));
+        marks = tabulate (λ j. markIn (wordAt m + j)) (wordAt (m + 1));
       }
 
   -- a profile with its range of shapes
@@ -192,7 +203,7 @@ module _ (words : List ℕ) (numbers : List Float) where
         strips = tabulate stripIn 4;
       }
 
--- ---- the parts of a road by place; past the end NaNs, no lanes, no cubics
+-- ---- the parts of a road by place; past the end NaNs, no lanes, no marks, no cubics
 
 abbrev pub geomAt : Road → ℕ → GeomRec
 geomAt road i = getD (road .geoms) i noGeom
@@ -206,7 +217,7 @@ abbrev pub unusedZero : Road → ℕ → Bool
 unusedZero road i = allZero (getD (road .unused) i [])
 
 abbrev pub noSection : Section
-noSection = record { start = nan; left = []; right = [] }
+noSection = record { start = nan; left = []; right = []; marks = [] }
 
 abbrev pub sectionOf : Road → ℕ → Section
 sectionOf road i = getD (road .sections) i noSection
@@ -222,6 +233,13 @@ laneBy words numbers Nothing = noLane
 -- the k-th lane of a section, from the center outward, on the right or on the left
 abbrev pub laneOf : Road → ℕ → Bool → ℕ → Lane
 laneOf road i right k = getD (cond right (sectionOf road i .right) (sectionOf road i .left)) k noLane
+
+-- the j-th mark of a section; past the end one of no kind, whose span is NaN
+abbrev pub noMark : Mark
+noMark = record { lane = 0; kind = 0; start = nan; end = nan }
+
+abbrev pub markAt : Road → ℕ → ℕ → Mark
+markAt road i j = getD (sectionOf road i .marks) j noMark
 
 abbrev pub noProfile : Profile
 noProfile = record { s = nan; shapes = [] }

@@ -28,11 +28,15 @@ pub const SHAPE_BASE: usize = 5857;
 
 pub const CUBIC_BASE: usize = 7137;
 
-pub const NUMBERS_NEEDED: usize = 7937;
+pub const SPAN_BASE: usize = 7937;
+
+pub const NUMBERS_NEEDED: usize = 8449;
 
 pub const CUBIC_STRIDE: usize = 5;
 
 pub const HEIGHT_STRIDE: usize = 3;
+
+pub const SPAN_STRIDE: usize = 2;
 
 // ---- words: how many lines seven tables have, then the tables
 pub const GEOM_COUNT_AT: usize = 0;
@@ -75,7 +79,17 @@ pub const STRIP_WORDS: usize = 1303;
 
 pub const STRIP_STRIDE: usize = 11;
 
-pub const WORDS_NEEDED: usize = 1347;
+// a section's marks: first mark, marks
+pub const SECTION_MARK_WORDS: usize = 1347;
+
+pub const SECTION_MARK_STRIDE: usize = 2;
+
+// a mark: the place of its lane among those of its section, its kind
+pub const MARK_WORDS: usize = 1379;
+
+pub const MARK_STRIDE: usize = 2;
+
+pub const WORDS_NEEDED: usize = 1891;
 
 // ---- wants: s and t of each
 pub const WANT_STRIDE: usize = 2;
@@ -116,3 +130,7 @@ pub const MOST_SHAPES: usize = 256;
 pub const MOST_CUBICS_A_TERM: usize = 8;
 
 pub const MOST_CUBICS: usize = 160;
+
+pub const MOST_MARKS_A_SECTION: usize = 16;
+
+pub const MOST_MARKS: usize = 256;

@@ -7,6 +7,7 @@ pub use points::Found;
 pub use points::GeomRec;
 pub use points::GeomShape;
 pub use points::HeightDef;
+pub use points::Mark;
 pub use points::Point;
 pub use points::RefPoint;
 pub use points::STRAIGHT_CURVATURE;

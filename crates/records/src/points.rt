@@ -46,6 +46,15 @@ pub struct HeightDef {
     pub outer: f64,
 }
 
+// A span of paint on a lane of a section: the place of the lane among those of its section, left ones outward, then right ones; its kind; where it
+// starts and ends, in metres into the section.
+pub struct Mark {
+    pub lane: usize,
+    pub kind: usize,
+    pub start: f64,
+    pub end: f64,
+}
+
 // A strip of the cross section: not there, with a height of its own, or standing on the inner strip's edge.
 pub enum StripKind {
     Absent,

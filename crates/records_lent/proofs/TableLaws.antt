@@ -1,15 +1,15 @@
--- The lists of `Lists`: a table's length and its lines, a span as the three ways of `part` make it, and `allBelow` as a loop meets it. By induction, or from the library's laws on `take` and `drop`.
+-- The lists of `Lists`: a table's length and its lines, a span as the three ways of `part` make it, and `allBelow` and `anyBelow` as a loop meets them. By induction, or from the library's laws on `take` and `drop`.
 use Prim.Native.Nat.{ℕ, zero, suc, _+_, _-_, _<_, _≤_}
 use native.Mathlib.Omega.{arith}
 use native.Mathlib.Numerals.{add-one}
 use native.Mathlib.Nat.{le-of-suc-le-suc, not-suc-le-zero, add-sub-cancel-left, eq-or-lt-of-le, le-antisymm}
 use mathlib.Core.Path.{_≡_, refl, ap, _∙_, sym}
-use mathlib.Core.Bool.{Bool, true, false, _&&_}
+use mathlib.Core.Bool.{Bool, true, false, _&&_, _||_, or-true}
 use mathlib.Core.List.{List}
 use mathlib.Core.Logic.{⊎-elim}
 use lib.ListN.{length, getD, take, drop, length-drop, drop-of-length-le, List·getD-eq-default}
 use lib.Seq.{take-all, take-nil, drop-length, getD-take, getD-drop}
-use Rattle.records_lent.specs.Lists.{tabulate, span, allBelow}
+use Rattle.records_lent.specs.Lists.{tabulate, span, allBelow, anyBelow}
 
 -- ---- tables
 
@@ -78,3 +78,36 @@ module _ (p : ℕ → Bool) where
 
   pub all-done : (i n : ℕ) {a : Bool} → i ≤ n → n ≤ i → a ≡ allBelow p i → a ≡ allBelow p n
   all-done i n h k e = rw (le-antisymm k h) e
+
+-- ---- a test at some index
+
+module _ (p : ℕ → Bool) where
+  pub any-none : anyBelow p 0 ≡ false
+  unfolding anyBelow
+  any-none = refl
+
+  pub any-next : (i : ℕ) {a b : Bool} → a ≡ anyBelow p i → b ≡ p i → a || b ≡ anyBelow p (i + 1)
+  unfolding anyBelow
+  any-next i e f = rw (add-one, e, f)
+
+  pub any-done : (i n : ℕ) {a : Bool} → i ≤ n → n ≤ i → a ≡ anyBelow p i → a ≡ anyBelow p n
+  any-done i n h k e = rw (le-antisymm k h) e
+
+  pub any-at : (i n : ℕ) → i < n → p i ≡ true → anyBelow p n ≡ true
+  unfolding anyBelow
+  any-at i zero l k = absurd (not-suc-le-zero l)
+  any-at i (suc n) l k =
+      ⊎-elim
+      (λ e. rw (← e, k) (or-true (anyBelow p i)))
+      (λ lt. rw (any-at i n lt k))
+      (eq-or-lt-of-le (le-of-suc-le-suc l))
+
+  -- the index at which it passes
+  pub any-found : (n : ℕ) → anyBelow p n ≡ true → (i : ℕ) × (i < n) × (p i ≡ true)
+  unfolding anyBelow
+  any-found zero e = absurd (let z : _≡_ {A = ℕ} 0 1 = cc in omega arith)
+  any-found (suc n) e = go (anyBelow p n) (λ f. any-found n f) e
+    where
+      go : (a : Bool) → (a ≡ true → (i : ℕ) × (i < n) × (p i ≡ true)) → a || p n ≡ true → (i : ℕ) × (i < suc n) × (p i ≡ true)
+      go true f e = let m = f refl in let l = m .1 in (m .0, omega arith, m .2)
+      go false f e = (n, omega arith, e)

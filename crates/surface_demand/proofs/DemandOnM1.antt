@@ -15,9 +15,9 @@ use Rattle.records_lent.specs.Lists.{tabulate, allBelow}
 use Rattle.records.specs.Roads.{roadOf, heightsOf}
 use Rattle.line_samples.specs.Samples.{goesOn, stepsFrom, spiralSteps, sampleCount, samplesBefore, samplesNeeded}
 use Rattle.admission_structure.specs.Structure.{structured}
-use Rattle.admission_order.specs.Order.{neverFall, riseStrictly, apart, cubicsInOrder, laneInOrder, sectionInOrder, profilesInOrder, stripInOrder, ordered}
+use Rattle.admission_order.specs.Order.{neverFall, riseStrictly, apart, cubicsInOrder, laneInOrder, sectionInOrder, profilesInOrder, stripInOrder, marksInOrder, ordered}
 use Rattle.admission_bounds.specs.Bounds.{reachAt, boundOf, slopeBoundOf, cubicWithin, cubicsWithin, slopesWithin, greatest, greatestBound}
-use Rattle.admission.specs.Limits.{shapeLimited, geomLimited, sectionExtent, heightLimited, heightsLimited, laneLimited, sectionLimited, profileLimited, stripLimited, limited}
+use Rattle.admission.specs.Limits.{shapeLimited, geomLimited, sectionExtent, heightLimited, heightsLimited, laneLimited, sectionLimited, profileLimited, stripLimited, markLimited, marksLimited, limited}
 use Rattle.admission.specs.Admission.{admitted}
 use Rattle.line_calls.specs.SampleCall.{samplesList}
 use Rattle.surface_calls.specs.SurfaceCalls.{surfaceCall}
@@ -30,11 +30,11 @@ ten = f64 0x4024_0000_0000_0000
 
 -- one geometry, one section
 abbrev pub words1 : List ℕ
-words1 = 1 ∷ 0 ∷ 0 ∷ 0 ∷ 0 ∷ 1 ∷ replicate 1341 0
+words1 = 1 ∷ 0 ∷ 0 ∷ 0 ∷ 0 ∷ 1 ∷ replicate 1885 0
 
 -- the road's length, and the geometry's
 abbrev pub numbers1 : List Float
-numbers1 = ten ∷ zero64 ∷ zero64 ∷ zero64 ∷ zero64 ∷ ten ∷ replicate 7931 zero64
+numbers1 = ten ∷ zero64 ∷ zero64 ∷ zero64 ∷ zero64 ∷ ten ∷ replicate 8443 zero64
 
 zeros-fit : (n : ℕ) → AllF64 (replicate n zero64)
 zeros-fit zero k = nan-fits binary64
@@ -48,10 +48,10 @@ numbers-fit (suc (suc zero)) = ofBits-fits binary64 0
 numbers-fit (suc (suc (suc zero))) = ofBits-fits binary64 0
 numbers-fit (suc (suc (suc (suc zero)))) = ofBits-fits binary64 0
 numbers-fit (suc (suc (suc (suc (suc zero))))) = ofBits-fits binary64 0x4024_0000_0000_0000
-numbers-fit (suc (suc (suc (suc (suc (suc k)))))) = zeros-fit 7931 k
+numbers-fit (suc (suc (suc (suc (suc (suc k)))))) = zeros-fit 8443 k
 
 is-admitted : admitted words1 numbers1 ≡ true
-unfolding admitted structured roadOf cubicsOf tabulate allBelow heightsOf goesOn stepsFrom spiralSteps sampleCount samplesBefore samplesNeeded neverFall riseStrictly apart cubicsInOrder laneInOrder sectionInOrder profilesInOrder stripInOrder ordered reachAt boundOf slopeBoundOf cubicWithin cubicsWithin slopesWithin greatest greatestBound shapeLimited geomLimited sectionExtent heightLimited heightsLimited laneLimited sectionLimited profileLimited stripLimited limited ofBits add sub mul div le lt eq neg
+unfolding admitted structured roadOf cubicsOf tabulate allBelow heightsOf goesOn stepsFrom spiralSteps sampleCount samplesBefore samplesNeeded neverFall riseStrictly apart cubicsInOrder laneInOrder sectionInOrder profilesInOrder stripInOrder marksInOrder ordered reachAt boundOf slopeBoundOf cubicWithin cubicsWithin slopesWithin greatest greatestBound shapeLimited geomLimited sectionExtent heightLimited heightsLimited laneLimited sectionLimited profileLimited stripLimited markLimited marksLimited limited ofBits add sub mul div le lt eq neg
 is-admitted = refl
 
 needs-none : samplesNeeded (roadOf words1 numbers1) ≡ 0

@@ -7,13 +7,14 @@ use Rattle.float_laws.specs.Binary64.{f64, zero64}
 use Rattle.arithmetic.specs.Root.{rootOf, hypotOf}
 use Rattle.arithmetic_sine.specs.Floor.{floorOf, quarterOf}
 use Rattle.arithmetic_sine.specs.Sine.{turn, turns, rest, factorial, quotient, horner, sineKernel, cosineKernel, sineBy, cosineBy, inSineRange, sineOf, cosineOf}
+use Rattle.records_lent.specs.Lists.{anyBelow}
 use Rattle.records.specs.declared.points.GeomShape.the-variants.{Line, Spiral}
 use Rattle.records.specs.Active.{lastStart, activeIn, valueIn}
 use Rattle.records.specs.Roads.{Road, geomIndex, sectionIndex}
 use Rattle.line_samples.specs.Samples.{sampleCount, samplesBefore, spiralSteps, stepsFrom, goesOn}
 use Rattle.line_pose.specs.Poses.{linePose, leading, spiralPose, poseOf}
 use Rattle.lanes.specs.Lateral.{flatAcross, hasCrossSection, heightToward, shapeOf, crossHeight}
-use Rattle.lanes_heights.specs.Heights.{sectionRaised, anyBelow}
+use Rattle.lanes_heights.specs.Heights.{sectionRaised}
 use Rattle.surface_station.specs.Station.{poseAt}
 use Rattle.surface_points.specs.Raised.{plainAt, raisedAt}
 use Rattle.surface_points.specs.SurfaceHeights.{standsOff, surfaceHeight}
@@ -42,7 +43,7 @@ road1 =
       superelevations = [];
       offsets = [];
       tshifts = [];
-      sections = record { start = zero64; left = []; right = [] } ∷ [];
+      sections = record { start = zero64; left = []; right = []; marks = [] } ∷ [];
       profiles = [];
       strips = [];
     }
@@ -58,7 +59,7 @@ bent =
       superelevations = [];
       offsets = [];
       tshifts = [];
-      sections = record { start = zero64; left = []; right = [] } ∷ [];
+      sections = record { start = zero64; left = []; right = []; marks = [] } ∷ [];
       profiles = [];
       strips = [];
     }

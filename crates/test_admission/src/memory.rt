@@ -73,16 +73,16 @@ pub(crate) fn lent(asked: u64, len: usize) -> usize
     }
 }
 
-pub(crate) fn word_space() -> [u16; 2700]
-    ensures { λ r. ⌜ 2700 ≡ length r ⌝ }
+pub(crate) fn word_space() -> [u16; 3788]
+    ensures { λ r. ⌜ 3788 ≡ length r ⌝ }
 {
-    [0; 2700]
+    [0; 3788]
 }
 
-pub(crate) fn number_space() -> [f64; 15880]
-    ensures { λ r. ⌜ 15880 ≡ length r ⌝ }
+pub(crate) fn number_space() -> [f64; 16904]
+    ensures { λ r. ⌜ 16904 ≡ length r ⌝ }
 {
-    [0.0; 15880]
+    [0.0; 16904]
 }
 
 pub(crate) fn sample_space() -> [f64; 8004]

@@ -29,10 +29,10 @@ caseIn text ws ns vs w n v =
 
 -- the memory before a case: full of what no reading leaves
 unfoldable pub wordsBefore : List ℕ
-wordsBefore = replicate 1400 0xabcd
+wordsBefore = replicate 1900 0xabcd
 
 unfoldable pub numbersBefore : List Float
-numbersBefore = replicate 8000 (ofBits binary64 0x4045_abcd_abcd_abcd)
+numbersBefore = replicate 8500 (ofBits binary64 0x4045_abcd_abcd_abcd)
 
 unfoldable pub wantsBefore : List ℕ
 wantsBefore = replicate 40 0xabcd_abcd_abcd_abcd

@@ -79,7 +79,7 @@ fn case_in(
     }
 }
 
-// In memory of 1,400 words, 8,000 numbers and 40 wants.
+// In memory of 1,900 words, 8,500 numbers and 40 wants.
 pub(crate) fn case_of(text: &[u8], w: usize, n: usize, v: usize) -> Case
     ensures { λ r. ⌜ r ≡ caseOf (now (text .entry)) w n v ⌝ }
 {

@@ -4,19 +4,19 @@ ghost use Prim.Native.Nat.{_≤_, min};
 ghost use lib.ListN.{length};
 ghost use Rattle.test_jobs.specs.Case.{wordsBefore, numbersBefore, wantsBefore};
 
-pub(crate) fn word_space() -> [u16; 1400]
-    ensures { λ r. ⌜ 1400 ≡ length r ⌝ }
+pub(crate) fn word_space() -> [u16; 1900]
+    ensures { λ r. ⌜ 1900 ≡ length r ⌝ }
     ensures { λ r. ⌜ r ≡ wordsBefore ⌝ }
 {
-    [0xabcd; 1400]
+    [0xabcd; 1900]
 }
 
-pub(crate) fn number_space() -> [f64; 8000]
-    ensures { λ r. ⌜ 8000 ≡ length r ⌝ }
+pub(crate) fn number_space() -> [f64; 8500]
+    ensures { λ r. ⌜ 8500 ≡ length r ⌝ }
     ensures { λ r. ⌜ r ≡ numbersBefore ⌝ }
 {
     let number = reader_hex::of_bits(0x4045_abcd_abcd_abcd);
-    [number; 8000]
+    [number; 8500]
 }
 
 pub(crate) fn want_space() -> [u64; 40]

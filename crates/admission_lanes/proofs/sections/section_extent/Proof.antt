@@ -1,4 +1,5 @@
 -- `section_extent`: by whether there is a next section.
+use native.Mathlib.Omega.{arith}
 use Rattle.admission.proofs.LimitTests.{extent-next, extent-last}
 use borrow.Author.Needs.{needs}
 use Rattle.admission_lanes.proofs.sections.section_extent.Statement.{statement}
@@ -10,8 +11,14 @@ section-count-requires c κs = search needs
 section-start-requires : tie.Need-section-start-requires
 section-start-requires c κs = search needs
 
-add-if1 : tie.Need-add-if1
-add-if1 c = search needs
+road-length-requires : tie.Need-road-length-requires
+road-length-requires c κs = search needs
+
+returns : tie.Need-returns
+returns c = extent-last _ _ (c .before .before .before .section-count .ensures) (omega arith) (c .road-length .ensures) (c .before .before .section-start .ensures)
+
+add-if2 : tie.Need-add-if2
+add-if2 c = search needs
 
 add-section-start : tie.Need-add-section-start
 add-section-start c = search needs
@@ -19,14 +26,14 @@ add-section-start c = search needs
 section-start-requires-2 : tie.Need-section-start-requires-2
 section-start-requires-2 c κs = search needs
 
-road-length-requires : tie.Need-road-length-requires
-road-length-requires c κs = search needs
-
-returns : tie.Need-returns
-returns c = extent-next _ _ (c .before .before .before .section-count .ensures) (c .before .if1 .taken) (c .section-start2 .ensures) (c .before .before .section-start .ensures)
+road-length-requires-2 : tie.Need-road-length-requires-2
+road-length-requires-2 c κs = search needs
 
 returns-2 : tie.Need-returns-2
-returns-2 c = extent-last _ _ (c .before .before .before .section-count .ensures) (c .before .if1 .left) (c .road-length .ensures) (c .before .before .section-start .ensures)
+returns-2 c = extent-next _ _ (c .before .before .before .before .section-count .ensures) (c .before .if2 .taken) (c .section-start2 .ensures) (c .before .before .before .section-start .ensures)
+
+returns-3 : tie.Need-returns-3
+returns-3 c = extent-last _ _ (c .before .before .before .before .section-count .ensures) (c .before .if2 .left) (c .road-length2 .ensures) (c .before .before .before .section-start .ensures)
 
 pub section-extent-spec : {M : Type 1} → statement M
 section-extent-spec =
@@ -34,9 +41,11 @@ section-extent-spec =
     (tie.spec
     section-count-requires
     section-start-requires
-    add-if1
-    add-section-start
-    section-start-requires-2
     road-length-requires
     returns
-    returns-2)
+    add-if2
+    add-section-start
+    section-start-requires-2
+    road-length-requires-2
+    returns-2
+    returns-3)

@@ -28,10 +28,13 @@ profiles-limited-requires c κs = search needs
 strips-limited-requires : tie.Need-strips-limited-requires
 strips-limited-requires c κs = search needs
 
+marks-limited-requires : tie.Need-marks-limited-requires
+marks-limited-requires c κs = search needs
+
 returns : tie.Need-returns
 returns c =
-    limited-by _ (c .before .before .before .before .before .before .before .road-length .ensures) (c .before .before .before .before .before .before .in-range .ensures) (c .before .before .before .before .before .geoms-limited .ensures) (c .before .before .before .before .elevations-limited .ensures) (c .before .before .before .tables-limited .ensures)
-    (c .before .before .sections-limited .ensures) (c .before .profiles-limited .ensures) (c .strips-limited .ensures)
+    limited-by _ (c .before .before .before .before .before .before .before .before .road-length .ensures) (c .before .before .before .before .before .before .before .in-range .ensures) (c .before .before .before .before .before .before .geoms-limited .ensures) (c .before .before .before .before .before .elevations-limited .ensures) (c .before .before .before .before .tables-limited .ensures)
+    (c .before .before .before .sections-limited .ensures) (c .before .before .profiles-limited .ensures) (c .before .strips-limited .ensures) (c .marks-limited .ensures)
 
 pub limited-spec : {M : Type 1} → statement M
 limited-spec =
@@ -45,4 +48,5 @@ limited-spec =
     sections-limited-requires
     profiles-limited-requires
     strips-limited-requires
+    marks-limited-requires
     returns)

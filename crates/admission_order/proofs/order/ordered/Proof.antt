@@ -28,18 +28,22 @@ shapes-in-order-requires c κs = search needs
 strips-in-order-requires : tie.Need-strips-in-order-requires
 strips-in-order-requires c κs = search needs
 
+marks-in-order-requires : tie.Need-marks-in-order-requires
+marks-in-order-requires c κs = search needs
+
 returns : tie.Need-returns
 returns c =
     ordered-by
     _
-    (c .before .before .before .before .before .before .before .first-at-zero .ensures)
-    (c .before .before .before .before .before .before .geoms-in-order .ensures)
-    (c .before .before .before .before .before .sections-rise .ensures)
-    (c .before .before .before .before .flat-in-order .ensures)
-    (c .before .before .before .sections-in-order .ensures)
-    (c .before .before .profiles-apart .ensures)
-    (c .before .shapes-in-order .ensures)
-    (c .strips-in-order .ensures)
+    (c .before .before .before .before .before .before .before .before .first-at-zero .ensures)
+    (c .before .before .before .before .before .before .before .geoms-in-order .ensures)
+    (c .before .before .before .before .before .before .sections-rise .ensures)
+    (c .before .before .before .before .before .flat-in-order .ensures)
+    (c .before .before .before .before .sections-in-order .ensures)
+    (c .before .before .before .profiles-apart .ensures)
+    (c .before .before .shapes-in-order .ensures)
+    (c .before .strips-in-order .ensures)
+    (c .marks-in-order .ensures)
 
 pub ordered-spec : {M : Type 1} → statement M
 ordered-spec =
@@ -53,4 +57,5 @@ ordered-spec =
     profiles-apart-requires
     shapes-in-order-requires
     strips-in-order-requires
+    marks-in-order-requires
     returns)

@@ -28,8 +28,11 @@ profiles-ok-requires c κs = search needs
 strips-ok-requires : tie.Need-strips-ok-requires
 strips-ok-requires c κs = search needs
 
+marks-ok-requires : tie.Need-marks-ok-requires
+marks-ok-requires c κs = search needs
+
 returns-4 : tie.Need-returns-4
-returns-4 c = structured-by _ _ (c .before .before .before .before .before .before .before .if1 .left) (c .before .before .before .before .before .before .if2 .left) (c .before .before .before .before .before .counts-ok .ensures) (c .before .before .before .before .if3 .left) (c .before .before .before .kinds-ok .ensures) (c .before .before .sections-ok .ensures) (c .before .profiles-ok .ensures) (c .strips-ok .ensures)
+returns-4 c = structured-by _ _ (c .before .before .before .before .before .before .before .before .if1 .left) (c .before .before .before .before .before .before .before .if2 .left) (c .before .before .before .before .before .before .counts-ok .ensures) (c .before .before .before .before .before .if3 .left) (c .before .before .before .before .kinds-ok .ensures) (c .before .before .before .sections-ok .ensures) (c .before .before .profiles-ok .ensures) (c .before .strips-ok .ensures) (c .marks-ok .ensures)
 
 pub structured-spec : {M : Type 1} → statement M
 structured-spec =
@@ -43,4 +46,5 @@ structured-spec =
     sections-ok-requires
     profiles-ok-requires
     strips-ok-requires
+    marks-ok-requires
     returns-4)

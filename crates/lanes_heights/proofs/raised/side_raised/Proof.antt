@@ -6,10 +6,11 @@ use Prim.Native.Nat.{ℕ, _≤_, _-_}
 use native.Mathlib.Omega.{arith}
 use lib.ListN.{getD}
 use lib.Ieee.{Float}
+use Rattle.records_lent.specs.Lists.{anyBelow}
+use Rattle.records_lent.proofs.TableLaws.{any-none, any-next, any-at}
 use Rattle.records.specs.Roads.{roadOf, noLane}
 use Rattle.lanes_borders.specs.Borders.{sideLanes}
-use Rattle.lanes_heights.specs.Heights.{isRaised, anyBelow}
-use Rattle.lanes_heights.proofs.RaisingSteps.{any-none, any-next, any-hit}
+use Rattle.lanes_heights.specs.Heights.{isRaised}
 use borrow.Author.Needs.{needs}
 use Rattle.lanes_heights.proofs.raised.side_raised.Statement.{statement}
 use Rattle.lanes_heights.proofs.raised.side_raised.Tie as tie
@@ -41,7 +42,7 @@ returns c =
     let a = at .before .before .before .before .args in
     let n = at .before .lane-count in
     let p = passes (a .words .now) (a .numbers .now) (a .section) (a .right) in
-    sym (ap (anyBelow p) (sym (n .ensures .0)) ∙ any-hit p (n .result) (at .loop .k) (turn .loop-test .taken) (sym (c .before .lane-raised .ensures) ∙ c .if1 .taken))
+    sym (ap (anyBelow p) (sym (n .ensures .0)) ∙ any-at p (at .loop .k) (n .result) (turn .loop-test .taken) (sym (c .before .lane-raised .ensures) ∙ c .if1 .taken))
 
 add-k : tie.Need-add-k Inv-loop μ-loop
 add-k c = search needs
@@ -53,7 +54,7 @@ loop-again : tie.Need-loop-again Inv-loop μ-loop
 loop-again c =
     let at = c .before .before .before in
     let a = at .before .before .before .before .args in
-    (omega arith, any-next (passes (a .words .now) (a .numbers .now) (a .section) (a .right)) (at .loop .k) (at .loop .inv .1) (sym (c .before .lane-raised .ensures) ∙ c .if1 .left))
+    (omega arith, sym (any-next (passes (a .words .now) (a .numbers .now) (a .section) (a .right)) (at .loop .k) (sym (at .loop .inv .1)) (sym (sym (c .before .lane-raised .ensures) ∙ c .if1 .left))))
 
 returns-2 : tie.Need-returns-2 Inv-loop μ-loop
 returns-2 c =

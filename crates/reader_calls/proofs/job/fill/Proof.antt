@@ -35,7 +35,7 @@ returns-3 c =
     let t = c .before .before .before .before .before .before .before .before .before .tables in
     let j = c .judged in
     filled-same (j .result) (t .last .1 .0) (t .last .1 .1 .0) (t .last .1 .1 .1 .0) (reading-is (a .text .now) (a .words .now) (a .numbers .now) (a .wants .now) (not-false _ (c .before .before .before .before .before .before .before .before .before .before .before .before .before .before .if1 .left)) (c .before .before .before .before .before .before .before .before .before .before .before .before .before .if2 .left))
-    (filled-by (tablesFrom 15 0 (a .text .now) 0 0 startProgress (a .words .now) (a .numbers .now) (a .wants .now)) (t .result) (j .result) (t .last .1 .0) (t .last .1 .1 .0) (t .last .1 .1 .1 .0) (t .ensures) (j .ensures))
+    (filled-by (tablesFrom 16 0 (a .text .now) 0 0 startProgress (a .words .now) (a .numbers .now) (a .wants .now)) (t .result) (j .result) (t .last .1 .0) (t .last .1 .1 .0) (t .last .1 .1 .1 .0) (t .ensures) (j .ensures))
 
 pub fill-spec : {M : Type 1} → statement M
 fill-spec =

@@ -12,11 +12,11 @@ use Rattle.reader_calls.proofs.tables.tables.Tie as tie
 
 abbrev Inv-loop : tie.InvT-loop
 Inv-loop text words₀ numbers₀ wants₀ progress₀ at₀ count₀ table₀ words numbers wants progress at count table =
-    (table ≤ 15) × (length words ≡ length words₀) × (length numbers ≡ length numbers₀) × (length wants ≡ length wants₀)
-    × (tablesFrom 15 0 text 0 0 startProgress words₀ numbers₀ wants₀ ≡ tablesFrom (15 - table) table text at count progress words numbers wants)
+    (table ≤ 16) × (length words ≡ length words₀) × (length numbers ≡ length numbers₀) × (length wants ≡ length wants₀)
+    × (tablesFrom 16 0 text 0 0 startProgress words₀ numbers₀ wants₀ ≡ tablesFrom (16 - table) table text at count progress words numbers wants)
 
 abbrev μ-loop : tie.MeasureT-loop
-μ-loop text words₀ numbers₀ wants₀ progress₀ at₀ count₀ table₀ words numbers wants progress at count table = 15 - table
+μ-loop text words₀ numbers₀ wants₀ progress₀ at₀ count₀ table₀ words numbers wants progress at count table = 16 - table
 
 start-progress-requires : tie.Need-start-progress-requires Inv-loop μ-loop
 start-progress-requires c κs = search needs
@@ -43,7 +43,7 @@ returns c =
     let a = c .before .before .before .before .before .before .before .before .before .before .before .before .before .before .before .before .before .before .before .args in
     let at = c .before .before .before .before .before .before .before .before .before .before .before .before .before .loop in
     let t = c .before .before .before .before .before .before .before .before .table-at in
-    agree-same (t .result) (t .last .1 .1 .1 .0) (t .last .1 .1 .1 .1 .0) (t .last .1 .1 .1 .1 .1 .0) (at .inv .4) (tables-stop (a .text .now) 15 (at .table) (at .at) (at .count) (at .progress) (at .words) (at .numbers) (at .wants) (t .result) (t .last .1 .1 .1 .0) (t .last .1 .1 .1 .1 .0) (t .last .1 .1 .1 .1 .1 .0) (c .before .before .before .before .before .before .before .before .before .before .before .before .loop-test .taken) (t .ensures) (c .if1 .taken))
+    agree-same (t .result) (t .last .1 .1 .1 .0) (t .last .1 .1 .1 .1 .0) (t .last .1 .1 .1 .1 .1 .0) (at .inv .4) (tables-stop (a .text .now) 16 (at .table) (at .at) (at .count) (at .progress) (at .words) (at .numbers) (at .wants) (t .result) (t .last .1 .1 .1 .0) (t .last .1 .1 .1 .1 .0) (t .last .1 .1 .1 .1 .1 .0) (c .before .before .before .before .before .before .before .before .before .before .before .before .loop-test .taken) (t .ensures) (c .if1 .taken))
 
 counted-requires : tie.Need-counted-requires Inv-loop μ-loop
 counted-requires c κs = search needs
@@ -59,12 +59,12 @@ loop-again c =
     let a = c .before .before .before .before .before .before .before .before .before .before .before .before .before .before .before .before .before .before .before .before .before .args in
     let at = c .before .before .before .before .before .before .before .before .before .before .before .before .before .before .before .loop in
     let t = c .before .before .before .before .before .before .before .before .before .before .table-at in
-    let l : at .table + 1 ≤ 15 = omega (arith, c .before .before .before .before .before .before .before .before .before .before .before .before .before .before .loop-test .taken) in (
+    let l : at .table + 1 ≤ 16 = omega (arith, c .before .before .before .before .before .before .before .before .before .before .before .before .before .before .loop-test .taken) in (
       l,
       t .kept .1 .1 .1 .0 ∙ at .inv .1,
       t .kept .1 .1 .1 .1 .0 ∙ at .inv .2,
       t .kept .1 .1 .1 .1 .1 .0 ∙ at .inv .3,
-      at .inv .4 ∙ tables-next (a .text .now) 15 (at .table) (at .at) (at .count) (at .progress) (at .words) (at .numbers) (at .wants) (t .result) (t .last .1 .1 .1 .0) (t .last .1 .1 .1 .1 .0) (t .last .1 .1 .1 .1 .1 .0) (c .before .before .before .before .before .before .before .before .before .before .before .before .before .before .loop-test .taken) (t .ensures) (c .before .before .if1 .left) (c .counted .ensures),
+      at .inv .4 ∙ tables-next (a .text .now) 16 (at .table) (at .at) (at .count) (at .progress) (at .words) (at .numbers) (at .wants) (t .result) (t .last .1 .1 .1 .0) (t .last .1 .1 .1 .1 .0) (t .last .1 .1 .1 .1 .1 .0) (c .before .before .before .before .before .before .before .before .before .before .before .before .before .before .loop-test .taken) (t .ensures) (c .before .before .if1 .left) (c .counted .ensures),
     )
 
 turned-requires : tie.Need-turned-requires Inv-loop μ-loop
@@ -83,7 +83,7 @@ returns-2 : tie.Need-returns-2 Inv-loop μ-loop
 returns-2 c =
     let a = c .before .before .before .before .before .before .before .before .before .args in
     let at = c .before .before .before .loop in
-    agree-stop _ _ _ _ (at .inv .4 ∙ tables-rest (a .text .now) 15 (at .table) (at .at) (at .count) (at .progress) (at .words) (at .numbers) (at .wants) (c .before .before .loop-test .left) (c .before .if2 .taken)) (c .turned .ensures) (omega arith) (omega arith)
+    agree-stop _ _ _ _ (at .inv .4 ∙ tables-rest (a .text .now) 16 (at .table) (at .at) (at .count) (at .progress) (at .words) (at .numbers) (at .wants) (c .before .before .loop-test .left) (c .before .if2 .taken)) (c .turned .ensures) (omega arith) (omega arith)
 
 same-length-7 : tie.Need-same-length-7 Inv-loop μ-loop
 same-length-7 c = search needs
@@ -98,7 +98,7 @@ returns-3 : tie.Need-returns-3 Inv-loop μ-loop
 returns-3 c =
     let a = c .before .before .before .before .before .before .before .before .args in
     let at = c .before .before .loop in
-    agree-done (at .inv .4 ∙ tables-done (a .text .now) 15 (at .table) (at .at) (at .count) (at .progress) (at .words) (at .numbers) (at .wants) (c .before .loop-test .left) (c .if2 .left))
+    agree-done (at .inv .4 ∙ tables-done (a .text .now) 16 (at .table) (at .at) (at .count) (at .progress) (at .words) (at .numbers) (at .wants) (c .before .loop-test .left) (c .if2 .left))
 
 pub tables-spec : {M : Type 1} → statement M
 tables-spec =

@@ -16,7 +16,7 @@ returns c = search needs
 
 returns-2 : tie.Need-returns-2
 unfolding firstOf firsts
-returns-2 c = let h : 20 ≤ c .before .args .list = c .if1 .left in sym (List·getD-eq-default firsts 0 h)
+returns-2 c = let h : 21 ≤ c .before .args .list = c .if1 .left in sym (List·getD-eq-default firsts 0 h)
 
 pub first-of-spec : {M : Type 1} → statement M
 first-of-spec = tie.close (tie.spec array-read-result returns returns-2)

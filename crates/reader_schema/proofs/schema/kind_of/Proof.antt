@@ -14,13 +14,13 @@ use Rattle.reader_schema.proofs.schema.kind_of.Tie as tie
 
 -- the tables that have an arm
 armed : ℕ → Bool
-armed t = eqb t 1 || (eqb t 7 || (eqb t 8 || (eqb t 9 || (eqb t 11 || (eqb t 12 || eqb t 13)))))
+armed t = eqb t 1 || (eqb t 7 || (eqb t 8 || (eqb t 9 || (eqb t 11 || (eqb t 12 || (eqb t 13 || eqb t 14))))))
 
-plain : (t i : ℕ) → (t ≡ 1 → ⊥) → (t ≡ 7 → ⊥) → (t ≡ 8 → ⊥) → (t ≡ 9 → ⊥) → (t ≡ 11 → ⊥) → (t ≡ 12 → ⊥) → (t ≡ 13 → ⊥)
+plain : (t i : ℕ) → (t ≡ 1 → ⊥) → (t ≡ 7 → ⊥) → (t ≡ 8 → ⊥) → (t ≡ 9 → ⊥) → (t ≡ 11 → ⊥) → (t ≡ 12 → ⊥) → (t ≡ 13 → ⊥) → (t ≡ 14 → ⊥)
     → 0 ≡ getD (getD kinds t []) i 0
 unfolding kinds armed
-plain t i a b c d e f g =
-    zero-row armed kinds tt t i (rw (ne-eqb t 1 a, ne-eqb t 7 b, ne-eqb t 8 c, ne-eqb t 9 d, ne-eqb t 11 e, ne-eqb t 12 f, ne-eqb t 13 g))
+plain t i a b c d e f g h =
+    zero-row armed kinds tt t i (rw (ne-eqb t 1 a, ne-eqb t 7 b, ne-eqb t 8 c, ne-eqb t 9 d, ne-eqb t 11 e, ne-eqb t 12 f, ne-eqb t 13 g, ne-eqb t 14 h))
 
 returns : tie.Need-returns
 unfolding columnKind
@@ -46,6 +46,9 @@ array-read-result-6 c = search needs
 
 array-read-result-7 : tie.Need-array-read-result-7
 array-read-result-7 c = search needs
+
+array-read-result-8 : tie.Need-array-read-result-8
+array-read-result-8 c = search needs
 
 returns-2 : tie.Need-returns-2
 unfolding columnKind kinds
@@ -76,11 +79,15 @@ unfolding columnKind kinds
 returns-8 c = rw (c .match .keys7, lt-ltb _ 8 (c .before .if1 .left))
 
 returns-9 : tie.Need-returns-9
+unfolding columnKind kinds
+returns-9 c = rw (c .match .keys8, lt-ltb _ 8 (c .before .if1 .left))
+
+returns-10 : tie.Need-returns-10
 unfolding columnKind
-returns-9 c =
+returns-10 c =
     let a = c .before .before .args in
     let r = c .match .rest in
-    rw (lt-ltb _ 8 (c .before .if1 .left)) (plain (a .table) (a .column) (r .0 .0 .0 .0 .0 .0 .1) (r .0 .0 .0 .0 .0 .1) (r .0 .0 .0 .0 .1) (r .0 .0 .0 .1) (r .0 .0 .1) (r .0 .1) (r .1))
+    rw (lt-ltb _ 8 (c .before .if1 .left)) (plain (a .table) (a .column) (r .0 .0 .0 .0 .0 .0 .0 .1) (r .0 .0 .0 .0 .0 .0 .1) (r .0 .0 .0 .0 .0 .1) (r .0 .0 .0 .0 .1) (r .0 .0 .0 .1) (r .0 .0 .1) (r .0 .1) (r .1))
 
 pub kind-of-spec : {M : Type 1} → statement M
 kind-of-spec =
@@ -94,6 +101,7 @@ kind-of-spec =
     array-read-result-5
     array-read-result-6
     array-read-result-7
+    array-read-result-8
     returns-2
     returns-3
     returns-4
@@ -101,4 +109,5 @@ kind-of-spec =
     returns-6
     returns-7
     returns-8
-    returns-9)
+    returns-9
+    returns-10)

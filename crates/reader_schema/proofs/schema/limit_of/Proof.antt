@@ -19,7 +19,7 @@ returns c = search needs
 
 returns-2 : tie.Need-returns-2
 unfolding limitOf limits
-returns-2 c = let h : 15 ≤ c .before .args .table = c .if1 .left in sym (List·getD-eq-default limits 0 h)
+returns-2 c = let h : 16 ≤ c .before .args .table = c .if1 .left in sym (List·getD-eq-default limits 0 h)
 
 pub limit-of-spec : {M : Type 1} → statement M
 limit-of-spec = tie.close (tie.spec mul-result array-read-result returns returns-2)

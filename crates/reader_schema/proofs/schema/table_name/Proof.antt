@@ -19,7 +19,7 @@ returns c = search needs
 
 returns-2 : tie.Need-returns-2
 unfolding nameOf names
-returns-2 c = let h : 15 ≤ c .before .args .table = c .if1 .left in sym (List·getD-eq-default names 0 h)
+returns-2 c = let h : 16 ≤ c .before .args .table = c .if1 .left in sym (List·getD-eq-default names 0 h)
 
 pub table-name-spec : {M : Type 1} → statement M
 table-name-spec = tie.close (tie.spec mul-result array-read-result returns returns-2)

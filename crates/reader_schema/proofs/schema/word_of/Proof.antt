@@ -1,4 +1,4 @@
--- The constants are what the schema's text computes to, its first 66 words and the others; past the end both are 0.
+-- The constants are what the schema's text computes to, its first 71 words and the others; past the end both are 0.
 use mathlib.Core.Path.{_≡_, sym, _∙_, ap}
 use Prim.Native.Nat.{ℕ, _+_, _≤_, _-_}
 use native.Mathlib.Omega.{arith}
@@ -17,7 +17,7 @@ array-read-result c = search needs
 
 returns : tie.Need-returns
 unfolding wordOf words
-returns c = getD-take 66 words (c .before .args .i) 0 (c .if1 .taken)
+returns c = getD-take 71 words (c .before .args .i) 0 (c .if1 .taken)
 
 mul-result-2 : tie.Need-mul-result-2
 mul-result-2 c = search needs
@@ -29,13 +29,13 @@ returns-2 : tie.Need-returns-2
 unfolding wordOf words
 returns-2 c =
     let i = c .before .before .args .i in
-    let h : 66 ≤ i = c .before .if1 .left in
-    let e : 66 + (i - 66) ≡ i = omega arith in
-    getD-drop 66 words (i - 66) 0 ∙ ap (λ (k : ℕ). getD words k 0) e
+    let h : 71 ≤ i = c .before .if1 .left in
+    let e : 71 + (i - 71) ≡ i = omega arith in
+    getD-drop 71 words (i - 71) 0 ∙ ap (λ (k : ℕ). getD words k 0) e
 
 returns-3 : tie.Need-returns-3
 unfolding wordOf words
-returns-3 c = let h : 80 ≤ c .before .before .args .i = c .if2 .left in sym (List·getD-eq-default words 0 h)
+returns-3 c = let h : 85 ≤ c .before .before .args .i = c .if2 .left in sym (List·getD-eq-default words 0 h)
 
 pub word-of-spec : {M : Type 1} → statement M
 word-of-spec =

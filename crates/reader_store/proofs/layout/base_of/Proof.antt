@@ -19,7 +19,7 @@ returns c = search needs
 
 returns-2 : tie.Need-returns-2
 unfolding baseOf bases
-returns-2 c = let h : 6 ≤ c .before .args .rule = c .if1 .left in sym (List·getD-eq-default bases 0 h)
+returns-2 c = let h : 7 ≤ c .before .args .rule = c .if1 .left in sym (List·getD-eq-default bases 0 h)
 
 pub base-of-spec : {M : Type 1} → statement M
 base-of-spec = tie.close (tie.spec mul-result array-read-result returns returns-2)

@@ -25,14 +25,14 @@ one t i (inr (inr h)) = rw h
 
 -- the tables that have an arm
 armed : ℕ → Bool
-armed t = eqb t 0 || (eqb t 6 || (eqb t 10 || (eqb t 1 || (eqb t 2 || (eqb t 3 || (eqb t 4 || (eqb t 5 || (eqb t 8 || (eqb t 9 || (eqb t 11 || eqb t 13))))))))))
+armed t = eqb t 0 || (eqb t 6 || (eqb t 10 || (eqb t 1 || (eqb t 2 || (eqb t 3 || (eqb t 4 || (eqb t 5 || (eqb t 8 || (eqb t 9 || (eqb t 11 || (eqb t 13 || eqb t 14)))))))))))
 
-none : (t i : ℕ) → ((t ≡ 0) ⊎ ((t ≡ 6) ⊎ (t ≡ 10)) → ⊥) → (t ≡ 1 → ⊥) → (t ≡ 2 → ⊥) → (t ≡ 3 → ⊥) → (t ≡ 4 → ⊥) → (t ≡ 5 → ⊥) → (t ≡ 8 → ⊥) → (t ≡ 9 → ⊥) → (t ≡ 11 → ⊥) → (t ≡ 13 → ⊥)
+none : (t i : ℕ) → ((t ≡ 0) ⊎ ((t ≡ 6) ⊎ (t ≡ 10)) → ⊥) → (t ≡ 1 → ⊥) → (t ≡ 2 → ⊥) → (t ≡ 3 → ⊥) → (t ≡ 4 → ⊥) → (t ≡ 5 → ⊥) → (t ≡ 8 → ⊥) → (t ≡ 9 → ⊥) → (t ≡ 11 → ⊥) → (t ≡ 13 → ⊥) → (t ≡ 14 → ⊥)
     → 0 ≡ row t i
 unfolding row numbers armed
-none t i a b c d e f g h j k =
+none t i a b c d e f g h j k l =
     zero-row armed numbers tt t i
-    (rw (ne-eqb t 0 (λ x. a (inl x)), ne-eqb t 6 (λ x. a (inr (inl x))), ne-eqb t 10 (λ x. a (inr (inr x))), ne-eqb t 1 b, ne-eqb t 2 c, ne-eqb t 3 d, ne-eqb t 4 e, ne-eqb t 5 f, ne-eqb t 8 g, ne-eqb t 9 h, ne-eqb t 11 j, ne-eqb t 13 k))
+    (rw (ne-eqb t 0 (λ x. a (inl x)), ne-eqb t 6 (λ x. a (inr (inl x))), ne-eqb t 10 (λ x. a (inr (inr x))), ne-eqb t 1 b, ne-eqb t 2 c, ne-eqb t 3 d, ne-eqb t 4 e, ne-eqb t 5 f, ne-eqb t 8 g, ne-eqb t 9 h, ne-eqb t 11 j, ne-eqb t 13 k, ne-eqb t 14 l))
 
 returns : tie.Need-returns
 unfolding numberPlace
@@ -67,6 +67,9 @@ array-read-result-9 c = search needs
 
 array-read-result-10 : tie.Need-array-read-result-10
 array-read-result-10 c = search needs
+
+array-read-result-11 : tie.Need-array-read-result-11
+array-read-result-11 c = search needs
 
 returns-2 : tie.Need-returns-2
 unfolding numberPlace numbers row
@@ -109,11 +112,15 @@ unfolding numberPlace numbers
 returns-11 c = rw (c .match .keys10, lt-ltb _ 8 (c .before .if1 .left))
 
 returns-12 : tie.Need-returns-12
+unfolding numberPlace numbers
+returns-12 c = rw (c .match .keys11, lt-ltb _ 8 (c .before .if1 .left))
+
+returns-13 : tie.Need-returns-13
 unfolding numberPlace row
-returns-12 c =
+returns-13 c =
     let a = c .before .before .args in
     let r = c .match .rest in
-    rw (lt-ltb _ 8 (c .before .if1 .left)) (none (a .table) (a .column) (r .0 .0 .0 .0 .0 .0 .0 .0 .0 .1) (r .0 .0 .0 .0 .0 .0 .0 .0 .1) (r .0 .0 .0 .0 .0 .0 .0 .1) (r .0 .0 .0 .0 .0 .0 .1) (r .0 .0 .0 .0 .0 .1) (r .0 .0 .0 .0 .1) (r .0 .0 .0 .1) (r .0 .0 .1) (r .0 .1) (r .1))
+    rw (lt-ltb _ 8 (c .before .if1 .left)) (none (a .table) (a .column) (r .0 .0 .0 .0 .0 .0 .0 .0 .0 .0 .1) (r .0 .0 .0 .0 .0 .0 .0 .0 .0 .1) (r .0 .0 .0 .0 .0 .0 .0 .0 .1) (r .0 .0 .0 .0 .0 .0 .0 .1) (r .0 .0 .0 .0 .0 .0 .1) (r .0 .0 .0 .0 .0 .1) (r .0 .0 .0 .0 .1) (r .0 .0 .0 .1) (r .0 .0 .1) (r .0 .1) (r .1))
 
 pub number-place-spec : {M : Type 1} → statement M
 number-place-spec =
@@ -130,6 +137,7 @@ number-place-spec =
     array-read-result-8
     array-read-result-9
     array-read-result-10
+    array-read-result-11
     returns-2
     returns-3
     returns-4
@@ -140,4 +148,5 @@ number-place-spec =
     returns-9
     returns-10
     returns-11
-    returns-12)
+    returns-12
+    returns-13)

@@ -29,7 +29,7 @@ past (suc (suc (suc (suc p)))) a b c d = omega arith
 
 returns : tie.Need-returns
 unfolding placeAt places
-returns c = let a = c .before .args in let h : 15 ≤ a .table = c .if1 .taken in rw (List·getD-eq-default places [] h) (both (ltb (a .part) 4))
+returns c = let a = c .before .args in let h : 16 ≤ a .table = c .if1 .taken in rw (List·getD-eq-default places [] h) (both (ltb (a .part) 4))
 
 mul-result : tie.Need-mul-result
 mul-result c = search needs

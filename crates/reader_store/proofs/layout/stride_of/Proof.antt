@@ -16,7 +16,7 @@ returns c = search needs
 
 returns-2 : tie.Need-returns-2
 unfolding strideOf strides
-returns-2 c = let h : 6 ≤ c .before .args .rule = c .if1 .left in sym (List·getD-eq-default strides 0 h)
+returns-2 c = let h : 7 ≤ c .before .args .rule = c .if1 .left in sym (List·getD-eq-default strides 0 h)
 
 pub stride-of-spec : {M : Type 1} → statement M
 stride-of-spec = tie.close (tie.spec array-read-result returns returns-2)

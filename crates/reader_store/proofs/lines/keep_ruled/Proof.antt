@@ -21,6 +21,9 @@ returns-2 c = let a = c .before .before .before .before .before .before .before 
 parent-of-requires : tie.Need-parent-of-requires
 parent-of-requires c κs = search needs
 
+put-own-requires : tie.Need-put-own-requires
+put-own-requires c κs = search needs
+
 keep-under-requires : tie.Need-keep-under-requires
 keep-under-requires c κs = search needs
 
@@ -29,8 +32,8 @@ same-length-2 c = search needs
 
 returns-3 : tie.Need-returns-3
 returns-3 c =
-    let a = c .before .before .before .before .before .before .before .before .before .before .args in
-    ruled-under (a .words .now) (a .rule) (a .k) (a .cells) (a .progress) (c .before .before .before .before .before .before .before .before .if1 .left) (c .before .before .before .before .before .before .before .if2 .left) (c .before .before .before .before .parent-of .ensures) (c .before .before .keep-under .ensures .0) (c .before .before .keep-under .ensures .1)
+    let a = c .before .before .before .before .before .before .before .before .before .before .before .before .before .before .args in
+    ruled-under (a .words .now) (a .rule) (a .k) (a .cells) (a .progress) (c .before .before .before .before .before .before .before .before .before .before .before .before .if1 .left) (c .before .before .before .before .before .before .before .before .before .before .before .if2 .left) (c .before .before .before .before .before .before .before .before .parent-of .ensures) (c .before .before .before .before .before .before .put-own .ensures) (c .before .before .keep-under .ensures .0) (c .before .before .keep-under .ensures .1)
 
 pub keep-ruled-spec : {M : Type 1} → statement M
 keep-ruled-spec =
@@ -41,6 +44,7 @@ keep-ruled-spec =
     same-length
     returns-2
     parent-of-requires
+    put-own-requires
     keep-under-requires
     same-length-2
     returns-3)

@@ -12,7 +12,7 @@ of-bits-requires c κs = search needs
 
 returns : tie.Need-returns
 unfolding numbersBefore
-returns c = (sym (length-replicate 8000 (c .of-bits .result)), ap (λ (x : Float). replicate 8000 x) (c .of-bits .ensures))
+returns c = (sym (length-replicate 8500 (c .of-bits .result)), ap (λ (x : Float). replicate 8500 x) (c .of-bits .ensures))
 
 pub number-space-spec : {M : Type 1} → statement M
 number-space-spec = tie.close (tie.spec of-bits-requires returns)

@@ -9,7 +9,7 @@ use Rattle.test_jobs.proofs.memory.word_space.Tie as tie
 
 returns : tie.Need-returns
 unfolding wordsBefore
-returns c = (sym (length-replicate {A = ℕ} 1400 0xabcd), refl)
+returns c = (sym (length-replicate {A = ℕ} 1900 0xabcd), refl)
 
 pub word-space-spec : {M : Type 1} → statement M
 word-space-spec = tie.close (tie.spec returns)

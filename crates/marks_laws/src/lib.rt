@@ -1,0 +1,1 @@
+// The theorem that no answer depends on marks; there is no code here.
