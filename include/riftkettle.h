@@ -27,9 +27,9 @@
 extern "C" {
 #endif
 
-#define RIFTKETTLE_VERSION "1.1.0"
-#define RIFTKETTLE_VERSION_MAJOR 1
-#define RIFTKETTLE_VERSION_MINOR 1
+#define RIFTKETTLE_VERSION "2.0.0"
+#define RIFTKETTLE_VERSION_MAJOR 2
+#define RIFTKETTLE_VERSION_MINOR 0
 #define RIFTKETTLE_VERSION_PATCH 0
 
 /* ---- refusals: the numbers of documents 01 and 02. Which call answers which: docs/ROAD.md, "Refusals" */
@@ -59,8 +59,8 @@ extern "C" {
  * A range (first, count) names lines of a table. first + count is at most the table's lines. Ranges may overlap: two lanes may
  * share their records. */
 
-#define RIFTKETTLE_WORDS 1347
-#define RIFTKETTLE_NUMBERS 7937
+#define RIFTKETTLE_WORDS 1891
+#define RIFTKETTLE_NUMBERS 8449
 
 /* Places in `numbers`, with the most lines and the columns. */
 #define RIFTKETTLE_LENGTH 0     /*   1: the road's length */
@@ -76,6 +76,7 @@ extern "C" {
 #define RIFTKETTLE_PROFILE 5841 /*  16: s */
 #define RIFTKETTLE_SHAPE 5857   /* 256: t a b c d */
 #define RIFTKETTLE_CUBIC 7137   /* 160: start a b c d */
+#define RIFTKETTLE_SPAN 7937    /* 256: start end of a mark; both count from the section's start */
 
 /* Places in `words`. The first seven are counts of lines. */
 #define RIFTKETTLE_GEOMS 0         /* 1..64 */
@@ -93,6 +94,10 @@ extern "C" {
 #define RIFTKETTLE_STRIP 1303      /*   4, eleven words a strip: 0 absent, 1 there, 2 there and relative; ranges of cubics (0..8
                                       each) of its width and of its terms 0, 1, 2, 3. Left inner, left outer, right inner, right
                                       outer. An absent strip's ranges are not read. */
+#define RIFTKETTLE_MARKS 1347      /*  16, two words a section: range of marks (0..16) */
+#define RIFTKETTLE_MARK 1379       /* 256, two words a mark: its lane, by its place among its section's, the left ones outward, then
+                                      the right ones (the first is 0); its kind (1..255). Of two marks of a section on one lane the
+                                      later starts no earlier. Marks are checked with the road; no value depends on them. */
 
 /* Elements a line: of a table of cubics (elev, bank, offset, tshift, extent, shape, cubic), of the others in `numbers`, and of those
  * in `words`. A table of one element a line is not listed. */
@@ -103,6 +108,9 @@ extern "C" {
 #define RIFTKETTLE_LANE_STRIDE 6
 #define RIFTKETTLE_SHAPES_STRIDE 2
 #define RIFTKETTLE_STRIP_STRIDE 11
+#define RIFTKETTLE_SPAN_STRIDE 2
+#define RIFTKETTLE_MARKS_STRIDE 2
+#define RIFTKETTLE_MARK_STRIDE 2
 
 /* ---- lent slices besides the road's: numbers an item, and as many as any road or track needs */
 

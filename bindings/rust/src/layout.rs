@@ -4,14 +4,14 @@
 // `include/riftkettle.h` says what each is.
 #![allow(missing_docs)]
 
-pub const VERSION: &str = "1.1.0";
-pub const VERSION_MAJOR: u32 = 1;
-pub const VERSION_MINOR: u32 = 1;
+pub const VERSION: &str = "2.0.0";
+pub const VERSION_MAJOR: u32 = 2;
+pub const VERSION_MINOR: u32 = 0;
 pub const VERSION_PATCH: u32 = 0;
 
 // ---- a road: elements of the two slices
-pub const WORDS: usize = 1347;
-pub const NUMBERS: usize = 7937;
+pub const WORDS: usize = 1891;
+pub const NUMBERS: usize = 8449;
 
 // ---- places in `numbers`
 pub const LENGTH: usize = 0;
@@ -26,6 +26,7 @@ pub const HEIGHT: usize = 4305;
 pub const PROFILE: usize = 5841;
 pub const SHAPE: usize = 5857;
 pub const CUBIC: usize = 7137;
+pub const SPAN: usize = 7937;
 
 // ---- places in `words`
 pub const GEOMS: usize = 0;
@@ -40,6 +41,8 @@ pub const LANES: usize = 71;
 pub const LANE: usize = 119;
 pub const SHAPES: usize = 1271;
 pub const STRIP: usize = 1303;
+pub const MARKS: usize = 1347;
+pub const MARK: usize = 1379;
 
 // ---- elements a line
 pub const CUBIC_STRIDE: usize = 5;
@@ -49,6 +52,9 @@ pub const LANES_STRIDE: usize = 3;
 pub const LANE_STRIDE: usize = 6;
 pub const SHAPES_STRIDE: usize = 2;
 pub const STRIP_STRIDE: usize = 11;
+pub const SPAN_STRIDE: usize = 2;
+pub const MARKS_STRIDE: usize = 2;
+pub const MARK_STRIDE: usize = 2;
 
 // ---- slices besides the road's: numbers an item, and as many as any road or track needs
 pub const SAMPLE_STRIDE: usize = 4;

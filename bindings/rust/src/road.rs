@@ -6,7 +6,7 @@ use crate::calls::{self, Lent};
 use crate::layout::{BORDERS, LENGTH, NUMBERS, SAMPLE_STRIDE, SAMPLES, WANTS, WORDS};
 use crate::refusal::Refusal;
 
-/// A road with its samples and wants, in memory of its own: about 130 kB and no allocation.
+/// A road with its samples and wants, in memory of its own: about 136 kB and no allocation.
 ///
 /// A `static` takes no stack at all, and no room in the program's file, since a new road is zeros:
 ///
@@ -18,7 +18,7 @@ use crate::refusal::Refusal;
 /// ```
 ///
 /// A box takes the heap. A debug build makes the road on the stack first and copies it there, so that `Box::new(Road::new())` needs some
-/// 260 kB of stack for a moment; [`Road::new_in`] needs none:
+/// 270 kB of stack for a moment; [`Road::new_in`] needs none:
 ///
 /// ```
 /// use riftkettle::Road;

@@ -203,7 +203,7 @@ fn calls_on_anything() {
         (state >> 33) as usize % below
     };
     let (mut answered, mut refused) = (0, BTreeSet::new());
-    for _ in 0..300 {
+    for _ in 0..1_000 {
         let (mut words, mut numbers) = (road.lent().words.to_vec(), road.lent().numbers.to_vec());
         for _ in 0..random(4) {
             words[random(WORDS)] = random(1 << 16) as u16;

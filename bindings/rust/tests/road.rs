@@ -5,7 +5,8 @@ use std::iter::successors;
 
 use common::{Bits, job, jobs, road_of, told};
 use riftkettle::layout::{
-    BORDERS, GEOM, GEOM_STRIDE, GEOMS, KIND, LANES, LANES_STRIDE, LENGTH, NUMBERS, SAMPLES, SECTION, SECTIONS, WANTS, WORDS,
+    BORDERS, GEOM, GEOM_STRIDE, GEOMS, KIND, LANES, LANES_STRIDE, LENGTH, MARK, MARK_STRIDE, MARKS, MARKS_STRIDE, NUMBERS,
+    SAMPLES, SECTION, SECTIONS, SPAN, SPAN_STRIDE, WANTS, WORDS,
 };
 use riftkettle::*;
 
@@ -149,9 +150,30 @@ fn ids_of_sections_by_hand() {
     }
 }
 
+/// The last mark of the table, at the header's places: admitted or refused, and no part of an answer.
+#[test]
+fn marks_by_hand() {
+    let mut road = road_of(&job("two_sections"));
+    let points = |road: &Road| [[30.0, 3.0], [59.0, 4.0], [80.0, -3.0]].map(|[s, t]| road.surface(s, t));
+    let plain = points(&road);
+    let mut lay = |[lane, kind]: [u16; 2], span: [f64; 2]| {
+        road.words_mut()[MARKS..][..MARKS_STRIDE].copy_from_slice(&[255, 1]);
+        road.words_mut()[MARK + MARK_STRIDE * 255..][..MARK_STRIDE].copy_from_slice(&[lane, kind]);
+        road.numbers_mut()[SPAN + SPAN_STRIDE * 255..][..SPAN_STRIDE].copy_from_slice(&span);
+        (road.admit(), points(&road))
+    };
+    for (words, span) in [([0, 1], [0.0, 60.0]), ([2, 255], [60.0, 60.0])] {
+        assert_eq!(lay(words, span), (Ok(()), plain));
+    }
+    assert_eq!(lay([3, 1], [0.0, 1.0]).0, Err(Refusal::Structure));
+    for (words, span) in [([0, 0], [0.0, 1.0]), ([0, 256], [0.0, 1.0]), ([0, 1], [0.0, 60f64.next_up()]), ([0, 1], [2.0, 1.0])] {
+        assert_eq!(lay(words, span).0, Err(Refusal::Range));
+    }
+}
+
 #[test]
 fn size_and_debug() {
-    assert!((130_000..131_000).contains(&size_of::<Road>()));
+    assert!((135_000..136_000).contains(&size_of::<Road>()));
     let road = road_of(&job("spiral"));
     let samples = road.samples().len() / 4;
     assert_eq!(format!("{road:?}"), format!("Road {{ length: 200.0, wants: 5, samples: {samples}, .. }}"));

@@ -118,7 +118,7 @@ pub fn twelve_lanes() -> Road {
     let shapes = || [-10.0, -5.0, 0.0, 5.0].map(|t| cubic(t, 0.2)).to_vec();
     Road {
         offset: vec![cubic(0.0, 0.5), cubic(200.0, 0.5)],
-        sections: vec![Section { start: 0.0, left: side(), right: side() }],
+        sections: vec![Section { left: side(), right: side(), ..Section::default() }],
         profiles: vec![Profile { s: 0.0, shapes: shapes() }, Profile { s: 300.0, shapes: shapes() }],
         ..one_geometry(Shape::Line, 400.0)
     }

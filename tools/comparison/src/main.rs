@@ -8,6 +8,7 @@ mod demands;
 mod lanes;
 mod lent;
 mod locates;
+mod marks;
 mod places;
 mod program;
 mod reading;
@@ -61,6 +62,7 @@ const COMPARISONS: &[Comparison] = &[
     ("locate", 200, 120_000, locates::locate),
     ("foreign surfaces", 60, 12_000, surfaces::foreign),
     ("surfaces refused", 1_000, 60_000, surfaces::refused),
+    ("marks", 100, 20_000, marks::marks),
     ("limits", 3_000, 120_000, around_limits),
     ("damage", 3_000, 120_000, damage),
     ("read", 1_000, 50_000, reading::read),

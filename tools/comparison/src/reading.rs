@@ -85,7 +85,7 @@ pub fn read(rng: &mut Rng, tally: &mut Tally) {
         let text = texts::edited(&job.text, damage(rng, &job));
         check(tally, place, &text, lengths(rng));
     }
-    check(tally, "several", &texts::edited(&job.text, DAMAGES[9].1(rng, &job)), lengths(rng));
+    check(tally, "several", &texts::edited(&job.text, texts::several(rng, &job)), lengths(rng));
     check(tally, "random bytes", &texts::random_bytes(rng), lengths(rng));
     check(tally, "random words", &texts::random_words(rng), lengths(rng));
     if rng.one_in(16) {

@@ -101,7 +101,7 @@ fn marked() {
         length: 10.0,
         geoms: vec![geom],
         offset: vec![cubic(0.0, 1.0)],
-        sections: vec![Section { start: 0.0, left: left.to_vec(), right: right.to_vec() }],
+        sections: vec![Section { left: left.to_vec(), right: right.to_vec(), ..Section::default() }],
         ..Road::default()
     };
     let outers = |o: &Oracle| o.borders(0, 5.0).iter().map(|b| b[1]).collect::<Vec<f64>>();
@@ -172,6 +172,8 @@ fn generator() {
         ("level lanes", |r| r.lanes().any(|l| l.level)),
         ("border lanes", |r| r.lanes().any(|l| l.border && !l.extents.is_empty())),
         ("lane heights", |r| r.lanes().any(|l| !l.heights.is_empty())),
+        ("marks", |r| r.sections.iter().any(|s| !s.marks.is_empty())),
+        ("256 marks", |r| r.sections.iter().map(|s| s.marks.len()).sum::<usize>() == 256),
         ("profiles", |r| !r.profiles.is_empty()),
         ("all strips", |r| r.strips.iter().all(Option::is_some)),
         ("equal starts", |r| r.elev.windows(2).any(|w| w[0].start == w[1].start)),

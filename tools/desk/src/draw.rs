@@ -9,6 +9,7 @@ mod jumps;
 mod labels;
 mod lines;
 mod names;
+mod paint;
 mod picture;
 mod pieces;
 mod plan;
@@ -40,9 +41,11 @@ Draws the road of a job text as a picture (SVG, A4 or A3 landscape), to standard
 `-` is standard input.
 
 - The plan, to scale, with true coordinates: the reference line by kind of geometry, lanes, sections,
-  wants. Where it is too small for lane ids there is a detail of it at the cross section.
+  wants. Where it is too small for lane ids there is a detail of it at the cross section. Marks are thick
+  strokes along the outer border of their lane, coloured by kind.
 - Elevation and bank of the reference line along s.
-- The cross section at S: that of --at, else of the first want on the road, else the middle of the road.
+- The cross section at S: that of --at, else of the first want on the road, else the middle of the road;
+  the marks that cover their lane there stand on its outer border.
 - The wants, with their points or the numbers of their refusals, and the jumps of the reference line:
   over 1 mm away, up or down, 0.05 degrees of heading or 0.1 of bank; and where s runs over 1 mm past a
   geometry's length, or ends before it. What jumps is drawn as a step or a gap, never as a slope.

@@ -82,7 +82,7 @@ fn every_refused_job_is_explained() {
             _ => texts.line(letter, a, b),
         }
     }
-    assert_eq!(tally.counts(), [(0, 214), (1, 1073), (2, 96), (3, 172), (4, 18), (5, 4)]);
+    assert_eq!(tally.counts(), [(0, 258), (1, 1180), (2, 102), (3, 212), (4, 58), (5, 4)]);
 }
 
 /// A road in memory, with how much of it is lent.
@@ -134,6 +134,6 @@ fn every_refused_road_is_explained() {
             road = base.clone();
         }
     }
-    assert_eq!(admitted.counts(), [(0, 797), (3, 614), (4, 773), (5, 10)]);
-    assert_eq!(sampled.counts(), [(0, 22), (3, 11), (4, 6), (5, 2), (6, 24)]);
+    assert_eq!(admitted.counts(), [(0, 849), (3, 677), (4, 829), (5, 11)]);
+    assert_eq!(sampled.counts(), [(0, 22), (3, 15), (4, 9), (5, 2), (6, 24)]);
 }

@@ -78,7 +78,7 @@ fn names_that_are_none() {
     ^
   found `road`
   expected the names of a table that may come after geom: elev, bank, offset, tshift, section, lane, extent, height, profile, \
-         shape, strip, cubic, want
+         shape, strip, cubic, mark, want
   tables come in a fixed order, each at most once
 "
     );
@@ -232,6 +232,126 @@ fn order() {
     );
 }
 
+/// What is said of marks on a road of two sections, 60 and 40 long: lanes 1, 2 and -1, and lane 1.
+fn marks(lines: &[&str]) -> String {
+    let sections = table("section start", &["0.0", "60.0"]);
+    let lanes = table("lane section id extent level", &["0 1 width 0", "0 2 width 0", "0 -1 width 0", "1 1 width 0"]);
+    said(&format!("{ROAD}{GEOM}{sections}{lanes}{}", table("mark section id start end kind", lines)))
+}
+
+#[test]
+fn marks_admitted() {
+    let text = marks(&["0 1 0.0 60.0 1", "0 -1 5.0 10.0 255", "1 1 0.0 40.0 2"]);
+    assert!(text.contains("\n  lines of tables: road 1, geom 1, section 2, lane 4, mark 3\n"), "{text}");
+}
+
+#[test]
+fn marks_of_wrong_form() {
+    assert_eq!(
+        marks(&["0 1 0.0 1.0 01"]),
+        "refused 1: a line breaks the job form
+  line 18, byte 39:
+    0 1 0000000000000000 3ff0000000000000 01
+                                          ^
+  found `01`
+  expected a whole number (up to 4 digits, no leading zeros, `-` if negative) for column kind of table mark
+"
+    );
+    assert_eq!(
+        across(&[table("want s t", &[]), table("mark section id start end kind", &[])]),
+        "refused 1: a line breaks the job form
+  line 12, byte 1:
+    mark section id start end kind
+    ^
+  found `mark`
+  expected the end of the text: no table comes after want
+  tables come in a fixed order, each at most once
+"
+    );
+}
+
+#[test]
+fn marks_that_are_too_many() {
+    assert_eq!(
+        marks(&["0 1 0.0 1.0 1"; 257]),
+        "refused 2: the text or a table of it is too long, or a lent slice too short
+  line 274, table mark, line 257 of its table
+  it is one too many: the table may have at most 256 lines
+"
+    );
+    assert_eq!(
+        marks(&["0 1 0.0 1.0 1"; 17]),
+        "refused 3: counts, references or order are wrong
+  line 34, table mark, line 17 of its table
+  section 0 has 17 marks, 0 to 16 are allowed
+"
+    );
+}
+
+#[test]
+fn marks_of_lanes_and_sections_that_are_not_there() {
+    for (line, reason) in [
+        ("0 0 0.0 1.0 1", "there is no lane 0 in section 0, which has 2 left lanes and 1 right lane"),
+        ("0 3 0.0 1.0 1", "there is no lane 3 in section 0, which has 2 left lanes and 1 right lane"),
+        ("1 -1 0.0 1.0 1", "there is no lane -1 in section 1, which has 1 left lane and 0 right lanes"),
+        ("2 1 0.0 1.0 1", "there is no section 2: there are 0 to 1"),
+    ] {
+        let said = marks(&["0 1 0.0 1.0 1", line]);
+        let place = "line 19, table mark, line 2 of its table";
+        assert_eq!(said, format!("refused 3: counts, references or order are wrong\n  {place}\n  {reason}\n"));
+    }
+    assert_eq!(
+        marks(&["1 1 0.0 1.0 1", "0 1 0.0 1.0 1"]),
+        "refused 3: counts, references or order are wrong
+  line 19, table mark, line 2 of its table
+  its section (section 0) comes before that of line 18 (section 1): lines follow the order of their parents
+"
+    );
+}
+
+#[test]
+fn marks_out_of_order() {
+    assert_eq!(
+        marks(&["0 1 1.0 2.0 1", "0 -1 0.0 2.0 1", "0 1 0.5 2.0 1"]),
+        "refused 3: counts, references or order are wrong
+  line 20, table mark, line 3 of its table (section 0), column start: 0.5 (3fe0000000000000)
+  it is below 1 (3ff0000000000000) of line 18, on the same lane: a lane's starts never fall
+"
+    );
+    let no_number = "0 1 7ff8000000000001 2.0 1";
+    assert_eq!(
+        marks(&["0 1 1.0 2.0 1", no_number]),
+        "refused 3: counts, references or order are wrong
+  line 19, table mark, line 2 of its table (section 0), column start: not a number (7ff8000000000001)
+  it is compared with 1 (3ff0000000000000) of line 18, on the same lane, and one of the two is not a number
+"
+    );
+}
+
+#[test]
+fn marks_outside_their_limits() {
+    for (line, place, reason) in [
+        ("1 1 0.0 1.0 0", "column kind", "kind 0: it is outside 1 to 255"),
+        ("1 1 0.0 1.0 256", "column kind", "kind 256: it is outside 1 to 255"),
+        ("1 1 0.0 1.0 -1", "column kind", "kind -1: it is outside 1 to 255"),
+    ] {
+        let place = format!("line 19, table mark, line 2 of its table, {place}");
+        let expected = format!("refused 4: a number is not finite or outside its limit\n  {place}\n  {reason}\n");
+        assert_eq!(marks(&["0 1 0.0 1.0 1", line]), expected);
+    }
+    for (line, place, reason) in [
+        ("1 1 -1.0 1.0 1", "column start: -1 (bff0000000000000)", "it is not 0 or above"),
+        ("1 1 7ff8000000000000 1.0 1", "column start: not a number (7ff8000000000000)", "it is not 0 or above"),
+        ("1 1 2.0 1.0 1", "column end: 1 (3ff0000000000000)", "it is not at or past the mark's start, 2"),
+        ("1 1 2.0 7ff8000000000000 1", "column end: not a number (7ff8000000000000)", "it is not at or past the mark's start, 2"),
+        ("1 1 2.0 40.5 1", "column end: 40.5 (4044400000000000)", "it is past the section's end, 40 from its start"),
+    ] {
+        let place = format!("line 19, table mark, line 2 of its table (section 1), {place}");
+        let expected = format!("refused 4: a number is not finite or outside its limit\n  {place}\n  {reason}\n");
+        assert_eq!(marks(&["0 1 0.0 1.0 1", line]), expected);
+    }
+}
+
 #[test]
 fn bounds() {
     assert_eq!(
@@ -327,10 +447,38 @@ fn lent_memory() {
   lane 1 of section 0 has 3 extents from line 510 on: past the 512 lines of table extent
 "
     );
+    numbers[2] = 0.0;
+    let marked = |words: &mut [u16], [first, count, lane, kind]: [u16; 4]| {
+        words[71..74].copy_from_slice(&[0, 1, 0]);
+        words[119..125].fill(0);
+        words[1347..1349].copy_from_slice(&[first, count]);
+        words[1379..1381].copy_from_slice(&[lane, kind]);
+    };
+    for (change, place, reason) in [
+        ([0, 17, 0, 1], "words[1348] = 17: the marks of section 0", "section 0 has 17 marks, 0 to 16 are allowed"),
+        (
+            [256, 1, 0, 1],
+            "words[1347] = 256: the first mark of section 0",
+            "section 0 has 1 mark from line 256 on: past the 256 lines of table mark",
+        ),
+        (
+            [0, 1, 1, 1],
+            "words[1379] = 1: the lane's place of mark 0 from 0",
+            "there is no such lane in section 0: there is only 0",
+        ),
+    ] {
+        marked(&mut words, change);
+        let explained = explain_memory(&words, &numbers).unwrap();
+        assert_eq!((explained.number, explained.place.as_str(), explained.reason.as_str()), (3, place, reason));
+    }
+    marked(&mut words, [0, 1, 0, 256]);
+    let explained = explain_memory(&words, &numbers).unwrap();
+    let kind = (4, "words[1380] = 256: the kind of mark 0 from 0", "it is outside 1 to 255");
+    assert_eq!((explained.number, explained.place.as_str(), explained.reason.as_str()), kind);
     assert_eq!(
         explain_memory(&words[1..], &numbers).map_or(String::new(), |explanation| explanation.to_string()),
         "refused 3: counts, references or order are wrong
-  the lent slice `words` has 1,346 elements, 1,347 are needed
+  the lent slice `words` has 1,890 elements, 1,891 are needed
 "
     );
 }

@@ -339,13 +339,13 @@ type Told = (&'static str, [usize; 2], &'static str, &'static str);
 const DECIMAL: &str = "a number (decimal, or 16 lowercase hexadecimal digits) for t of want";
 const DIGITS: &str = "a number (16 lowercase hexadecimal digits) for length of road or the table's end";
 const TABLE: &str = "the name of a table that may still come (road, geom, elev, bank, offset, tshift, section, lane, extent, \
-                     height, profile, shape, strip, cubic, want)";
+                     height, profile, shape, strip, cubic, mark, want)";
 
 const OF_DECIMAL_FORM: &[Told] = &[
     ("raod length\n1\n", [1, 1], TABLE, "`raod`"),
     ("want s t\n1 2\n\nroad length\n", [4, 1], "the end of the text, as no table comes after want", "`road`"),
     ("want s t\n\n1 2\n", [3, 1], "the end of the text, as no table comes after want", "`1`"),
-    ("cubic side place term start a b c d\nstrip", [2, 1], "the name of a table that may still come (want)", "`strip`"),
+    ("cubic side place term start a b c d\nstrip", [2, 1], "the name of a table that may still come (mark, want)", "`strip`"),
     ("  want s", [1, 9], "a column of want (still to be named: t)", "the end of the line"),
     ("want s s t", [1, 8], "a column of want (still to be named: t)", "`s`"),
     ("want   x", [1, 8], "a column of want (s, t)", "`x`"),

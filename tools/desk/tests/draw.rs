@@ -100,6 +100,50 @@ fn the_picture_of_the_readme_is_drawn_so() {
     assert!(svg == std::fs::read_to_string(shown).unwrap(), "{shown} is to be drawn anew");
 }
 
+/// The strokes of a class on a picture.
+fn strokes(svg: &str, class: &str) -> Vec<String> {
+    let start = format!("<path class=\"{class}\" d=\"");
+    let paths = svg.split(&start).skip(1);
+    paths.map(|path| path.split('"').next().unwrap().to_string()).collect()
+}
+
+/// Ends of a level stroke: from its first x to its last, and its y.
+fn level_stroke(stroke: &str) -> (f64, f64, f64) {
+    let points: Vec<(f64, f64)> = stroke
+        .trim_start_matches('M')
+        .split(' ')
+        .map(|p| p.split_once(',').unwrap())
+        .map(|(x, y)| (x.parse().unwrap(), y.parse().unwrap()))
+        .collect();
+    assert!(points.iter().all(|p| p.1 == points[0].1), "{stroke}");
+    (points[0].0, points[points.len() - 1].0, points[0].1)
+}
+
+#[test]
+fn marks_are_strokes_along_their_lanes_borders() {
+    let svg = picture("marks.job", &sample("marks.job"), None).unwrap();
+    let words = well_formed(&svg);
+    for kind in [1, 2, 3] {
+        assert!(words.contains(&format!("mark of kind {kind}").as_str()), "{kind}");
+    }
+    let [one, two, three] = ["paint p0", "paint p1", "paint p2"].map(|class| strokes(&svg, class));
+    // the legend's, the plan's; at 30 the marks on lanes 2 and -1 cover them, that of kind 1 does not
+    assert_eq!((one.len(), two.len(), three.len()), (1 + 3, 1 + 2 + 1, 1 + 2 + 1));
+    // Kind 1 on lane 1: 0 to 20, 40 to 60 and, in the next section, 60 to 100 of 100 m.
+    let spans: Vec<_> = one.iter().skip_while(|s| level_stroke(s).0 > 800.0).map(|s| level_stroke(s)).take(3).collect();
+    let metre = (spans[2].1 - spans[0].0) / 100.0;
+    let along = |x: f64| ((x - spans[0].0) / metre).round();
+    assert_eq!(spans.iter().map(|s| (along(s.0), along(s.1))).collect::<Vec<_>>(), [(0.0, 20.0), (40.0, 60.0), (60.0, 100.0)]);
+    assert!(spans.iter().all(|s| s.2 == spans[0].2));
+    // at s 50 kind 1 covers lane 1 too
+    assert_eq!(strokes(&picture("j", &sample("marks.job"), Some(50.0)).unwrap(), "paint p0").len(), 5);
+}
+
+#[test]
+fn a_road_without_marks_has_no_paint() {
+    assert!(!picture("j", &sample("two_sections.job"), None).unwrap().contains("\"paint "));
+}
+
 #[test]
 fn the_cross_section_is_at_the_first_want_or_where_it_is_asked_for() {
     let job = sample("two_sections.job");

@@ -1,5 +1,5 @@
 // A job as cells that a case can change one by one.
-use second::model::{Cubic, Geom, Height, Lane, Profile, Road, Section, Shape, Strip};
+use second::model::{Cubic, Geom, Height, Lane, Mark, Profile, Road, Section, Shape, Strip};
 use second::reader::{Name, TABLES};
 use second::texts;
 
@@ -101,15 +101,18 @@ pub fn mixed() -> Draft {
     let height = |start| Height { start, inner: 0.125, outer: 0.25 };
     let lane = |border, level, extents, heights| Lane { border, level, extents, heights };
     let width = |level, a, heights| lane(false, level, list(0.0, a), heights);
+    let mark = |lane, kind, start, end| Mark { lane, kind, start, end };
     let first = Section {
         start: 0.0,
         left: vec![width(false, 3.0, vec![height(0.0), height(10.0)]), width(true, 1.0, Vec::new())],
         right: vec![lane(true, false, list(0.0, -4.0), Vec::new())],
+        marks: vec![mark(2, 1, 0.0, 50.0), mark(0, 255, 10.0, 20.0), mark(2, 2, 5.0, 5.0)],
     };
     let second = Section {
         start: 50.0,
         left: vec![width(false, 3.5, Vec::new())],
         right: vec![lane(false, false, Vec::new(), vec![height(0.0)])],
+        marks: vec![mark(1, 7, 0.0, 25.0)],
     };
     let strip = |relative, width, zero, two| Some(Strip { relative, lists: [width, zero, Vec::new(), two, Vec::new()] });
     let road = Road {

@@ -40,6 +40,7 @@ fn sections(r: &model::Road) -> Vec<road::RoadSection> {
         left: side(&s.left, 1),
         right: side(&s.right, -1),
         lanes: Vec::new(),
+        // Points, borders and their sizes are unaffected by spans.
         marks: Vec::new(),
     };
     r.sections.iter().zip(ends).enumerate().map(section).collect()

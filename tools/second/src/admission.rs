@@ -1,6 +1,6 @@
-// A second text of document 01's "Admission", with the counts and ranges of "The job text", over lent memory. It is written from
-// 01 and plain: row 3 over the whole road, then row 4, then row 5. The first fault found is told with its place. It shares nothing
-// with the library.
+// A second text of document 01's "Admission", with the counts and ranges of "The job text" and document 02's marks, over lent
+// memory. It is written from 01 and 02 and plain: row 3 over the whole road, then row 4, then row 5. The first fault found is told
+// with its place. It shares nothing with the library.
 use crate::fault::{Fault, Limit, List, Measure, Measured, Name, Of, Order, Place, Reason, Spiral, Tested, Wrong, check};
 use crate::model::*;
 
@@ -79,6 +79,14 @@ fn unused(k: f64) -> Result<(), Limit> {
     check(k == 0.0, || Limit::Unused)
 }
 
+fn at_least(x: f64, low: f64) -> Result<(), Limit> {
+    check(low <= x, || Limit::AtLeast { low })
+}
+
+fn not_past(x: f64, high: f64) -> Result<(), Limit> {
+    check(x <= high, || Limit::AtMost { high })
+}
+
 fn finite(x: f64) -> Result<(), Limit> {
     check(x.is_finite(), || Limit::Finite)
 }
@@ -140,6 +148,17 @@ impl Lent<'_> {
         })
     }
 
+    /// The marks of each section.
+    fn marks(&self) -> impl Iterator<Item = (usize, List)> {
+        let of = move |i: usize| self.list(Name::Mark, MARK, SECTION_MARK_WORDS.line(i), Of::Section(i));
+        (0..self.word(5)).map(move |i| (i, of(i)))
+    }
+
+    /// Where the words of a mark of a list stand: the place of its lane, then its kind.
+    fn mark_words(&self, marks: List, i: usize) -> usize {
+        MARK_WORDS.line(marks.first + i)
+    }
+
     /// The shapes of each profile.
     fn shapes(&self) -> impl Iterator<Item = List> {
         (0..self.word(6)).map(move |i| self.list(Name::Shape, SHAPE, PROFILE_WORDS.line(i), Of::Profile(i)))
@@ -175,7 +194,17 @@ impl Lent<'_> {
         (0..self.word(5)).try_for_each(|section| self.section_counted(section))?;
         self.shapes().try_for_each(|l| self.within(l, 1, 16))?;
         (0..4).try_for_each(|i| self.listed(STRIP_WORDS.line(i), 2))?;
-        self.strips().flatten().try_for_each(|l| self.within(l, 0, 8))
+        self.strips().flatten().try_for_each(|l| self.within(l, 0, 8))?;
+        self.marks().try_for_each(|(section, marks)| self.marks_counted(section, marks))
+    }
+
+    /// A section's marks, each on a lane that the section has.
+    fn marks_counted(&self, section: usize, marks: List) -> Tested {
+        self.within(marks, 0, 16)?;
+        let lanes = self.lanes_of(section).len();
+        (0..marks.count)
+            .map(|i| self.mark_words(marks, i))
+            .try_for_each(|at| check(self.word(at) < lanes, || Wrong::new(self.word_at(at), Reason::NoLane { section, lanes })))
     }
 
     fn section_counted(&self, section: usize) -> Tested {
@@ -238,7 +267,21 @@ impl Lent<'_> {
             apart(l.heights)?;
         }
         self.shapes().try_for_each(never_fall)?;
-        self.strips().flatten().try_for_each(never_fall)
+        self.strips().flatten().try_for_each(never_fall)?;
+        self.marks().try_for_each(|(_, marks)| self.marks_ordered(marks))
+    }
+
+    /// Of two marks on one lane the later starts no earlier, whatever stands between them.
+    fn marks_ordered(&self, marks: List) -> Tested {
+        let lane = |i: usize| self.word(self.mark_words(marks, i));
+        for later in 0..marks.count {
+            for earlier in (0..later).filter(|&i| lane(i) == lane(later)) {
+                let (a, b) = (self.column(marks, earlier, 0), self.column(marks, later, 0));
+                let order = Reason::MarkOrder { earlier: marks.first + earlier, before: a };
+                check(a <= b, || Wrong::new(self.number(marks, later, 0), order))?;
+            }
+        }
+        Ok(())
     }
 
     /// Each start of a list against the one before it.
@@ -265,7 +308,22 @@ impl Lent<'_> {
         self.strips().try_for_each(|lists| {
             lists.into_iter().try_for_each(on_road)?;
             self.strip_limited(lists)
-        })
+        })?;
+        self.marks().try_for_each(|(section, marks)| self.marks_limited(marks, self.section_extent(section)))
+    }
+
+    /// A section's marks, each of a kind, its span in the section.
+    fn marks_limited(&self, marks: List, extent: f64) -> Tested {
+        for i in 0..marks.count {
+            let (kind, [start, end]) = (self.mark_words(marks, i) + 1, [0, 1].map(|k| self.column(marks, i, k)));
+            let (line, least, most) = (marks.first + i, 1, 255);
+            let listed = least <= self.word(kind) && self.word(kind) <= most;
+            check(listed, || Wrong::new(self.word_at(kind), Reason::Kind { line, least, most }))?;
+            self.told(marks, i, 0, at_least(start, 0.0))?;
+            self.told(marks, i, 1, at_least(end, start))?;
+            self.told(marks, i, 1, not_past(end, extent))?;
+        }
+        Ok(())
     }
 
     /// The outcome of a test of one number, with its place.

@@ -19,11 +19,12 @@ pub enum Name {
     Shape,
     Strip,
     Cubic,
+    Mark,
     Want,
 }
 
 /// How many tables there are.
-pub const NAMES: usize = 15;
+pub const NAMES: usize = 16;
 
 #[derive(Debug, Clone)]
 pub struct Fault {
@@ -85,6 +86,7 @@ pub struct List {
 #[derive(Debug, Clone, Copy, PartialEq)]
 pub enum Of {
     Road,
+    Section(usize),
     Lane { section: usize, id: i32 },
     Profile(usize),
     Strip { strip: usize, term: usize },
@@ -141,6 +143,11 @@ pub enum Reason {
         first: usize,
         lanes: usize,
     },
+    /// The place of a mark's lane is past the lanes of its section.
+    NoLane {
+        section: usize,
+        lanes: usize,
+    },
     /// A list with too few or too many lines, or one that runs past its table's end.
     Lines {
         list: List,
@@ -154,8 +161,19 @@ pub enum Reason {
         order: Order,
         before: f64,
     },
+    /// A mark's start against that of an earlier one on its lane, which stands on that line of the table, from 0.
+    MarkOrder {
+        earlier: usize,
+        before: f64,
+    },
     // ---- numbers
     Limit(Limit),
+    /// The kind of a mark, by its line of the table, from 0, is outside a range.
+    Kind {
+        line: usize,
+        least: usize,
+        most: usize,
+    },
     Measure(Measured),
     /// A strip's four terms, each at its greatest bound B, with the line of the cubic table that has it.
     Terms {
@@ -229,6 +247,12 @@ pub enum Limit {
     /// A curvature that the kind does not use is not zero.
     Unused,
     Finite,
+    AtLeast {
+        low: f64,
+    },
+    AtMost {
+        high: f64,
+    },
 }
 
 #[derive(Debug, Clone, Copy, PartialEq)]

@@ -1,5 +1,5 @@
-// Random roads that document 01 admits, with every feature: all tables, equal starts, starts within nanometres, level and border
-// lanes, strips, profiles, several spirals, numbers at their limits. Also two roads of known size for the benchmark.
+// Random roads that documents 01 and 02 admit, with every feature: all tables, equal starts, starts within nanometres, level and
+// border lanes, marks, strips, profiles, several spirals, numbers at their limits. Also two roads of known size for the benchmark.
 use crate::admission::{self, bound, spiral_samples};
 use crate::model::*;
 use crate::random::{Rng, nudge};
@@ -360,6 +360,7 @@ fn sections(rng: &mut Rng, length: f64) -> Vec<Section> {
     }
     at.retain(|&s| s <= length);
     let crowded = at.len() > 6;
+    let marked = rng.pick(MARKED);
     (0..at.len())
         .map(|i| {
             let extent = at.get(i + 1).copied().unwrap_or(length) - at[i];
@@ -368,9 +369,51 @@ fn sections(rng: &mut Rng, length: f64) -> Vec<Section> {
                 let lanes: Vec<Lane> = (0..n).map(|_| lane(rng, extent, crowded)).collect();
                 if rng.one_in(6) { lanes.iter().map(|_| lanes[0].clone()).collect() } else { lanes }
             };
-            Section { start: at[i], left: side(rng), right: side(rng) }
+            let (left, right) = (side(rng), side(rng));
+            let (n, lanes) = (rng.from_to(marked.0, marked.1), left.len() + right.len());
+            let marks = if lanes > 0 { marks(rng, n, lanes, extent) } else { Vec::new() };
+            Section { start: at[i], left, right, marks }
         })
         .collect()
+}
+
+// ---- marks
+
+/// How many marks, least and most, each section of a road has that has lanes.
+const MARKED: &[(usize, usize)] = &[(0, 0), (0, 0), (0, 2), (0, 2), (0, 16), (16, 16)];
+
+/// Gives a road other marks.
+pub fn mark_anew(rng: &mut Rng, road: &mut Road) {
+    let ends: Vec<f64> = road.sections.iter().skip(1).map(|s| s.start).chain([road.length]).collect();
+    for (section, end) in road.sections.iter_mut().zip(ends) {
+        let (n, lanes) = (rng.from_to(0, 16), section.left.len() + section.right.len());
+        section.marks = if lanes > 0 { marks(rng, n, lanes, end - section.start) } else { Vec::new() };
+    }
+}
+
+/// So many marks on the lanes of a section, lanes in any order.
+fn marks(rng: &mut Rng, n: usize, lanes: usize, extent: f64) -> Vec<Mark> {
+    let on: Vec<usize> = (0..n).map(|_| rng.below(lanes)).collect();
+    let mut at: Vec<Vec<f64>> =
+        (0..lanes).map(|lane| mark_starts(rng, on.iter().filter(|&&k| k == lane).count(), extent)).collect();
+    on.into_iter().map(|lane| mark(rng, lane, at[lane].remove(0), extent)).collect()
+}
+
+/// Starts of marks on one lane, equal ones and the section's ends among them.
+fn mark_starts(rng: &mut Rng, n: usize, extent: f64) -> Vec<f64> {
+    let zero = |x: f64, negative: bool| if x == 0.0 && negative { -0.0 } else { x };
+    starts(rng, n, 0.0, extent).into_iter().map(|x| zero(x.min(extent), rng.one_in(4))).collect()
+}
+
+fn mark(rng: &mut Rng, lane: usize, start: f64, extent: f64) -> Mark {
+    let end = match rng.below(6) {
+        0 => start,
+        1 | 2 => extent,
+        3 => start.next_up(),
+        _ => rng.between(start, extent),
+    };
+    let kind = if rng.one_in(2) { rng.pick(&[1, 255, 2, 254]) } else { rng.from_to(1, 255) as u16 };
+    Mark { lane, kind, start, end: end.clamp(start, extent) }
 }
 
 /// Where a lane's list may start: mostly in its section, but any number is allowed.
@@ -456,14 +499,14 @@ pub fn small() -> Road {
         elev: plain([0.0, 50.0].into_iter(), 12.0),
         bank: plain([0.0, 50.0].into_iter(), 0.05),
         offset: plain([0.0, 50.0].into_iter(), 0.5),
-        sections: vec![Section { start: 0.0, left: vec![lane(3.5), lane(1.0)], right: vec![lane(3.5), lane(1.0)] }],
+        sections: vec![Section { left: vec![lane(3.5), lane(1.0)], right: vec![lane(3.5), lane(1.0)], ..Section::default() }],
         profiles: vec![Profile { s: 0.0, shapes: plain([-10.0, -5.0, 0.0, 5.0].into_iter(), 0.2) }],
         ..Road::default()
     }
 }
 
 /// A road with every table at its limit: 64 geometries of each kind in turn, 2,000 samples, 64 records in each list along it, 16
-/// sections of 12 lanes, 512 extents, 512 heights, 16 profiles of 16 shapes, 4 strips of 40 cubics.
+/// sections of 12 lanes and 16 marks, 512 extents, 512 heights, 16 profiles of 16 shapes, 4 strips of 40 cubics.
 pub fn full() -> Road {
     let along = |n: usize, a| plain((0..n).map(move |i| i as f64 * 100.0 / n as f64), a);
     let kind = |i: usize| match i % 3 {
@@ -486,12 +529,20 @@ pub fn full() -> Road {
         bank: along(64, 0.05),
         offset: along(64, 0.5),
         tshift: along(64, 0.5),
-        sections: (0..16).map(|i| Section { start: i as f64 * 6.0, left: side(12 * i), right: side(12 * i + 6) }).collect(),
+        sections: (0..16)
+            .map(|i| Section { start: i as f64 * 6.0, left: side(12 * i), right: side(12 * i + 6), marks: plain_marks() })
+            .collect(),
         profiles: (0..16)
             .map(|i| Profile { s: i as f64, shapes: plain((0..16).map(|k| -80.0 + 10.0 * k as f64), 0.2) })
             .collect(),
         strips: [0, 1, 2, 3].map(|_| Some(strip())),
     }
+}
+
+/// 16 marks on 12 lanes, four of which have two.
+fn plain_marks() -> Vec<Mark> {
+    let mark = |k: usize| Mark { lane: k % 12, kind: k as u16 + 1, start: 0.25 * k as f64, end: 0.25 * k as f64 + 2.0 };
+    (0..16).map(mark).collect()
 }
 
 fn plain_term(a: f64) -> Vec<Cubic> {

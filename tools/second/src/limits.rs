@@ -1,4 +1,4 @@
-// Roads around every limit of document 01's admission, and damaged memories. Each starts from an admitted road.
+// Roads around every limit of the admission of documents 01 and 02, and damaged memories. Each starts from an admitted road.
 use crate::admission::{bound, spiral_samples};
 use crate::model::*;
 use crate::random::{Rng, nudge};
@@ -40,6 +40,13 @@ pub const SITES: &[Site] = &[
     ("shapes", shapes),
     ("strip code", strip_code),
     ("strip ranges", strip_ranges),
+    ("mark start", mark_start),
+    ("mark end", mark_end),
+    ("mark kind", mark_kind),
+    ("mark lane", mark_lane),
+    ("mark ranges", mark_ranges),
+    ("mark order", mark_order),
+    ("full marks", full_marks),
     ("full lists", full_lists),
     ("samples", samples),
     ("slices", slices),
@@ -202,6 +209,7 @@ fn strip_start(rng: &mut Rng, m: &mut Memory) -> bool {
 fn bare(m: &mut Memory) {
     m.words[..7].copy_from_slice(&[1, 0, 0, 0, 0, 1, 0]);
     m.words[SECTION_WORDS.at + 1..SECTION_WORDS.at + 3].fill(0);
+    m.words[SECTION_MARK_WORDS.at + 1] = 0;
     (0..4).for_each(|i| m.words[STRIP_WORDS.line(i)] = 0);
 }
 
@@ -422,6 +430,102 @@ fn full_lists(rng: &mut Rng, m: &mut Memory) -> bool {
     true
 }
 
+// ---- marks
+
+/// A section with marks: its number, and its list.
+fn mark_list(rng: &mut Rng, m: &Memory) -> Option<(usize, List)> {
+    let of = |i: usize| {
+        let at = SECTION_MARK_WORDS.line(i);
+        (i, (MARK, usize::from(m.words[at]), usize::from(m.words[at + 1])))
+    };
+    let all: Vec<_> = (0..usize::from(m.words[5])).map(of).filter(|(_, list)| list.2 > 0).collect();
+    (!all.is_empty()).then(|| rng.pick(&all))
+}
+
+/// A mark's line of the table, with the number of its section.
+fn any_mark(rng: &mut Rng, m: &Memory) -> Option<(usize, usize)> {
+    mark_list(rng, m).map(|(section, (_, first, count))| (section, first + rng.below(count)))
+}
+
+/// A start beside 0, its end, or the start of another mark of its section, which may be on its lane.
+fn mark_start(rng: &mut Rng, m: &mut Memory) -> bool {
+    let Some((section, (_, first, count))) = mark_list(rng, m) else { return false };
+    let [mark, other] = [0, 1].map(|_| MARK.line(first + rng.below(count)));
+    let limits = [0.0, m.numbers[mark + 1], m.numbers[other], section_extent(m, section)];
+    let x = near_one_of(rng, &limits);
+    set(m, Some(mark), x)
+}
+
+/// An end beside its start or the section's extent.
+fn mark_end(rng: &mut Rng, m: &mut Memory) -> bool {
+    let Some((section, line)) = any_mark(rng, m) else { return false };
+    let extent = section_extent(m, section);
+    let x = near_one_of(rng, &[m.numbers[MARK.line(line)], extent, extent]);
+    set(m, Some(MARK.line(line) + 1), x)
+}
+
+fn mark_kind(rng: &mut Rng, m: &mut Memory) -> bool {
+    let Some((_, line)) = any_mark(rng, m) else { return false };
+    m.words[MARK_WORDS.line(line) + 1] = rng.pick(&[0, 1, 2, 254, 255, 256, 257, 512, 65_535]);
+    true
+}
+
+/// A mark on the last lane of its section, or on the next, which is not there.
+fn mark_lane(rng: &mut Rng, m: &mut Memory) -> bool {
+    let Some((section, line)) = any_mark(rng, m) else { return false };
+    let at = SECTION_WORDS.line(section);
+    let lanes = usize::from(m.words[at + 1]) + usize::from(m.words[at + 2]);
+    m.words[MARK_WORDS.line(line)] = if rng.one_in(2) { rng.below(lanes) as u16 } else { near_count(rng, lanes) };
+    true
+}
+
+/// A section's range at a limit, or over another section's; now and then that of a section that is not there, which is not read.
+fn mark_ranges(rng: &mut Rng, m: &mut Memory) -> bool {
+    let n = usize::from(m.words[5]);
+    let [at, other] = [0, 1].map(|_| SECTION_MARK_WORDS.line(rng.below(n)));
+    match rng.below(4) {
+        0 if n < SECTION.lines => {
+            let absent = SECTION_MARK_WORDS.line(rng.from_to(n, SECTION.lines - 1));
+            m.words[absent..][..2].fill(rng.bits() as u16);
+        }
+        1 => {
+            let shift = u16::from(rng.one_in(2) && m.words[other + 1] > 0);
+            (m.words[at], m.words[at + 1]) = (m.words[other] + shift, m.words[other + 1] - shift);
+        }
+        _ => range(rng, m, at, MARK.lines, 16),
+    }
+    true
+}
+
+/// Two marks of a section on one lane, or with their starts exchanged.
+fn mark_order(rng: &mut Rng, m: &mut Memory) -> bool {
+    let Some((_, (_, first, count))) = mark_list(rng, m).filter(|(_, list)| list.2 > 1) else { return false };
+    let [a, b] = [0, 1].map(|_| first + rng.below(count));
+    if rng.one_in(2) {
+        m.words[MARK_WORDS.line(a)] = m.words[MARK_WORDS.line(b)];
+    } else {
+        m.numbers.swap(MARK.line(a), MARK.line(b));
+    }
+    true
+}
+
+/// A section with as many marks as it may have, or one more, all in order and within their limits.
+fn full_marks(rng: &mut Rng, m: &mut Memory) -> bool {
+    let section = rng.below(usize::from(m.words[5]));
+    let at = SECTION_WORDS.line(section);
+    let (lanes, n) = (usize::from(m.words[at + 1]) + usize::from(m.words[at + 2]), 16 + rng.below(2));
+    if lanes == 0 {
+        return false;
+    }
+    let first = MARK.lines - n;
+    for line in first..MARK.lines {
+        m.words[MARK_WORDS.line(line)..][..2].copy_from_slice(&[rng.below(lanes) as u16, 1]);
+        m.numbers[MARK.line(line)..][..2].fill(0.0);
+    }
+    m.words[SECTION_MARK_WORDS.line(section)..][..2].copy_from_slice(&[first as u16, n as u16]);
+    true
+}
+
 /// One spiral takes what is left of 2,000 samples, or a little more or less.
 fn samples(rng: &mut Rng, m: &mut Memory) -> bool {
     let n = usize::from(m.words[0]);
@@ -487,7 +591,7 @@ impl Memory {
         self.numbers.truncate(other.numbers.len());
     }
 
-    /// The words and the numbers that an admitted road's answers can depend on.
+    /// The words and the numbers that an admitted road's admission and answers can depend on.
     fn used(&self) -> (Vec<usize>, Vec<usize>) {
         let word = |at: usize| usize::from(self.words[at]);
         let (mut words, mut numbers): (Vec<usize>, Vec<usize>) = ((0..7).collect(), vec![0]);
@@ -506,6 +610,11 @@ impl Memory {
             for at in (first..first + n).map(|i| LANE_WORDS.line(i)) {
                 numbers.extend(lines(EXTENT, word(at + 2), word(at + 3)).chain(lines(HEIGHT, word(at + 4), word(at + 5))));
             }
+        }
+        for at in (0..word(5)).map(|i| SECTION_MARK_WORDS.line(i)) {
+            words.extend([at, at + 1]);
+            words.extend(lines(MARK_WORDS, word(at), word(at + 1)));
+            numbers.extend(lines(MARK, word(at), word(at + 1)));
         }
         for at in (0..word(6)).map(|i| PROFILE_WORDS.line(i)) {
             numbers.extend(lines(SHAPE, word(at), word(at + 1)));

@@ -42,11 +42,37 @@ pub struct Lane {
     pub heights: Vec<Height>,
 }
 
+/// A span of paint on a lane of its section. The lane is its place among those of the section, the left ones outward, then the right
+/// ones; start and end count from the section's start.
+#[derive(Debug, Clone, Copy, PartialEq)]
+pub struct Mark {
+    pub lane: usize,
+    pub kind: u16,
+    pub start: f64,
+    pub end: f64,
+}
+
+impl Mark {
+    /// Whether it covers its lane so far into its section.
+    pub fn covers(&self, d: f64) -> bool {
+        self.start <= d && d < self.end
+    }
+}
+
 #[derive(Debug, Clone, PartialEq, Default)]
 pub struct Section {
     pub start: f64,
     pub left: Vec<Lane>,
     pub right: Vec<Lane>,
+    pub marks: Vec<Mark>,
+}
+
+impl Section {
+    /// The id of a lane by its place among the section's, the left ones outward, then the right ones.
+    pub fn id(&self, place: usize) -> i32 {
+        let left = self.left.len();
+        if place < left { place as i32 + 1 } else { -((place - left) as i32 + 1) }
+    }
 }
 
 #[derive(Debug, Clone, PartialEq)]
@@ -105,7 +131,9 @@ pub const HEIGHT: Table = table(4305, 512, 3);
 pub const PROFILE: Table = table(5841, 16, 1);
 pub const SHAPE: Table = table(5857, 256, 5);
 pub const CUBIC: Table = table(7137, 160, 5);
-pub const NUMBERS: usize = 7937;
+/// The start and the end of each mark; its words are in `MARK_WORDS`.
+pub const MARK: Table = table(7937, 256, 2);
+pub const NUMBERS: usize = 8449;
 
 /// Where each kind of word stands, and how many words a line.
 pub const KIND_WORDS: Table = table(7, 64, 1);
@@ -113,7 +141,10 @@ pub const SECTION_WORDS: Table = table(71, 16, 3);
 pub const LANE_WORDS: Table = table(119, 192, 6);
 pub const PROFILE_WORDS: Table = table(1271, 16, 2);
 pub const STRIP_WORDS: Table = table(1303, 4, 11);
-pub const WORDS: usize = 1347;
+/// Of each section its range of marks, and of each mark the place of its lane and its kind.
+pub const SECTION_MARK_WORDS: Table = table(1347, 16, 2);
+pub const MARK_WORDS: Table = table(1379, 256, 2);
+pub const WORDS: usize = 1891;
 
 /// The tables whose counts are words 0..6, in that order.
 pub const COUNTED: [Table; 7] = [GEOM, ELEV, BANK, OFFSET, TSHIFT, SECTION, PROFILE];
@@ -151,6 +182,10 @@ fn flat_heights(list: &[Height]) -> Vec<f64> {
     list.iter().flat_map(|h| [h.start, h.inner, h.outer]).collect()
 }
 
+fn flat_mark(mark: &Mark) -> [f64; 4] {
+    [mark.lane as f64, f64::from(mark.kind), mark.start, mark.end]
+}
+
 impl Road {
     pub fn lanes(&self) -> impl Iterator<Item = &Lane> {
         self.sections.iter().flat_map(|s| s.left.iter().chain(&s.right))
@@ -185,6 +220,7 @@ impl Road {
         let shapes = m.place(SHAPE, &shapes, rng, style)?;
         let cubics = m.place(CUBIC, &cubics, rng, style)?;
         self.lay_lanes(&mut m, &extents, &heights)?;
+        self.lay_marks(&mut m, rng, style)?;
         m.count(6, self.profiles.len(), PROFILE.lines)?;
         for (i, p) in self.profiles.iter().enumerate() {
             m.numbers[PROFILE.at + i] = p.s;
@@ -236,6 +272,19 @@ impl Road {
         }
         Some(())
     }
+
+    /// A section's marks stand in one range, whose lines have words and numbers.
+    fn lay_marks(&self, m: &mut Memory, rng: &mut Rng, style: Style) -> Option<()> {
+        let lists: Vec<Vec<[f64; 4]>> = self.sections.iter().map(|s| s.marks.iter().map(flat_mark).collect()).collect();
+        for (i, (section, range)) in self.sections.iter().zip(ranges(MARK.lines, &lists, rng, style)?).enumerate() {
+            m.range(SECTION_MARK_WORDS.line(i), range);
+            for (line, mark) in (range.0..).zip(&section.marks) {
+                m.words[MARK_WORDS.line(line)..][..2].copy_from_slice(&[mark.lane as u16, mark.kind]);
+                m.put(MARK.line(line), &[mark.start, mark.end]);
+            }
+        }
+        Some(())
+    }
 }
 
 impl Memory {
@@ -255,34 +304,43 @@ impl Memory {
 
     /// Puts each list into the table and answers the range (first line, lines) of each.
     fn place(&mut self, table: Table, lists: &[Vec<f64>], rng: &mut Rng, style: Style) -> Option<Vec<(usize, usize)>> {
-        let mut ranges: Vec<(usize, usize)> = Vec::new();
-        let (mut used, needed) = (0, lists.iter().map(|l| l.len() / table.columns).sum::<usize>());
-        let mut spare = if style.gaps { table.lines.saturating_sub(needed) } else { 0 };
-        for (i, list) in lists.iter().enumerate() {
-            let lines = list.len() / table.columns;
-            let same = (0..i).find(|&j| style.share && lists[j] == *list);
-            if lines == 0 {
-                ranges.push((if style.gaps { rng.from_to(0, table.lines) } else { used.min(table.lines) }, 0));
-                continue;
-            }
-            if let Some(j) = same {
-                ranges.push(ranges[j]);
-                continue;
-            }
-            if spare > 0 && rng.one_in(3) {
-                let gap = rng.from_to(1, spare.min(7));
-                used += gap;
-                spare -= gap;
-            }
-            if used + lines > table.lines {
-                return None;
-            }
-            self.put(table.line(used), list);
-            ranges.push((used, lines));
-            used += lines;
+        let lines: Vec<Vec<&[f64]>> = lists.iter().map(|list| list.chunks(table.columns).collect()).collect();
+        let ranges = ranges(table.lines, &lines, rng, style)?;
+        for (list, range) in lists.iter().zip(&ranges) {
+            self.put(table.line(range.0), list);
         }
         Some(ranges)
     }
+}
+
+/// A range (first line, lines) for each list in a table of that many lines.
+fn ranges<L: PartialEq>(lines_there: usize, lists: &[Vec<L>], rng: &mut Rng, style: Style) -> Option<Vec<(usize, usize)>> {
+    let mut ranges: Vec<(usize, usize)> = Vec::new();
+    let (mut used, needed) = (0, lists.iter().map(Vec::len).sum::<usize>());
+    let mut spare = if style.gaps { lines_there.saturating_sub(needed) } else { 0 };
+    for (i, list) in lists.iter().enumerate() {
+        let lines = list.len();
+        let same = (0..i).find(|&j| style.share && lists[j] == *list);
+        if lines == 0 {
+            ranges.push((if style.gaps { rng.from_to(0, lines_there) } else { used.min(lines_there) }, 0));
+            continue;
+        }
+        if let Some(j) = same {
+            ranges.push(ranges[j]);
+            continue;
+        }
+        if spare > 0 && rng.one_in(3) {
+            let gap = rng.from_to(1, spare.min(7));
+            used += gap;
+            spare -= gap;
+        }
+        if used + lines > lines_there {
+            return None;
+        }
+        ranges.push((used, lines));
+        used += lines;
+    }
+    Some(ranges)
 }
 
 // ---- back from memory
@@ -334,7 +392,18 @@ impl Reading<'_> {
     fn section(&self, i: usize) -> Section {
         let [first, left, right] = [0, 1, 2].map(|k| self.word(SECTION_WORDS.line(i) + k));
         let lanes = |from: usize, n: usize| (from..from + n).map(|i| self.lane(i)).collect();
-        Section { start: self.numbers[SECTION.at + i], left: lanes(first, left), right: lanes(first + left, right) }
+        let [first_mark, marks] = [0, 1].map(|k| self.word(SECTION_MARK_WORDS.line(i) + k));
+        Section {
+            start: self.numbers[SECTION.at + i],
+            left: lanes(first, left),
+            right: lanes(first + left, right),
+            marks: (first_mark..first_mark + marks).map(|i| self.mark(i)).collect(),
+        }
+    }
+
+    fn mark(&self, i: usize) -> Mark {
+        let (words, span) = (MARK_WORDS.line(i), &self.numbers[MARK.line(i)..][..2]);
+        Mark { lane: self.word(words), kind: self.words[words + 1], start: span[0], end: span[1] }
     }
 
     fn strip(&self, i: usize) -> Option<Strip> {

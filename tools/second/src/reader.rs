@@ -1,7 +1,7 @@
-// A second text of document 01's "The job text" and of rows 1 to 5 for reading: a job's bytes into lent memory, laid as
-// docs/MEMORY.md says. It is written from 01 and plain, in one pass over the bytes, and shares nothing with the library. What of
-// row 3 lent memory cannot show is tested here; admission.rs tests the rest of rows 3 to 5 over what was read. The first
-// fault found is told with its place.
+// A second text of document 01's "The job text", with document 02's table of marks, and of rows 1 to 5 for reading: a job's bytes
+// into lent memory, laid as docs/MEMORY.md says. It is written from 01 and 02 and plain, in one pass over the bytes, and shares
+// nothing with the library. What of row 3 lent memory cannot show is tested here; admission.rs tests the rest of rows 3 to 5 over
+// what was read. The first fault found is told with its place.
 use crate::admission;
 pub use crate::fault::Name;
 use crate::fault::{Expected, Fault, Parent, Place, Reason, Tables, Tested, Wrong, check};
@@ -39,7 +39,7 @@ const fn form(table: Name, name: &'static str, limit: usize, columns: &'static [
 /// The most cells of a line.
 pub const CELLS: usize = 8;
 
-pub const TABLES: [Form; 15] = [
+pub const TABLES: [Form; 16] = [
     form(Name::Road, "road", 1, &[("length", Number)]),
     form(
         Name::Geom,
@@ -97,6 +97,7 @@ pub const TABLES: [Form; 15] = [
             ("d", Number),
         ],
     ),
+    form(Name::Mark, "mark", 256, &[("section", Whole), ("id", Whole), ("start", Number), ("end", Number), ("kind", Whole)]),
     form(Name::Want, "want", 16, &[("s", Number), ("t", Number)]),
 ];
 
@@ -371,6 +372,7 @@ impl Store<'_> {
             Name::Shape => self.shape(line, v)?,
             Name::Strip => self.strip(line, v)?,
             Name::Cubic => self.cubic(line, v)?,
+            Name::Mark => self.mark(line, v)?,
             Name::Want => self.wants[2 * line..][..2].copy_from_slice(&v[..2]),
         }
         Ok(())
@@ -436,11 +438,16 @@ impl Store<'_> {
     /// The lane of a section and an id, by its line in the lane table.
     fn lane_of(&self, section: u64, id: i64) -> Result<usize, Parent> {
         let section = self.section(section)?;
-        let [first, left, right] = [0, 1, 2].map(|k| self.word(SECTION_WORDS.line(section) + k));
+        Ok(self.word(SECTION_WORDS.line(section)) + self.place_of(section, id)?)
+    }
+
+    /// The place of an id among the lanes of its section, the left ones outward, then the right ones.
+    fn place_of(&self, section: usize, id: i64) -> Result<usize, Parent> {
+        let [left, right] = [1, 2].map(|k| self.word(SECTION_WORDS.line(section) + k));
         let outward = (id.unsigned_abs() as usize).checked_sub(1);
         match (id, outward) {
-            (1.., Some(outward)) if outward < left => Ok(first + outward),
-            (..=0, Some(outward)) if outward < right => Ok(first + left + outward),
+            (1.., Some(outward)) if outward < left => Ok(outward),
+            (..=0, Some(outward)) if outward < right => Ok(left + outward),
             _ => Err(Parent::Lane { section, id, left, right }),
         }
     }
@@ -481,6 +488,19 @@ impl Store<'_> {
         self.follows(Name::Cubic, line, 5 * self.strips[strip] + term)?;
         self.extend(STRIP_WORDS.line(strip) + 1 + 2 * term, line);
         self.put(CUBIC.line(line), &v[3..8]);
+        Ok(())
+    }
+
+    /// A mark's parent is its section, which has its lane; a section's ids come in any order. A kind below 0 is none, as 65,535 is.
+    fn mark(&mut self, line: usize, v: &Values) -> Tested {
+        let missing = |parent| no_parent(Name::Mark, line, parent);
+        let section = self.section(v[0]).map_err(missing)?;
+        let place = self.place_of(section, v[1] as i64).map_err(missing)?;
+        self.follows(Name::Mark, line, section)?;
+        self.extend(SECTION_MARK_WORDS.line(section), line);
+        let kind = u16::try_from(v[4]).unwrap_or(u16::MAX);
+        self.words[MARK_WORDS.line(line)..][..2].copy_from_slice(&[place as u16, kind]);
+        self.put(MARK.line(line), &v[2..4]);
         Ok(())
     }
 }

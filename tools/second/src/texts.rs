@@ -1,4 +1,4 @@
-// Job texts: roads as document 01's tables, and texts damaged in every way that its form and limits can tell.
+// Job texts: roads as the tables of documents 01 and 02, and texts damaged in every way that its form and limits can tell.
 use crate::admission::spiral_samples;
 use crate::generate;
 use crate::model::*;
@@ -94,6 +94,7 @@ pub fn tables(road: &Road, wants: &[[f64; 2]], strips: [usize; 4]) -> [Vec<Cells
     tables
 }
 
+/// Sections with their lanes, and what stands on the lanes.
 fn lane_tables(road: &Road, add: &mut impl FnMut(Name, Cells)) {
     for (i, section) in road.sections.iter().enumerate() {
         add(Name::Section, vec![digits(section.start)]);
@@ -106,6 +107,10 @@ fn lane_tables(road: &Road, add: &mut impl FnMut(Name, Cells)) {
             lane.extents.iter().for_each(|c| add(Name::Extent, of_lane().chain(cubic(c)).collect()));
             let heights = lane.heights.iter().map(|h| [h.start, h.inner, h.outer].map(digits));
             heights.for_each(|h| add(Name::Height, of_lane().chain(h).collect()));
+        }
+        for mark in &section.marks {
+            let [start, end] = [mark.start, mark.end].map(digits);
+            add(Name::Mark, vec![i.to_string(), section.id(mark.lane).to_string(), start, end, mark.kind.to_string()]);
         }
     }
 }
@@ -219,6 +224,7 @@ fn few_lines(rng: &mut Rng, road: &mut Road) {
         lane.extents.drain(..lane.extents.len().saturating_sub(most));
         lane.heights.truncate(most);
     }
+    road.sections.iter_mut().for_each(|section| section.marks.truncate(most));
     road.profiles.truncate(most);
     for profile in &mut road.profiles {
         profile.shapes.drain(..profile.shapes.len().saturating_sub(most.max(1)));
@@ -238,8 +244,8 @@ fn spirals(rng: &mut Rng, road: &mut Road) {
 }
 
 /// How long the sample job is.
-pub const SAMPLE_BYTES: u64 = 1_902;
-pub const SAMPLE_LINES: u64 = 56;
+pub const SAMPLE_BYTES: u64 = 2_098;
+pub const SAMPLE_LINES: u64 = 62;
 
 /// A short job with lines in every table, columns and strips permuted.
 pub fn sample() -> Job {
@@ -255,7 +261,10 @@ pub fn sample() -> Job {
     road.sections[0].left.truncate(1);
     road.sections[0].right[1].heights.clear();
     road.sections[0].right[1].border = true;
-    road.sections.push(Section { start: 50.0, left: vec![Lane { level: true, ..Lane::default() }], right: Vec::new() });
+    road.sections.push(Section { start: 50.0, left: vec![Lane { level: true, ..Lane::default() }], ..Section::default() });
+    let mark = |lane, kind, start, end| Mark { lane, kind, start, end };
+    road.sections[0].marks = vec![mark(0, 1, 0.0, 25.0), mark(2, 255, 5.0, 5.0), mark(0, 16, 10.0, 50.0)];
+    road.sections[1].marks = vec![mark(0, 7, 0.0, 50.0)];
     road.profiles[0].shapes.truncate(1);
     let strip = Strip { relative: true, lists: [list(&[0.0]), list(&[1.0]), Vec::new(), Vec::new(), Vec::new()] };
     road.strips = [None, Some(Strip::default()), Some(strip), None];
@@ -275,6 +284,7 @@ pub fn of_bytes(bytes: usize) -> Job {
         lanes.iter_mut().for_each(|lane| lane.heights.truncate(2));
     };
     road.sections.iter_mut().for_each(|s| [&mut s.left, &mut s.right].into_iter().for_each(left_out));
+    road.sections.iter_mut().for_each(|s| s.marks.truncate(2));
     road.profiles.truncate(8);
     road.profiles.iter_mut().for_each(|p| p.shapes.truncate(8));
     for list in road.strips.iter_mut().flatten().flat_map(|s| &mut s.lists) {
@@ -331,6 +341,7 @@ pub const DAMAGES: &[Damage] = &[
     ("table", table),
     ("filled table", filled_table),
     ("over its limit", over_limit),
+    ("marks", marks),
     ("several", several),
 ];
 
@@ -570,8 +581,94 @@ fn over_limit(rng: &mut Rng, job: &Job) -> Vec<Edit> {
     edits
 }
 
+/// Kinds around their limits, and cells that are none.
+const KINDS: &[&str] = &["0", "1", "255", "256", "-1", "9999", "-9999", "01", "-0", "10000", "257", "512"];
+/// Ids that few sections have.
+const IDS: &[&str] = &["0", "7", "-7", "1", "-1", "6", "-6", "2", "-2", "9999"];
+
+/// A line of the table of marks.
+struct MarkLine<'a> {
+    job: &'a Job,
+    part: &'a Part,
+    line: Range<usize>,
+}
+
+impl MarkLine<'_> {
+    /// The cell of a column, by its place in 02.
+    fn cell(&self, line: &Range<usize>, column: usize) -> Range<usize> {
+        self.job.cell(line, self.part.order.iter().position(|&c| c == column).expect("a column of the table"))
+    }
+
+    fn of(&self, column: usize) -> Vec<u8> {
+        self.job.text[self.cell(&self.line, column)].to_vec()
+    }
+
+    fn number(&self, column: usize) -> f64 {
+        let bits = str::from_utf8(&self.of(column)).ok().and_then(|digits| u64::from_str_radix(digits, 16).ok());
+        f64::from_bits(bits.unwrap_or_default())
+    }
+
+    fn put(&self, column: usize, with: impl Into<Vec<u8>>) -> Vec<Edit> {
+        vec![(self.cell(&self.line, column), with.into())]
+    }
+
+    /// The line so often that its section has about as many as it may have.
+    fn often(&self, rng: &mut Rng) -> Vec<Edit> {
+        let section = |line: &Range<usize>| &self.job.text[self.cell(line, 0)];
+        let there = self.part.lines.iter().filter(|line| section(line) == section(&self.line)).count();
+        let more = rng.pick(&[2, 15, 16, 17_usize]).saturating_sub(there);
+        vec![(self.line.start..self.line.start, self.job.text[self.line.clone()].repeat(more))]
+    }
+
+    fn swapped(&self, rng: &mut Rng) -> Vec<Edit> {
+        let other = self.part.lines[rng.below(self.part.lines.len())].clone();
+        let of = |at: &Range<usize>| self.job.text[at.clone()].to_vec();
+        vec![(self.line.clone(), of(&other)), (other, of(&self.line))]
+    }
+}
+
+/// A mark with a cell beside its limit, on another lane or section, out of turn, or as many as a section may have; in a job without
+/// marks, some.
+fn marks(rng: &mut Rng, job: &Job) -> Vec<Edit> {
+    let part = job.parts.iter().find(|p| p.form.table == Name::Mark && !p.lines.is_empty());
+    let Some(part) = part else { return added_marks(rng, job) };
+    let mark = MarkLine { job, part, line: part.lines[rng.below(part.lines.len())].clone() };
+    match rng.below(10) {
+        0 | 1 => mark.put(4, rng.pick(KINDS)),
+        2 => mark.put(1, rng.pick(IDS)),
+        3 => mark.put(0, rng.pick(&["0", "1", "2", "15", "16", "-1", "9999"])),
+        4 => [mark.put(2, mark.of(3)), mark.put(3, mark.of(2))].concat(),
+        5 => mark.put(3, digits(nudge(mark.number(3), rng.pick(&[1, -1, 2])))),
+        6 => mark.put(3, mark.of(2)),
+        7 => mark.put(rng.from_to(2, 3), digits(number(rng))),
+        8 => mark.swapped(rng),
+        _ => mark.often(rng),
+    }
+}
+
+/// A table of marks where it belongs, or anywhere. One that is there already has no lines and gives way.
+fn added_marks(rng: &mut Rng, job: &Job) -> Vec<Edit> {
+    let n = rng.pick(&[0, 1, 1, 2, 3, 16, 17]);
+    let lines: String = (0..n).map(|_| mark_line(rng)).collect();
+    let table = format!("mark section id start end kind\n{lines}\n").into_bytes();
+    let next = job.parts.iter().find(|p| p.form.table >= Name::Mark);
+    let at = next.map_or(job.text.len()..job.text.len(), |p| p.whole());
+    let at = if next.is_some_and(|p| p.form.table == Name::Mark) { at } else { at.start..at.start };
+    let anywhere = job.parts[rng.below(job.parts.len())].whole().start;
+    if rng.one_in(4) { vec![(at, Vec::new()), (anywhere..anywhere, table)] } else { vec![(at, table)] }
+}
+
+/// A line for most roads with lanes: short spans, since a section may be.
+fn mark_line(rng: &mut Rng) -> String {
+    let id = if rng.one_in(4) { rng.pick(IDS) } else { rng.pick(&["1", "-1"]) };
+    let kind = if rng.one_in(4) { rng.pick(KINDS) } else { "1" };
+    let spans = [0.0, -0.0, 5e-324, 1.0, 0.005, f64::NAN, f64::INFINITY, -1.0];
+    let [start, end] = [0, 1].map(|_| digits(if rng.one_in(3) { rng.pick(&spans) } else { 0.0 }));
+    format!("{} {id} {start} {end} {kind}\n", rng.pick(&["0", "0", "0", "1"]))
+}
+
 /// Two or three at once.
-fn several(rng: &mut Rng, job: &Job) -> Vec<Edit> {
+pub fn several(rng: &mut Rng, job: &Job) -> Vec<Edit> {
     let n = rng.from_to(2, 3);
     (0..n).flat_map(|_| DAMAGES[rng.below(DAMAGES.len() - 1)].1(rng, job)).collect()
 }

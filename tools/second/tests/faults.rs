@@ -18,6 +18,8 @@ fn breaks(limit: Limit, x: f64) -> bool {
         Limit::Arc { line, low, high } => x.is_nan() || x.abs() > line && (x.abs() < low || x.abs() > high),
         Limit::Unused => x.is_nan() || x < 0.0 || x > 0.0,
         Limit::Finite => x.is_nan() || x.is_infinite(),
+        Limit::AtLeast { low } => x.is_nan() || low.is_nan() || x < low,
+        Limit::AtMost { high } => x.is_nan() || high.is_nan() || x > high,
     }
 }
 
@@ -52,6 +54,10 @@ fn so(fault: &Fault) {
         (3, Place::Word { .. }, Reason::Lines { list, least, most }) => {
             assert!(list.count < *least || list.count > *most || list.first + list.count > list.table.lines);
         }
+        (3, Place::Word { value, .. }, Reason::NoLane { lanes, .. }) => assert!(usize::from(value) >= *lanes),
+        (3, Place::Number { line, value, .. }, Reason::MarkOrder { earlier, before }) => {
+            assert!(*earlier < line && out_of_order(Order::NeverFalls, *before, value), "{fault:?}")
+        }
         (3, Place::Number { value, .. }, Reason::FirstStart) => assert!(value != 0.0),
         (3, Place::Number { value, .. }, Reason::Order { order, before }) => {
             assert!(out_of_order(*order, *before, value), "{fault:?}")
@@ -59,6 +65,9 @@ fn so(fault: &Fault) {
         (3, Place::Line { .. }, Reason::NoParent(_) | Reason::ParentBehind | Reason::Id { .. } | Reason::PairAgain { .. }) => {}
         (3, Place::Whole, Reason::NoRoad) => {}
         (4, Place::Number { value, .. }, Reason::Limit(limit)) => assert!(breaks(*limit, value), "{fault:?}"),
+        (4, Place::Word { value, .. }, Reason::Kind { least, most, .. }) => {
+            assert!(!(*least..=*most).contains(&usize::from(value)), "{fault:?}")
+        }
         (4, Place::Line { .. }, Reason::Measure(m)) => measured(m),
         (4, Place::Line { .. }, Reason::Terms { terms, sum, most, .. }) => {
             let [t0, t1, t2, t3] = terms.map(|(bound, _)| bound);

@@ -1,5 +1,6 @@
 // The stub's lanes layer: a plain text of document 01's "Values" on records, profiles, the cross section and the lanes, with the
 // faults that the comparison must find.
+use crate::surfaces::painted;
 use crate::{Lent, admitted, fault, guarded};
 use second::model::*;
 
@@ -228,6 +229,9 @@ fn list_borders((words, numbers): Lent, s: f64, list: &mut [f64], lanes: &mut us
     list[..new.len()].copy_from_slice(&new);
     if fault("list tail") {
         list[new.len()..].fill(0.0);
+    }
+    if fault("mark border") && painted(&road, s) {
+        list[1] += 0.1;
     }
     *lanes = new.len() / 3;
     0

@@ -4,6 +4,7 @@ use interface::answers;
 use published::oracle::Oracle;
 use published::stand_ins;
 use second::arguments::exact_counts;
+use second::fault::{Fault, Limit, List, Name, Parent, Place, Reason};
 use second::model::*;
 use std::panic::{AssertUnwindSafe, catch_unwind};
 use std::sync::OnceLock;
@@ -99,8 +100,31 @@ fn pose_of_samples(samples: &[f64], distance: f64) -> [f64; 3] {
     [1, 2, 3].map(|k| a[k] + (b[k] - a[k]) * t)
 }
 
+/// The number of a road whose marks are tested wrongly, if the road is one that tells.
+fn marked_wrongly(wrong: &Fault, words: &[u16]) -> Option<u32> {
+    let lane = |line: usize| words[MARK_WORDS.line(line)];
+    let most_a_lane = |list: &List| {
+        let lines = || list.first..list.first + list.count;
+        lines().map(|line| lines().filter(|&other| lane(other) == lane(line)).count()).max()
+    };
+    match (wrong.place(), wrong.reason()) {
+        (Place::Number { line, .. }, Reason::MarkOrder { earlier, .. }) => {
+            (fault("mark neighbours") && earlier + 1 < line).then_some(0)
+        }
+        (_, Reason::Lines { list, .. }) if list.name == Name::Mark && list.first + list.count <= MARK.lines => {
+            (fault("mark count") && most_a_lane(list) <= Some(16)).then_some(0)
+        }
+        (_, Reason::NoLane { .. }) => fault("mark lane").then_some(0),
+        (_, Reason::Kind { .. }) => fault("mark kind").then_some(3),
+        (_, Reason::Limit(Limit::AtMost { .. })) => fault("mark extent").then_some(0),
+        _ => None,
+    }
+}
+
 fn admitted((words, numbers): Lent) -> u32 {
-    let number = admission::admit(words, numbers);
+    let judged = admission::judge(words, numbers);
+    let wrongly = judged.as_ref().err().and_then(|wrong| marked_wrongly(wrong, words));
+    let number = wrongly.unwrap_or(judged.map_or_else(|fault| fault.row, |()| 0));
     // A bank's first a at its limit exactly, all else zero, is taken for too much.
     let bank = number == 0 && words[2] > 0 && numbers[BANK.at + 1].abs() == 0.75;
     match number {
@@ -174,12 +198,12 @@ fn read(text: &[u8], words: &mut [u16], numbers: &mut [f64], wants: &mut [u64], 
 
 fn read_job(text: &[u8], words: &mut [u16], numbers: &mut [f64], wants: &mut [u64], count: &mut usize) -> u32 {
     let before = numbers.to_vec();
-    match reader::read(text, words, numbers, wants) {
+    match reader::judge(text, words, numbers, wants) {
         Ok(lines) => {
             *count = lines;
             0
         }
-        Err(number) => {
+        Err(wrong) => {
             if fault("read count") {
                 *count = 0;
             }
@@ -190,7 +214,12 @@ fn read_job(text: &[u8], words: &mut [u16], numbers: &mut [f64], wants: &mut [u6
             if fault("read short") && numbers.len() < NUMBERS {
                 numbers.copy_from_slice(&before);
             }
-            number
+            match (wrong.place(), wrong.reason()) {
+                (Place::Line { table: Name::Mark, .. }, Reason::TooMany { .. }) if fault("mark lines") => 3,
+                (Place::Line { table: Name::Mark, .. }, Reason::NoParent(Parent::Lane { id: 0, .. })) if fault("mark id") => 0,
+                (_, Reason::Kind { .. }) if fault("mark kind") => 3,
+                _ => wrong.row,
+            }
         }
     }
 }

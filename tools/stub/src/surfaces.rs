@@ -164,7 +164,17 @@ fn write_point((p, h): ([f64; 3], f64), point: &mut [f32; 3], heading: &mut f64)
 
 pub fn surface(road: Lent, samples: &[f64], s: f64, t: f64, point: &mut [f32; 3], heading: &mut f64) -> u32 {
     let answer = || Ok(On::new(road, samples, &surface_rows(road, s, t))?.surface(s, t));
-    answered(answer, |answer| write_point(answer, point, heading))
+    let code = answered(answer, |answer| write_point(answer, point, heading));
+    // Paint is taken for a layer.
+    if fault("mark height") && code == 0 && painted(&Road::read(road.0, road.1), s) {
+        point[2] += 0.001;
+    }
+    code
+}
+
+/// Whether a mark covers its lane at s.
+pub fn painted(road: &Road, s: f64) -> bool {
+    road.sections.iter().any(|section| section.marks.iter().any(|mark| mark.covers(s - section.start)))
 }
 
 pub fn lane_surface(road: Lent, samples: &[f64], id: i32, s: f64, t: f64, point: &mut [f32; 3], heading: &mut f64) -> u32 {

@@ -1,7 +1,7 @@
 //! Where a fault stands: by the line of the text for a job, by table and index for lent memory.
 use super::wording::{column, owner, strip, table, term, with_digits};
 use second::fault::{Fault, List, Measure, Measured, Name, Of, Place, Reason, Tables};
-use second::model::{KIND_WORDS, LANE_WORDS, PROFILE_WORDS, SECTION_WORDS, STRIP_WORDS, Table};
+use second::model::{KIND_WORDS, LANE_WORDS, MARK_WORDS, PROFILE_WORDS, SECTION_MARK_WORDS, SECTION_WORDS, STRIP_WORDS, Table};
 
 /// The line of a table as it is named: `line 31, table bank, line 2 of its table`, or for lent memory `table bank, line 1 from 0`.
 pub fn line(tables: Option<&Tables>, name: Name, line: usize) -> String {
@@ -25,6 +25,7 @@ pub fn of(fault: &Fault) -> String {
         (Place::Line { line, .. }, Reason::Measure(measured)) => cubic(tables, line, measured),
         (_, Reason::Side { line: lane, .. }) if tables.is_some() => line(tables, Name::Lane, *lane),
         (_, Reason::Lines { list, most, .. }) if tables.is_some() => list_line(tables, *list, *most),
+        (_, Reason::Kind { line: mark, .. }) if tables.is_some() => format!("{}, column kind", line(tables, Name::Mark, *mark)),
         (Place::Line { table, line: i }, _) => line(tables, table, i),
         (Place::Number { list, line, column, value }, _) => number(tables, list, line, column, value),
         (Place::Word { at, value }, _) => format!("words[{at}] = {value}: {}", word(at)),
@@ -76,12 +77,14 @@ type Says = fn(usize, usize) -> String;
 /// What a word of lent memory says.
 fn word(at: usize) -> String {
     let counts = [Name::Geom, Name::Elev, Name::Bank, Name::Offset, Name::Tshift, Name::Section, Name::Profile];
-    let tables: [(Table, Says); 5] = [
+    let tables: [(Table, Says); 7] = [
         (KIND_WORDS, |i, _| format!("the kind of geometry {i} from 0")),
         (SECTION_WORDS, |i, k| format!("{} of section {i}", ["the first lane", "the left lanes", "the right lanes"][k])),
         (LANE_WORDS, |i, k| format!("{} of lane {i} from 0", LANE_COLUMNS[k])),
         (PROFILE_WORDS, |i, k| format!("{} of profile {i}", ["the first shape", "the shapes"][k])),
         (STRIP_WORDS, strip_word),
+        (SECTION_MARK_WORDS, |i, k| format!("{} of section {i}", ["the first mark", "the marks"][k])),
+        (MARK_WORDS, |i, k| format!("{} of mark {i} from 0", ["the lane's place", "the kind"][k])),
     ];
     let within = |t: &Table| (t.at..t.line(t.lines)).contains(&at);
     match (counts.get(at), tables.iter().find(|(t, _)| within(t))) {

@@ -33,10 +33,13 @@ pub fn of(fault: &Fault, text: &[u8]) -> String {
                 counted(*lanes, "lane", "lanes")
             )
         }
+        Reason::NoLane { section, lanes } => format!("there is no such lane in section {section}: {}", up_to(*lanes)),
         Reason::Lines { list, least, most } => lines(*list, *least, *most),
         Reason::FirstStart => "the first start must be 0".into(),
         Reason::Order { order, before } => out_of_order(fault, *order, *before),
+        Reason::MarkOrder { earlier, before } => mark_order(fault, *earlier, *before),
         Reason::Limit(limit) => outside(fault, *limit),
+        Reason::Kind { line, least, most } => mark_kind(fault, text, *line, *least, *most),
         Reason::Measure(measured) => measure(measured),
         Reason::Terms { of, terms, sum, most } => strip_terms(tables, *of, terms, *sum, *most),
         Reason::Samples { spirals, most, .. } => samples(tables, spirals, *most),
@@ -70,7 +73,7 @@ fn no_parent(parent: Parent) -> String {
 fn parent_behind(fault: &Fault, text: &[u8]) -> String {
     let (Place::Line { table, line }, Some(tables)) = (fault.place(), fault.tables.as_deref()) else { return String::new() };
     let (parent, columns): (&str, &[&str]) = match table {
-        Name::Lane => ("section", &["section"]),
+        Name::Lane | Name::Mark => ("section", &["section"]),
         Name::Shape => ("profile", &["profile"]),
         Name::Cubic => ("strip and term", &["side", "place", "term"]),
         _ => ("lane", &["section", "id"]),
@@ -128,7 +131,36 @@ fn out_of_order(fault: &Fault, order: Order, before: f64) -> String {
     }
 }
 
+/// A mark's start and that of an earlier one on its lane, which need not be the line above.
+fn mark_order(fault: &Fault, earlier: usize, before: f64) -> String {
+    let Place::Number { list, value, .. } = fault.place() else { return String::new() };
+    let previous =
+        format!("{} of {}, on the same lane", with_digits(before), other_line(fault.tables.as_deref(), list.name, earlier));
+    if before.is_nan() || value.is_nan() {
+        return format!("it is compared with {previous}, and one of the two is not a number");
+    }
+    format!("it is below {previous}: a lane's starts never fall")
+}
+
 // ---- row 4
+
+/// A kind as it stands in the text: memory has none below 0.
+fn mark_kind(fault: &Fault, text: &[u8], line: usize, least: usize, most: usize) -> String {
+    let outside = format!("it is outside {least} to {most}");
+    let Some(tables) = fault.tables.as_deref() else { return outside };
+    let cell = cells(text, tables.line(Name::Mark, 0) - 1, tables.line(Name::Mark, line), &["kind"]);
+    format!("{cell}: {outside}")
+}
+
+/// What a mark's start or end is held against.
+fn span_limit(column: usize, limit: Limit) -> String {
+    match limit {
+        Limit::AtLeast { low } if column == 1 => format!("it is not at or past the mark's start, {}", decimal(low)),
+        Limit::AtLeast { low } => format!("it is not {} or above", decimal(low)),
+        Limit::AtMost { high } => format!("it is past the section's end, {} from its start", decimal(high)),
+        _ => String::new(),
+    }
+}
 
 fn outside(fault: &Fault, limit: Limit) -> String {
     let Place::Number { list, column, .. } = fault.place() else { return String::new() };
@@ -147,6 +179,7 @@ fn outside(fault: &Fault, limit: Limit) -> String {
         ),
         Limit::Unused => "the geometry's kind does not use it, so it must be zero".into(),
         Limit::Finite => "it is not finite".into(),
+        Limit::AtLeast { .. } | Limit::AtMost { .. } => span_limit(column, limit),
     }
 }
 

@@ -57,6 +57,7 @@ fn lines(road: &model::Road, wants: usize) -> String {
         ("shape", road.profiles.iter().map(|profile| profile.shapes.len()).sum()),
         ("strip", strips().count()),
         ("cubic", strips().flat_map(|strip| &strip.lists).map(Vec::len).sum()),
+        ("mark", road.sections.iter().map(|section| section.marks.len()).sum()),
         ("want", wants),
     ];
     let there: Vec<String> = counts.iter().filter(|(_, n)| *n > 0).map(|(name, n)| format!("{name} {n}")).collect();

@@ -54,6 +54,7 @@ pub fn term(term: usize) -> &'static str {
 pub fn owner(of: Of) -> Option<String> {
     match of {
         Of::Road => None,
+        Of::Section(section) => Some(format!("section {section}")),
         Of::Lane { section, id } => Some(format!("lane {id} of section {section}")),
         Of::Profile(profile) => Some(format!("profile {profile}")),
         Of::Strip { strip: of, term: list } => Some(format!("{} of strip {}", term(list), strip(of))),

@@ -2,6 +2,7 @@
 use super::graph::Graph;
 use super::labels::{Labels, Look, around, size_of};
 use super::lines::{SEEN, simplified};
+use super::paint;
 use super::plane::{Point, Rect};
 use super::scale::{fixed, short};
 use super::steps::{self, BESIDE};
@@ -31,6 +32,9 @@ const APART: f64 = 45.0;
 const EXAGGERATIONS: [f64; 7] = [1.0, 2.0, 5.0, 10.0, 20.0, 50.0, 100.0];
 /// Heights that differ by less than this are flat, not worth any.
 const FLAT: f64 = 0.001;
+
+/// How high a mark stands.
+const PAINTED: f64 = 9.0;
 
 const HEIGHT: Look = Look { class: "small halo", size: SMALL };
 const LANE: Look = Look { class: "lane-id", size: LABEL };
@@ -107,6 +111,7 @@ impl Across<'_> {
         self.reference(svg, graph, sides, &mut labels);
         let mut marked: Vec<f64> = sides.both().collect();
         marked.iter().for_each(|t| graph.upright(svg, "border", *t));
+        self.marks(svg, graph, &mut labels);
         if marked.is_empty() {
             marked = vec![0.0, ends.0 + BESIDE, ends.1 - BESIDE];
         }
@@ -141,6 +146,17 @@ impl Across<'_> {
             svg.circle("want", at, style::WANT);
             labels.take(Rect::around(at, 2.0 * style::WANT, 2.0 * style::WANT));
             labels.write(svg, WANT, &words, around(at, size_of(&words, WANT.size)));
+        }
+    }
+
+    /// The marks that cover their lane here, upright on its outer border.
+    fn marks(&self, svg: &mut Svg, graph: &Graph, labels: &mut Labels) {
+        let section = &self.subject.model.sections[self.subject.section(self.at)];
+        for mark in section.marks.iter().filter(|mark| mark.covers(self.at - section.start)) {
+            let Some(t) = paint::outer_at(self.subject, section, mark.lane, self.at) else { continue };
+            let foot = graph.paper(Point::new(t, self.height(t)));
+            svg.line(self.subject.paint.class(mark.kind), foot, foot.moved(0.0, -PAINTED));
+            labels.take(Rect::around(foot.moved(0.0, -PAINTED / 2.0), 4.0, PAINTED));
         }
     }
 

@@ -1,4 +1,4 @@
-//! The road in a view: lanes, base, reference line, and where sections and geometries start.
+//! The road in a view: lanes, base, marks, reference line, and where sections and geometries start.
 use second::model::Shape;
 
 use super::jumps::{self, Jump};
@@ -52,6 +52,7 @@ impl Ground<'_> {
         } else {
             self.lanes(svg, jump);
             self.base(svg, jump);
+            self.paint(svg, jump);
             self.reference(svg, jump);
         }
         for section in self.subject.model.sections.iter().filter(|n| self.has(n.start)) {
@@ -87,7 +88,7 @@ impl Ground<'_> {
         svg.line("mark", at.toward(leftward, MARK), at.toward(leftward, -MARK));
     }
 
-    fn on_paper(&self, line: &[Point]) -> Vec<Point> {
+    pub fn on_paper(&self, line: &[Point]) -> Vec<Point> {
         let line: Vec<Point> = line.iter().map(|p| self.view.paper(*p)).collect();
         simplified(&line, SEEN)
     }

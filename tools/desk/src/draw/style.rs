@@ -18,6 +18,19 @@ pub const SMALL: f64 = 10.0;
 /// The classes of the reference line by kind: line, arc, spiral.
 pub const KINDS: [&str; 3] = ["ref line", "ref arc", "ref spiral"];
 
+/// The classes of marks, by the order of their kinds, and their look, which a picture without marks does not have.
+pub const PAINTS: [&str; 8] = ["paint p0", "paint p1", "paint p2", "paint p3", "paint p4", "paint p5", "paint p6", "paint p7"];
+pub const PAINT_STYLE: &str = "\
+.paint{stroke-width:3.4}\
+.p0{stroke:#b8860b}\
+.p1{stroke:#00838f}\
+.p2{stroke:#d81b60}\
+.p3{stroke:#558b2f}\
+.p4{stroke:#6d4c41}\
+.p5{stroke:#f4511e}\
+.p6{stroke:#37474f}\
+.p7{stroke:#8e24aa}";
+
 pub const STYLE: &str = "\
 @page{size:landscape;margin:8mm}\
 text{font-family:sans-serif;font-size:11px;fill:#222}\

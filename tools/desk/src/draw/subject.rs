@@ -3,6 +3,7 @@ use riftkettle::layout::{GEOM, GEOM_STRIDE};
 use riftkettle::{Border, Refusal, Road, Station, SurfacePoint};
 use second::model;
 
+use super::paint::Paint;
 use super::plane::{Point, Rect};
 use crate::joints::{self, Joint};
 
@@ -20,6 +21,7 @@ pub struct Want {
 pub struct Subject {
     pub name: String,
     pub model: model::Road,
+    pub paint: Paint,
     pub origin: Point,
     asked: Box<Road>,
     moved: Box<Road>,
@@ -72,7 +74,7 @@ impl Subject {
         let lent = asked.lent();
         let model = model::Road::read(lent.words, lent.numbers);
         let (origin, moved) = near_origin(&asked, &model);
-        Ok(Self { name: name.into(), model, origin, asked, moved })
+        Ok(Self { name: name.into(), paint: Paint::of(&model), model, origin, asked, moved })
     }
 
     pub fn length(&self) -> f64 {

@@ -1,5 +1,6 @@
 //! The column beside the plan: legend, wants, and what else is worth knowing.
 use super::jumps::Jump;
+use super::paint::Paint;
 use super::plane::{Point, Rect};
 use super::scale::{column, short};
 use super::style::{self, KINDS};
@@ -70,6 +71,18 @@ impl Column<'_> {
         }
         self.areas(top);
         self.down = top + 6.0 * ROW + 8.0;
+    }
+
+    /// The colours of marks, two a row, below the rest of the legend.
+    pub fn paint(&mut self, paint: &Paint) {
+        for pair in paint.legend().chunks(2) {
+            let at = self.row();
+            for ((class, words), left) in pair.iter().zip([0.0, self.panel.width / 2.0]) {
+                self.svg.line(class, at.moved(left, -4.0), at.moved(left + SAMPLE, -4.0));
+                self.svg.words("label", Anchor::Start, at.moved(left + WORDS, 0.0), words);
+            }
+        }
+        self.down += if paint.is_none() { 0.0 } else { 8.0 };
     }
 
     /// The place of an entry of the legend: two columns of six.

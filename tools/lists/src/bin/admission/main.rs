@@ -13,8 +13,9 @@
 //     a  case, answer     admission is asked: 0, or the number of the refusal. The base road follows, lent whole.
 //     s  case, answer     samples are asked: n + 2^63 for n samples, or the number of the refusal. The base road follows.
 //
-// Each answer is written beside its case, from document 01, and checked here against tools/second/src/admission.rs, the second
-// text of 01's limits.
+// Each answer is written beside its case, from documents 01 and 02, and checked here against tools/second/src/admission.rs, the
+// second text of their limits.
+mod marks;
 mod roads;
 mod rows;
 

@@ -31,6 +31,28 @@ pub fn bare() -> Memory {
     m
 }
 
+/// A line of 100 with sections from 0, 60 and 100, of 2 + 1, 1 + 0 and 0 + 1 lanes, and seven marks.
+pub fn marked() -> Memory {
+    let mut m = empty(100.0);
+    words(&mut m, 0, &[1, 0, 0, 0, 0, 3, 0]);
+    m.numbers[GEOM.line(0) + 4] = 100.0;
+    numbers(&mut m, SECTION.at, &[0.0, 60.0, 100.0]);
+    words(&mut m, SECTION_WORDS.at, &[0, 2, 1, 3, 1, 0, 4, 0, 1]);
+    words(&mut m, SECTION_MARK_WORDS.at, &[0, 4, 4, 2, 6, 1]);
+    marks(&mut m, 0, &[(0, 1, 0.0, 60.0), (2, 255, 10.0, 20.0), (0, 2, 10.0, 10.0), (1, 7, 5.0, 30.0)]);
+    marks(&mut m, 4, &[(0, 9, 0.25, 40.0), (0, 3, 30.0, 35.0)]);
+    marks(&mut m, 6, &[(0, 4, 0.0, 0.0)]);
+    m
+}
+
+/// Marks from a line of the table on: the place of the lane, kind, start, end.
+fn marks(m: &mut Memory, first: usize, marks: &[(u16, u16, f64, f64)]) {
+    for (line, &(lane, kind, start, end)) in (first..).zip(marks) {
+        words(m, MARK_WORDS.line(line), &[lane, kind]);
+        numbers(m, MARK.line(line), &[start, end]);
+    }
+}
+
 /// A road of 100 with every kind of record: lists of three, lists of one, empty lists, a strip that is not there.
 pub fn mixed() -> Memory {
     let mut m = empty(100.0);
@@ -46,6 +68,9 @@ pub fn mixed() -> Memory {
     cubics(&mut m, TSHIFT, 0, &along, [-1.0, 0.01, 0.0001, -0.000001]);
     numbers(&mut m, SECTION.at, &along);
     lanes(&mut m);
+    // Spans of no length on the second section, so that cases may change the sections' starts and the first one's lanes.
+    words(&mut m, SECTION_MARK_WORDS.at, &[0, 0, 0, 2, 2, 0]);
+    marks(&mut m, 0, &[(0, 1, 0.0, 0.0), (1, 255, 0.0, 0.0)]);
     numbers(&mut m, PROFILE.at, &along);
     words(&mut m, PROFILE_WORDS.at, &[0, 3, 3, 1, 3, 1]);
     cubics(&mut m, SHAPE, 0, &[-5.0, 0.0, 5.0], [0.1, -0.01, 0.0001, 0.000001]);
@@ -90,7 +115,7 @@ fn strips(m: &mut Memory) {
     cubics(m, CUBIC, 12, &[0.0], [-0.3, 0.0, 0.0, 0.0]);
 }
 
-/// Every count at its limit and every table filled to its end; lanes, profiles and terms share their lines.
+/// Every count at its limit and every table filled to its end; lanes, profiles, terms and sections share their lines.
 pub fn full() -> Memory {
     let mut m = empty(100.0);
     words(&mut m, 0, &[64, 64, 64, 64, 64, 16, 16]);
@@ -108,6 +133,9 @@ pub fn full() -> Memory {
         words(&mut m, PROFILE_WORDS.line(i), &[240, 16]);
         m.numbers[SHAPE.line(240 + i)] = i as f64 - 8.0;
         m.numbers[EXTENT.line(496 + i)] = 0.25 * i as f64;
+        words(&mut m, SECTION_MARK_WORDS.line(i), &[240, 16]);
+        // on eleven lanes, so that cases may leave one out
+        marks(&mut m, 240 + i, &[(i as u16 % 11, i as u16 + 1, 0.25 * i as f64, 4.0)]);
     }
     for lane in 0..192 {
         words(&mut m, LANE_WORDS.line(lane), &[lane as u16 % 2, 0, 496, 16, 504, 8]);

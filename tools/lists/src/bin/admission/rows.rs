@@ -1,7 +1,8 @@
-// The cases, by the rows of the requirements that they stand for: ADM-01 to ADM-26, CALL-10 to CALL-15 and 01's runs. ADM-07 (all
-// else is row 4) and ADM-25 (refused exactly when 01 says so) are the whole list's: each limit has cases on both sides.
+// The cases, by the rows of the requirements that they stand for: ADM-01 to ADM-26, CALL-10 to CALL-15 and 01's runs; those of marks
+// are in marks.rs. ADM-07 (all else is row 4) and ADM-25 (refused exactly when 01 says so) are the whole list's: each limit has cases on
+// both sides.
 use crate::Change::{self, Lent, Number, Word};
-use crate::{List, SAMPLES, roads};
+use crate::{List, SAMPLES, marks, roads};
 use second::admission::{bound, spiral_samples};
 use second::model::*;
 
@@ -15,6 +16,7 @@ pub fn all(list: &mut List) {
     lengths(list);
     budget(list);
     slice_for_samples(list);
+    marks::all(list);
     list.base(roads::mixed());
     list.case("a road with every kind of record", &[], 0);
     first_starts(list);
@@ -642,11 +644,14 @@ fn empty_ranges(list: &mut List) {
 /// What no count or range names is not read: no number there and no code is looked at.
 fn unread(list: &mut List) {
     let words = [KIND_WORDS.line(3), SECTION_WORDS.line(3), LANE_WORDS.line(5), LANE_WORDS.line(5) + 2, PROFILE_WORDS.line(3)];
-    for at in words.into_iter().chain([0, 1, 2, 3, 4].map(|k| STRIP_WORDS.line(2) + 1 + 2 * k)) {
+    let words = words.into_iter().chain([SECTION_MARK_WORDS.line(3), SECTION_MARK_WORDS.line(15), MARK_WORDS.line(2)]);
+    for at in words.chain([0, 1, 2, 3, 4].map(|k| STRIP_WORDS.line(2) + 1 + 2 * k)) {
         list.case("unread words", &[Word(at, 65_535), Word(at + 1, 65_535)], 0);
     }
     let lines = [GEOM.line(3), ELEV.line(3), BANK.line(3), OFFSET.line(3), TSHIFT.line(3), SECTION.line(3), EXTENT.line(10)];
-    for at in lines.into_iter().chain([HEIGHT.line(6), PROFILE.line(3), SHAPE.line(4), CUBIC.line(13), NUMBERS - 1]) {
+    let lines =
+        lines.into_iter().chain([HEIGHT.line(6), PROFILE.line(3), SHAPE.line(4), CUBIC.line(13), MARK.line(2), NUMBERS - 1]);
+    for at in lines {
         list.case("unread numbers", &[Number(at, NAN)], 0);
         list.case("unread numbers", &[Number(at, -INF)], 0);
     }
@@ -669,6 +674,7 @@ fn counts(list: &mut List) {
         ("shapes", PROFILE_WORDS.line(15) + 1, 16),
         ("cubics of a width", STRIP_WORDS.line(3) + 2, 8),
         ("cubics of a term", STRIP_WORDS.line(3) + 10, 8),
+        ("marks", SECTION_MARK_WORDS.line(15) + 1, 16),
     ];
     for (name, at, limit) in last {
         for (count, answer) in [(limit - 1, 0), (limit, 0), (limit + 1, 3), (65_535, 3)] {
@@ -697,7 +703,7 @@ fn one_line_more(list: &mut List) {
 
 /// The last line of each full table is read.
 fn last_lines(list: &mut List) {
-    for table in [GEOM, ELEV, BANK, OFFSET, TSHIFT, EXTENT, HEIGHT, SHAPE, CUBIC] {
+    for table in [GEOM, ELEV, BANK, OFFSET, TSHIFT, EXTENT, HEIGHT, SHAPE, CUBIC, MARK] {
         let at = table.line(table.lines - 1);
         list.case("the last line of a table", &[Number(at + table.columns - 1, NAN)], 4);
         list.case("the last line of a table", &[Number(at, NAN)], 3);
@@ -706,9 +712,10 @@ fn last_lines(list: &mut List) {
         list.case("the last line of a table", &[Number(table.line(15), NAN)], 3);
         list.case("the last line of a table", &[Number(table.line(15), 100f64.next_up())], 4);
     }
-    for words in [KIND_WORDS, LANE_WORDS, STRIP_WORDS] {
+    for words in [KIND_WORDS, LANE_WORDS, STRIP_WORDS, MARK_WORDS] {
         list.case("the last code of a table", &[Word(words.line(words.lines - 1), 65_535)], 3);
     }
+    list.case("the last kind of a mark", &[Word(MARK_WORDS.line(255) + 1, 256)], 4);
 }
 
 /// CALL-11: slices shorter than the layout are 3, longer ones are read as if they ended there.

@@ -1,5 +1,5 @@
-// The cases, by the sentences of document 01 that they stand for.
-use crate::{LENT, List};
+// The cases, by the sentences of document 01 that they stand for; those of document 02's marks are in marks.rs.
+use crate::{LENT, List, MEMORY, marks};
 use Name::*;
 use lists::draft::{self, Draft};
 use second::reader::{Cell, Name, TABLES};
@@ -30,6 +30,7 @@ pub fn all(list: &mut List) {
     shapes(list, &mixed);
     strips(list, &mixed);
     strip_cubics(list, &mixed);
+    marks::all(list, &mixed);
     wants(list, &mixed);
     slices(list, &mixed);
     order_of_rows(list, &mixed);
@@ -195,7 +196,7 @@ fn tables(list: &mut List, d: &Draft) {
         list.case("tables come in the order below: two swapped", swapped.text(), 1);
     }
     let mut none = d.clone();
-    for table in [Elev, Bank, Offset, Tshift, Lane, Extent, Height, Profile, Shape, Strip, Cubic, Want] {
+    for table in [Elev, Bank, Offset, Tshift, Lane, Extent, Height, Profile, Shape, Strip, Cubic, Mark, Want] {
         none = none.change(table, Vec::clear);
     }
     list.case("tables without lines", none.text(), 0);
@@ -250,8 +251,8 @@ fn whole_numbers(list: &mut List, d: &Draft) {
                 list.case("a whole number", d.cell(form.table, 0, column, cell).text(), 1);
             }
             for cell in ["9999", "-9999", "1000", "100", "10", "7", "-7", "2"] {
-                let there = cell == "2" && *column == "id" && form.table == Extent;
-                if !there {
+                let there = cell == "2" && *column == "id" && [Extent, Mark].contains(&form.table);
+                if !there && *column != "kind" {
                     list.case(
                         "a parent that does not exist, or an id out of turn",
                         d.cell(form.table, 0, column, cell).text(),
@@ -316,8 +317,13 @@ fn cells(list: &mut List, d: &Draft) {
 
 const PARENTS: &str = "lines of a child table follow their parents' order; a parent that does not exist is 3";
 
+/// Without lines that stand on lanes, so that those can be others.
+fn without_lanes_lines(d: &Draft) -> Draft {
+    [Extent, Height, Mark].into_iter().fold(d.clone(), |d, table| d.change(table, Vec::clear))
+}
+
 fn lane_ids(list: &mut List, d: &Draft) {
-    let bare = [Extent, Height].into_iter().fold(d.clone(), |d, table| d.change(table, Vec::clear));
+    let bare = without_lanes_lines(d);
     let lanes = |lines: &[&str]| bare.with(Lane, lines).text();
     let rule = "per section ids 1,2.. left then -1,-2.. right";
     for (lines, answer) in [
@@ -470,8 +476,9 @@ fn runs(list: &mut List, m1: &Draft) {
 fn slices(list: &mut List, d: &Draft) {
     let broken = d.cell(Road, 0, "length", "x").text();
     let wrong = d.cell(Lane, 0, "id", "9").text();
-    for (slice, lengths) in [(0, [0, 1, 7, 1346, 1348, 1400]), (1, [0, 1, 4305, 7936, 7938, 8000]), (2, [0, 1, 4, 31, 33, 40])] {
-        for length in lengths {
+    // A slice of a road without marks is too short.
+    for (slice, shorter) in [(0, 1347), (1, 7937), (2, 4)] {
+        for length in [0, 1, shorter, LENT[slice] - 1, LENT[slice] + 1, MEMORY[slice]] {
             let mut lent = LENT;
             lent[slice] = length;
             let short = length < LENT[slice];
@@ -480,8 +487,8 @@ fn slices(list: &mut List, d: &Draft) {
             list.lent_case("row 2's slice test precedes row 3", &wrong, lent, 3 - u32::from(short));
         }
     }
-    list.lent_case("all slices longer: zeros past the last line", d.text(), [1400, 8000, 40], 0);
-    list.lent_case("all slices longer, refused: zeros in all", &broken, [1400, 8000, 40], 1);
+    list.lent_case("all slices longer: zeros past the last line", d.text(), MEMORY, 0);
+    list.lent_case("all slices longer, refused: zeros in all", &broken, MEMORY, 1);
     list.lent_case("all slices empty", d.text(), [0, 0, 0], 2);
     list.lent_case("all slices empty, and the text", "", [0, 0, 0], 2);
 }
@@ -561,7 +568,7 @@ fn over(list: &mut List, full: &Draft, table: Name) {
 /// "Too few, or too many under one parent, is 3."
 fn per_parent(list: &mut List, d: &Draft) {
     list.base(d.text().as_bytes());
-    let bare = [Extent, Height].into_iter().fold(d.clone(), |d, table| d.change(table, Vec::clear));
+    let bare = without_lanes_lines(d);
     for (n, answer) in [(5, 0), (6, 0), (7, 3), (8, 3)] {
         for sign in ["", "-"] {
             let lanes: Vec<String> = (1..=n).map(|id| format!("0 {sign}{id} width 0")).collect();
@@ -593,8 +600,7 @@ fn full_tables(list: &mut List, d: &Draft) {
     let ids = [1, 2, 3, 4, 5, 6, -1, -2, -3, -4, -5, -6];
     let every_lane = || (0..16).flat_map(|section| ids.map(|id| [section.to_string(), id.to_string()]));
     let lanes = every_lane().map(|[s, id]| vec![s, id, "width".into(), "0".into()]).collect();
-    let none = [Extent, Height].into_iter().fold(d.clone(), |d, table| d.change(table, Vec::clear));
-    let laned = none.change(Section, |lines| *lines = sections).change(Lane, |lines| *lines = lanes);
+    let laned = without_lanes_lines(d).change(Section, |lines| *lines = sections).change(Lane, |lines| *lines = lanes);
     full(list, &laned, Section);
     full(list, &laned, Lane);
     let extents = every_lane().take(32).flat_map(|[s, id]| vec![[s, id].into_iter().chain(vec![z.clone(); 5]).collect(); 16]);
@@ -604,6 +610,8 @@ fn full_tables(list: &mut List, d: &Draft) {
     };
     let heights = every_lane().take(64).flat_map(height);
     full(list, &laned.change(Height, |lines| *lines = heights.collect()), Height);
+    let marks = (0..16).flat_map(|i| vec![vec![i.to_string(), "-6".into(), z.clone(), z.clone(), "255".into()]; 16]).collect();
+    full(list, &laned.change(Mark, |lines| *lines = marks), Mark);
     let profiles = (0..16).map(|i| vec![texts::digits(4.0 * i as f64)]).collect();
     let shapes = (0..16).flat_map(|i| vec![[i.to_string()].into_iter().chain(vec![z.clone(); 5]).collect(); 16]).collect();
     let shaped = d.change(Profile, |lines| *lines = profiles).change(Shape, |lines| *lines = shapes);

@@ -14,9 +14,10 @@
 //     l  a, b   the next case lends a words and b numbers
 //     r  a, b   case b: a wants are lent, the text is read; then the text is empty
 //
-// Each answer is written beside its case, from document 01, and checked here against tools/second/src/reader.rs, the second
-// text of 01's job text.
+// Each answer is written beside its case, from documents 01 and 02, and checked here against tools/second/src/reader.rs, the second
+// text of their job text.
 mod cases;
+mod marks;
 mod pieces;
 
 use pieces::Piece;
@@ -24,7 +25,7 @@ use second::model::{NUMBERS, WORDS};
 use second::reader::{self, WANTS};
 
 /// The program's memory: words, numbers, wants. Before each case all of it is filled.
-const MEMORY: [usize; 3] = [1400, 8000, 40];
+pub const MEMORY: [usize; 3] = [1900, 8500, 40];
 const FILL: (u16, u64, u64) = (0xabcd, 0x4045_abcd_abcd_abcd, 0xabcd_abcd_abcd_abcd);
 
 /// What is lent where a case says nothing else.

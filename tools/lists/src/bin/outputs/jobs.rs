@@ -1,5 +1,5 @@
 // The jobs, by kind: every kind of record, wants on the road and off it, every refusal that a job can have.
-use crate::roads::{self, border, cubic, flat, level, raised, road, section, sloped, straight, strip, width};
+use crate::roads::{self, border, cubic, flat, level, marked, raised, road, section, sloped, straight, strip, width};
 use crate::{List, job};
 use lists::draft::{self, Draft};
 use second::model::{Cubic, Height, Lane, Profile, Road, Shape, Strip};
@@ -22,6 +22,7 @@ pub fn all(list: &mut List) {
     heights(list);
     profiles(list);
     strips(list);
+    marks(list);
     wants(list);
     zeros(list);
     columns(list);
@@ -274,6 +275,26 @@ fn strips(list: &mut List) {
     }
 }
 
+/// Points are unaffected by spans: each road with its marks and without.
+fn marks(list: &mut List) {
+    list.kind("mark");
+    let lanes = || vec![width(3.0), raised(width(2.0), 0.125)];
+    let two = || vec![section(0.0, lanes(), vec![level(border(-3.0))]), section(60.0, vec![width(2.5)], lanes())];
+    let base = || Road { sections: two(), bank: flat(&[[0.0, 0.05]]), ..straight(100.0) };
+    let full: Vec<_> = (0..16).map(|k| (k % 3, k as u16 + 1, 3.0 * k as f64, 60.0)).collect();
+    let set = [
+        &[(0, 1, 0.0, 60.0)][..],
+        &[(0, 255, 0.0, 0.0), (1, 1, 60.0, 60.0), (2, 2, -0.0, 30.0)],
+        &[(2, 1, 0.0, 60.0), (0, 1, 25.0, 50.0), (2, 1, 25.0, 30.0), (0, 3, 25.0, 26.0)],
+        &full,
+    ];
+    list.answered(&base(), &over(100.0));
+    for marks in set {
+        list.answered(&marked(base(), 0, marks), &over(100.0));
+    }
+    list.answered(&marked(marked(base(), 0, &full), 1, &[(2, 7, 0.0, 40.0)]), &over(100.0));
+}
+
 // ---- wants
 
 fn bits(bits: u64) -> f64 {
@@ -413,7 +434,7 @@ fn refused(list: &mut List) {
     swapped.tables.swap(1, 2);
     list.job(swapped.text(), "refused 1");
     // One line more than a table may have.
-    for (table, lines) in [(Road, 2), (Geom, 65), (Section, 17), (Profile, 17), (Strip, 5), (Want, 17)] {
+    for (table, lines) in [(Road, 2), (Geom, 65), (Section, 17), (Profile, 17), (Strip, 5), (Mark, 257), (Want, 17)] {
         list.job(full(&d, table, lines).text(), "refused 2");
     }
     list.job("\n".repeat(65_537), "refused 2");
@@ -426,6 +447,10 @@ fn refused(list: &mut List) {
     list.job(d.number(Section, 1, "start", 0.0).text(), "refused 3");
     list.job(d.cell(Lane, 0, "section", "2").text(), "refused 3");
     list.job(d.number(Height, 1, "start", 0.0009).text(), "refused 3");
+    list.job(full(&d, Mark, 17).text(), "refused 3");
+    list.job(d.cell(Mark, 0, "id", "0").text(), "refused 3");
+    list.job(d.cell(Mark, 3, "section", "2").text(), "refused 3");
+    list.job(d.number(Mark, 0, "start", 6.0).text(), "refused 3");
     // Numbers that are not finite or outside their limits.
     for (table, column, x) in [
         (Road, "length", 0.0099),
@@ -444,9 +469,13 @@ fn refused(list: &mut List) {
         (Height, "inner", 2.1),
         (Shape, "a", 40.1),
         (Cubic, "a", 100.1),
+        (Mark, "start", -1.0),
+        (Mark, "end", 50.1),
     ] {
         list.job(d.number(table, 0, column, x).text(), "refused 4");
     }
+    list.job(d.cell(Mark, 0, "kind", "256").text(), "refused 4");
+    list.job(d.cell(Mark, 0, "kind", "-1").text(), "refused 4");
     let arc = |k: f64| m1.cell(Geom, 0, "kind", "arc").number(Geom, 0, "k0", k).text();
     list.job(arc(0.000002), "refused 4");
     list.job(arc(1.1), "refused 4");

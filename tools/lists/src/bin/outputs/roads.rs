@@ -1,6 +1,6 @@
 // The roads of the examples, one for each feature: realistic, and without holes, each geometry ending where the next begins.
 use published::oracle::Line;
-use second::model::{Cubic, Geom, Height, Lane, Profile, Road, Section, Shape, Strip};
+use second::model::{Cubic, Geom, Height, Lane, Mark, Profile, Road, Section, Shape, Strip};
 
 pub fn cubic(start: f64, a: f64, b: f64, c: f64, d: f64) -> Cubic {
     Cubic { start, a, b, c, d }
@@ -57,7 +57,13 @@ pub fn level(lane: Lane) -> Lane {
 }
 
 pub fn section(start: f64, left: Vec<Lane>, right: Vec<Lane>) -> Section {
-    Section { start, left, right }
+    Section { start, left, right, marks: Vec::new() }
+}
+
+/// The road with marks on a section: the place of the lane, kind, start, end.
+pub fn marked(mut road: Road, section: usize, marks: &[(usize, u16, f64, f64)]) -> Road {
+    road.sections[section].marks = marks.iter().map(|&(lane, kind, start, end)| Mark { lane, kind, start, end }).collect();
+    road
 }
 
 /// A strip with a width and a fall across it.
@@ -203,7 +209,12 @@ pub fn examples() -> Vec<Example> {
         ],
         ..straight(100.0)
     };
-    let two_sections = ("two_sections", two_sections, vec![[30.0, 3.0], [30.0, 4.0], [60.0, 4.0], [80.0, 7.0], [100.0, -3.0]]);
+    let wants = vec![[30.0, 3.0], [30.0, 4.0], [60.0, 4.0], [80.0, 7.0], [100.0, -3.0]];
+    // The same road with paint on it, kind 1 with a gap, and the same points.
+    let first = [(0, 1, 0.0, 20.0), (2, 2, 0.0, 60.0), (0, 1, 40.0, 60.0), (1, 3, 15.0, 45.0)];
+    let marks = marked(marked(two_sections.clone(), 0, &first), 1, &[(0, 1, 0.0, 40.0), (1, 3, 10.0, 30.0), (3, 2, 0.0, 40.0)]);
+    let marks = ("marks", marks, wants.clone());
+    let two_sections = ("two_sections", two_sections, wants);
 
     let country_road =
         ("country_road", country_road(), vec![[30.0, 3.5], [135.0, -3.5], [195.0, 4.0], [290.0, 7.0], [400.0, -4.25]]);
@@ -220,6 +231,7 @@ pub fn examples() -> Vec<Example> {
         profiles,
         strips,
         two_sections,
+        marks,
         country_road,
     ]
 }

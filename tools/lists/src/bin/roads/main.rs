@@ -57,6 +57,8 @@ pub struct List {
     /// the third number of a call, and how many numbers of the slice are lent
     set: (u64, usize),
     kinds: BTreeMap<String, usize>,
+    /// roads with marks
+    marked: usize,
 }
 
 /// The word that is written for a number.
@@ -102,6 +104,7 @@ impl List {
         let refusal = admission::admit(&self.memory.words, &self.memory.numbers);
         assert_eq!(refusal, 0, "the Rust answers for an admitted road, this one is refused: {road:?}");
         assert_eq!(Road::read(&self.memory.words, &self.memory.numbers), *road, "the memory holds another road");
+        self.marked += usize::from(road.sections.iter().any(|section| !section.marks.is_empty()));
     }
 
     fn ask(&mut self, letter: char, a: u64, b: u64, words: &[u64], numbers: &[f64]) {
@@ -179,6 +182,7 @@ fn main() {
         asked: BTreeMap::new(),
         set: (0, 8000),
         kinds: BTreeMap::new(),
+        marked: 0,
     };
     let calls = &mut Rng::new(SEED, "calls");
     questions::lines(&mut list, &mut Rng::new(SEED, "lines"), calls);
@@ -190,6 +194,7 @@ fn main() {
     for kind in ["u NaN", "v lane of width 0", "v refused 10", "x met after 24 moves", "x astray, a NaN in the pair"] {
         assert!(list.kinds.contains_key(kind), "no answer of the kind {kind}");
     }
+    assert!(list.marked >= 10, "too few roads with marks: {}", list.marked);
     assert!(list.questions.len() <= 648_000, "the program has room for 18,000 lines");
     std::fs::write(&questions, &list.questions).expect("the list of questions");
     std::fs::write(&answers, &list.answers).expect("the list of answers");

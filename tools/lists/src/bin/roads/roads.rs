@@ -103,7 +103,7 @@ fn last<T>(list: &mut Vec<T>, most: usize) {
     list.drain(..list.len().saturating_sub(most));
 }
 
-/// Keeps the last records of each list across the road, and the inner lanes of each side.
+/// Keeps the last records of each list across the road, and the inner lanes of each side; of marks those on the lanes that stay.
 fn shorten(rng: &mut Rng, road: &mut Road) {
     let strips = road.strips.iter_mut().flatten().flat_map(|strip| &mut strip.lists);
     [&mut road.bank, &mut road.offset, &mut road.tshift].into_iter().chain(strips).for_each(|l| last(l, rng.from_to(1, 2)));
@@ -115,6 +115,11 @@ fn shorten(rng: &mut Rng, road: &mut Road) {
             last(&mut lane.extents, rng.from_to(1, 3));
             last(&mut lane.heights, 3);
         }
+    }
+    for section in &mut road.sections {
+        let lanes = section.left.len() + section.right.len();
+        section.marks.retain(|mark| mark.lane < lanes);
+        last(&mut section.marks, 2);
     }
 }
 
