@@ -76,7 +76,8 @@ extern "C" {
 #define RIFTKETTLE_PROFILE 5841 /*  16: s */
 #define RIFTKETTLE_SHAPE 5857   /* 256: t a b c d */
 #define RIFTKETTLE_CUBIC 7137   /* 160: start a b c d */
-#define RIFTKETTLE_SPAN 7937    /* 256: start end of a mark; both count from the section's start */
+#define RIFTKETTLE_SPAN 7937    /* 256: start end; line i is the span of mark i (RIFTKETTLE_MARK). Both count from the section's start:
+                                      0 <= start <= end <= its extent, the next section's start, or the length, less its own */
 
 /* Places in `words`. The first seven are counts of lines. */
 #define RIFTKETTLE_GEOMS 0         /* 1..64 */
@@ -94,10 +95,12 @@ extern "C" {
 #define RIFTKETTLE_STRIP 1303      /*   4, eleven words a strip: 0 absent, 1 there, 2 there and relative; ranges of cubics (0..8
                                       each) of its width and of its terms 0, 1, 2, 3. Left inner, left outer, right inner, right
                                       outer. An absent strip's ranges are not read. */
-#define RIFTKETTLE_MARKS 1347      /*  16, two words a section: range of marks (0..16) */
-#define RIFTKETTLE_MARK 1379       /* 256, two words a mark: its lane, by its place among its section's, the left ones outward, then
-                                      the right ones (the first is 0); its kind (1..255). Of two marks of a section on one lane the
-                                      later starts no earlier. Marks are checked with the road; no value depends on them. */
+#define RIFTKETTLE_MARKS 1347      /*  16, two words a section: range of marks (0..16); 0, 0 for none */
+#define RIFTKETTLE_MARK 1379       /* 256, two words a mark: its lane, by its place in its section, counted from 0, the left ones
+                                      outward, then the right ones, as riftkettle_borders lists them; its kind (1..255). A place that
+                                      the section does not have is 3, and so is a start that is less than that of an earlier line on
+                                      the same lane; a kind, start or end outside is 4. Sections that share a range are each tested
+                                      with their own lanes and extent. No value depends on marks. */
 
 /* Elements a line: of a table of cubics (elev, bank, offset, tshift, extent, shape, cubic), of the others in `numbers`, and of those
  * in `words`. A table of one element a line is not listed. */

@@ -203,6 +203,7 @@ fn calls_on_anything() {
         (state >> 33) as usize % below
     };
     let (mut answered, mut refused) = (0, BTreeSet::new());
+    // So many, since a number that the road uses is seldom hit: among the first 300 none is refused 4.
     for _ in 0..1_000 {
         let (mut words, mut numbers) = (road.lent().words.to_vec(), road.lent().numbers.to_vec());
         for _ in 0..random(4) {

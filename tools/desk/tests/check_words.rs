@@ -334,17 +334,17 @@ fn marks_outside_their_limits() {
         ("1 1 0.0 1.0 0", "column kind", "kind 0: it is outside 1 to 255"),
         ("1 1 0.0 1.0 256", "column kind", "kind 256: it is outside 1 to 255"),
         ("1 1 0.0 1.0 -1", "column kind", "kind -1: it is outside 1 to 255"),
-    ] {
-        let place = format!("line 19, table mark, line 2 of its table, {place}");
-        let expected = format!("refused 4: a number is not finite or outside its limit\n  {place}\n  {reason}\n");
-        assert_eq!(marks(&["0 1 0.0 1.0 1", line]), expected);
-    }
-    for (line, place, reason) in [
         ("1 1 -1.0 1.0 1", "column start: -1 (bff0000000000000)", "it is not 0 or above"),
         ("1 1 7ff8000000000000 1.0 1", "column start: not a number (7ff8000000000000)", "it is not 0 or above"),
         ("1 1 2.0 1.0 1", "column end: 1 (3ff0000000000000)", "it is not at or past the mark's start, 2"),
         ("1 1 2.0 7ff8000000000000 1", "column end: not a number (7ff8000000000000)", "it is not at or past the mark's start, 2"),
         ("1 1 2.0 40.5 1", "column end: 40.5 (4044400000000000)", "it is past the section's end, 40 from its start"),
+        ("1 1 40.5 41.0 1", "column start: 40.5 (4044400000000000)", "it is past the section's end, 40 from its start"),
+        (
+            "1 1 7ff0000000000000 1.0 1",
+            "column start: infinity (7ff0000000000000)",
+            "it is past the section's end, 40 from its start",
+        ),
     ] {
         let place = format!("line 19, table mark, line 2 of its table (section 1), {place}");
         let expected = format!("refused 4: a number is not finite or outside its limit\n  {place}\n  {reason}\n");
@@ -461,16 +461,15 @@ fn lent_memory() {
             "words[1347] = 256: the first mark of section 0",
             "section 0 has 1 mark from line 256 on: past the 256 lines of table mark",
         ),
-        (
-            [0, 1, 1, 1],
-            "words[1379] = 1: the lane's place of mark 0 from 0",
-            "there is no such lane in section 0: there is only 0",
-        ),
+        ([0, 1, 1, 1], "words[1379] = 1: the lane's place of mark 0 from 0", "section 0 has 1 lane: places 0 to 0"),
     ] {
         marked(&mut words, change);
         let explained = explain_memory(&words, &numbers).unwrap();
         assert_eq!((explained.number, explained.place.as_str(), explained.reason.as_str()), (3, place, reason));
     }
+    marked(&mut words, [0, 1, 0, 1]);
+    words[72] = 0;
+    assert_eq!(explain_memory(&words, &numbers).unwrap().reason, "section 0 has no lanes");
     marked(&mut words, [0, 1, 0, 256]);
     let explained = explain_memory(&words, &numbers).unwrap();
     let kind = (4, "words[1380] = 256: the kind of mark 0 from 0", "it is outside 1 to 255");

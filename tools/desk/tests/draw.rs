@@ -124,17 +124,23 @@ fn marks_are_strokes_along_their_lanes_borders() {
     let svg = picture("marks.job", &sample("marks.job"), None).unwrap();
     let words = well_formed(&svg);
     for kind in [1, 2, 3] {
-        assert!(words.contains(&format!("mark of kind {kind}").as_str()), "{kind}");
+        assert!(words.contains(&format!("paint of kind {kind}").as_str()), "{kind}");
     }
     let [one, two, three] = ["paint p0", "paint p1", "paint p2"].map(|class| strokes(&svg, class));
-    // the legend's, the plan's; at 30 the marks on lanes 2 and -1 cover them, that of kind 1 does not
-    assert_eq!((one.len(), two.len(), three.len()), (1 + 3, 1 + 2 + 1, 1 + 2 + 1));
-    // Kind 1 on lane 1: 0 to 20, 40 to 60 and, in the next section, 60 to 100 of 100 m.
-    let spans: Vec<_> = one.iter().skip_while(|s| level_stroke(s).0 > 800.0).map(|s| level_stroke(s)).take(3).collect();
-    let metre = (spans[2].1 - spans[0].0) / 100.0;
-    let along = |x: f64| ((x - spans[0].0) / metre).round();
-    assert_eq!(spans.iter().map(|s| (along(s.0), along(s.1))).collect::<Vec<_>>(), [(0.0, 20.0), (40.0, 60.0), (60.0, 100.0)]);
-    assert!(spans.iter().all(|s| s.2 == spans[0].2));
+    // the plan's, then the legend's; at 30 the marks on lanes 2 and -1 cover them, that of kind 1 does not
+    assert_eq!((one.len(), two.len(), three.len()), (3 + 1, 2 + 1 + 1, 2 + 1 + 1));
+    // The reference line runs from 0 to 100 m: from there s, and t up the paper, to the nearest centimetre.
+    let (x0, x100, y0) = level_stroke(&strokes(&svg, "ref line")[0]);
+    let metre = (x100 - x0) / 100.0;
+    let placed = |stroke: &String| {
+        let (from, to, y) = level_stroke(stroke);
+        [(from - x0) / metre, (to - x0) / metre, (y0 - y) / metre].map(|m| (m * 100.0).round() / 100.0)
+    };
+    let plan = |strokes: &[String]| strokes.iter().map(placed).collect::<Vec<_>>();
+    // lanes 1, -1 and 2, which are 3.5, 3.5 and 2 wide, in the next section lane 2 is 3.25
+    assert_eq!(plan(&one[..3]), [[0.0, 20.0, 3.5], [40.0, 60.0, 3.5], [60.0, 100.0, 3.5]]);
+    assert_eq!(plan(&two[..2]), [[0.0, 60.0, -3.5], [60.0, 100.0, -3.5]]);
+    assert_eq!(plan(&three[..2]), [[15.0, 45.0, 5.5], [70.0, 90.0, 6.75]]);
     // at s 50 kind 1 covers lane 1 too
     assert_eq!(strokes(&picture("j", &sample("marks.job"), Some(50.0)).unwrap(), "paint p0").len(), 5);
 }
@@ -250,6 +256,64 @@ fn kinks_and_overruns_are_told() {
     assert!(words.contains(&"s 100: the arc before runs on for 10 m") && words.contains(&"Reference line, worth a look: 3"));
     // One ring at each end of the kink, none where s runs on, and the one of the legend.
     assert_eq!(svg.matches("<circle class=\"jump\"").count(), 3);
+}
+
+/// A job with marks on lane 1 of section 0: start, end, kind.
+fn painted(text: &Text, marks: &[(f64, f64, u16)]) -> String {
+    let job = String::from_utf8(text.written()).unwrap();
+    let lines: String = marks.iter().map(|(start, end, kind)| format!("0 1 {} {} {kind}\n", hex(*start), hex(*end))).collect();
+    let (before, wants) = job.split_at(job.find("want").unwrap_or(job.len()));
+    let job = format!("{before}mark section id start end kind\n{lines}\n{wants}");
+    picture("marks.job", job.as_bytes(), None).unwrap()
+}
+
+#[test]
+fn jumps_are_told_beside_many_kinds_and_wants() {
+    let second = (40.0, 40.0, 1.5, 0.0, 60.0, "line", 0.0);
+    let first = (0.0, 0.0, 0.0, 0.0, 40.0, "line", 0.0);
+    let lanes: &[(f64, &[f64], &[f64])] = &[(0.0, &[3.5], &[3.5])];
+    let text = Text { length: 100.0, geoms: &[first, second], sections: lanes, wants: &[(1.0, 2.0); 16] };
+    let kinds: Vec<(f64, f64, u16)> = (1..=8).map(|kind| (f64::from(kind), f64::from(kind) + 1.0, kind)).collect();
+    let svg = painted(&text, &kinds);
+    let words = well_formed(&svg);
+    assert!(words.contains(&"paint of kind 8") && words.contains(&"w15"));
+    assert!(words.contains(&"Reference line, worth a look: 1"));
+    // with fewer kinds there is room to say what it is
+    assert!(well_formed(&painted(&text, &kinds[..2])).contains(&"s 40: 1.500 m away"));
+}
+
+#[test]
+fn a_shorter_mark_lies_narrower_on_a_longer_one() {
+    let text = Text { length: 100.0, geoms: &[LINE], sections: &[(0.0, &[3.5], &[])], wants: &[] };
+    let svg = painted(&text, &[(20.0, 80.0, 2), (20.0, 100.0, 1), (30.0, 30.0, 9)]);
+    let words = well_formed(&svg);
+    assert!(words.contains(&"paint of kind 2") && !words.contains(&"paint of kind 9"));
+    // on the plan and across at 50; the legend's is not narrower
+    assert_eq!((strokes(&svg, "paint p0").len(), strokes(&svg, "paint p1 over").len()), (3, 2));
+    assert_eq!(strokes(&svg, "paint p1").len(), 1);
+    for panel in [&svg[..svg.find(">Legend<").unwrap()], &svg[svg.find(">Cross section").unwrap()..]] {
+        assert!(panel.find("\"paint p0\"") < panel.find("\"paint p1 over\""));
+    }
+}
+
+#[test]
+fn paint_lies_below_wants_and_above_its_border() {
+    let lanes: &[(f64, &[f64], &[f64])] = &[(0.0, &[3.5], &[3.5])];
+    let text = Text { length: 100.0, geoms: &[LINE], sections: lanes, wants: &[(50.0, 3.5)] };
+    let svg = painted(&text, &[(0.0, 100.0, 1)]);
+    let across = &svg[svg.find(">Cross section").unwrap()..];
+    let [border, paint, want] = ["\"border\"", "\"paint p0\"", "\"want\""].map(|class| across.find(class).unwrap());
+    assert!(border < paint && paint < want);
+    // the base twice and the two borders, each once
+    assert_eq!(strokes(across, "border").len(), 4);
+}
+
+#[test]
+fn a_plan_without_lanes_says_that_it_has_no_paint() {
+    let wound = (0.0, 0.0, 0.0, 0.0, 10_000.0, "arc", 1.0);
+    let text = Text { length: 10_000.0, geoms: &[wound], sections: &[(0.0, &[3.5], &[])], wants: &[] };
+    let said = |svg: &str, end: &str| well_formed(svg).iter().any(|w| w.starts_with("Curves too tight") && w.ends_with(end));
+    assert!(said(&text.drawn(), " m, no lanes.") && said(&painted(&text, &[(0.0, 1.0, 1)]), " m, no lanes, no paint."));
 }
 
 #[test]

@@ -79,16 +79,27 @@ fn unused(k: f64) -> Result<(), Limit> {
     check(k == 0.0, || Limit::Unused)
 }
 
-fn at_least(x: f64, low: f64) -> Result<(), Limit> {
-    check(low <= x, || Limit::AtLeast { low })
+/// A mark's start.
+fn span_start(start: f64) -> Result<(), Limit> {
+    check(0.0 <= start, || Limit::SpanStart)
 }
 
-fn not_past(x: f64, high: f64) -> Result<(), Limit> {
-    check(x <= high, || Limit::AtMost { high })
+fn span_end(end: f64, start: f64) -> Result<(), Limit> {
+    check(start <= end, || Limit::SpanEnd { start })
+}
+
+/// A mark's start or its end.
+fn span_within(x: f64, extent: f64) -> Result<(), Limit> {
+    check(x <= extent, || Limit::SpanPast { extent })
 }
 
 fn finite(x: f64) -> Result<(), Limit> {
     check(x.is_finite(), || Limit::Finite)
+}
+
+/// Where the words of a mark of a list stand: the place of its lane, then its kind.
+fn mark_words(marks: List, i: usize) -> usize {
+    MARK_WORDS.line(marks.first + i)
 }
 
 impl Lent<'_> {
@@ -154,11 +165,6 @@ impl Lent<'_> {
         (0..self.word(5)).map(move |i| (i, of(i)))
     }
 
-    /// Where the words of a mark of a list stand: the place of its lane, then its kind.
-    fn mark_words(&self, marks: List, i: usize) -> usize {
-        MARK_WORDS.line(marks.first + i)
-    }
-
     /// The shapes of each profile.
     fn shapes(&self) -> impl Iterator<Item = List> {
         (0..self.word(6)).map(move |i| self.list(Name::Shape, SHAPE, PROFILE_WORDS.line(i), Of::Profile(i)))
@@ -203,7 +209,7 @@ impl Lent<'_> {
         self.within(marks, 0, 16)?;
         let lanes = self.lanes_of(section).len();
         (0..marks.count)
-            .map(|i| self.mark_words(marks, i))
+            .map(|i| mark_words(marks, i))
             .try_for_each(|at| check(self.word(at) < lanes, || Wrong::new(self.word_at(at), Reason::NoLane { section, lanes })))
     }
 
@@ -271,14 +277,16 @@ impl Lent<'_> {
         self.marks().try_for_each(|(_, marks)| self.marks_ordered(marks))
     }
 
-    /// Of two marks on one lane the later starts no earlier, whatever stands between them.
+    /// A lane's starts never fall: each against the last before it on that lane, whatever stands between. A section has at most 12
+    /// lanes, and each mark is on one of them.
     fn marks_ordered(&self, marks: List) -> Tested {
-        let lane = |i: usize| self.word(self.mark_words(marks, i));
-        for later in 0..marks.count {
-            for earlier in (0..later).filter(|&i| lane(i) == lane(later)) {
-                let (a, b) = (self.column(marks, earlier, 0), self.column(marks, later, 0));
+        let mut last = [None; 12];
+        for i in 0..marks.count {
+            let lane = self.word(mark_words(marks, i));
+            if let Some(earlier) = last[lane].replace(i) {
+                let (a, b) = (self.column(marks, earlier, 0), self.column(marks, i, 0));
                 let order = Reason::MarkOrder { earlier: marks.first + earlier, before: a };
-                check(a <= b, || Wrong::new(self.number(marks, later, 0), order))?;
+                check(a <= b, || Wrong::new(self.number(marks, i, 0), order))?;
             }
         }
         Ok(())
@@ -315,13 +323,14 @@ impl Lent<'_> {
     /// A section's marks, each of a kind, its span in the section.
     fn marks_limited(&self, marks: List, extent: f64) -> Tested {
         for i in 0..marks.count {
-            let (kind, [start, end]) = (self.mark_words(marks, i) + 1, [0, 1].map(|k| self.column(marks, i, k)));
+            let (kind, [start, end]) = (mark_words(marks, i) + 1, [0, 1].map(|k| self.column(marks, i, k)));
             let (line, least, most) = (marks.first + i, 1, 255);
             let listed = least <= self.word(kind) && self.word(kind) <= most;
-            check(listed, || Wrong::new(self.word_at(kind), Reason::Kind { line, least, most }))?;
-            self.told(marks, i, 0, at_least(start, 0.0))?;
-            self.told(marks, i, 1, at_least(end, start))?;
-            self.told(marks, i, 1, not_past(end, extent))?;
+            check(listed, || Wrong::new(self.word_at(kind), Reason::Kind { list: marks, line, least, most }))?;
+            self.told(marks, i, 0, span_start(start))?;
+            self.told(marks, i, 0, span_within(start, extent))?;
+            self.told(marks, i, 1, span_end(end, start))?;
+            self.told(marks, i, 1, span_within(end, extent))?;
         }
         Ok(())
     }

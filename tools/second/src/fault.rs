@@ -168,8 +168,9 @@ pub enum Reason {
     },
     // ---- numbers
     Limit(Limit),
-    /// The kind of a mark, by its line of the table, from 0, is outside a range.
+    /// The kind of a mark of a list, by its line of the table, from 0, is outside a range.
     Kind {
+        list: List,
         line: usize,
         least: usize,
         most: usize,
@@ -247,11 +248,15 @@ pub enum Limit {
     /// A curvature that the kind does not use is not zero.
     Unused,
     Finite,
-    AtLeast {
-        low: f64,
+    /// A mark's start is not 0 or above.
+    SpanStart,
+    /// A mark's end is not at or past its start.
+    SpanEnd {
+        start: f64,
     },
-    AtMost {
-        high: f64,
+    /// A mark's start or end is past its section's extent.
+    SpanPast {
+        extent: f64,
     },
 }
 

@@ -371,8 +371,7 @@ fn sections(rng: &mut Rng, length: f64) -> Vec<Section> {
             };
             let (left, right) = (side(rng), side(rng));
             let (n, lanes) = (rng.from_to(marked.0, marked.1), left.len() + right.len());
-            let marks = if lanes > 0 { marks(rng, n, lanes, extent) } else { Vec::new() };
-            Section { start: at[i], left, right, marks }
+            Section { start: at[i], left, right, marks: marks(rng, n, lanes, extent) }
         })
         .collect()
 }
@@ -387,12 +386,15 @@ pub fn mark_anew(rng: &mut Rng, road: &mut Road) {
     let ends: Vec<f64> = road.sections.iter().skip(1).map(|s| s.start).chain([road.length]).collect();
     for (section, end) in road.sections.iter_mut().zip(ends) {
         let (n, lanes) = (rng.from_to(0, 16), section.left.len() + section.right.len());
-        section.marks = if lanes > 0 { marks(rng, n, lanes, end - section.start) } else { Vec::new() };
+        section.marks = marks(rng, n, lanes, end - section.start);
     }
 }
 
-/// So many marks on the lanes of a section, lanes in any order.
+/// So many marks on the lanes of a section, lanes in any order; none where there are no lanes.
 fn marks(rng: &mut Rng, n: usize, lanes: usize, extent: f64) -> Vec<Mark> {
+    if lanes == 0 {
+        return Vec::new();
+    }
     let on: Vec<usize> = (0..n).map(|_| rng.below(lanes)).collect();
     let mut at: Vec<Vec<f64>> =
         (0..lanes).map(|lane| mark_starts(rng, on.iter().filter(|&&k| k == lane).count(), extent)).collect();

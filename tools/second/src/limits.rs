@@ -105,12 +105,18 @@ fn line(rng: &mut Rng, (table, first, count): List) -> Option<usize> {
     (count > 0).then(|| table.line(first + rng.below(count)))
 }
 
+/// How many lanes a section has.
+fn lane_count(m: &Memory, section: usize) -> usize {
+    let at = SECTION_WORDS.line(section);
+    usize::from(m.words[at + 1]) + usize::from(m.words[at + 2])
+}
+
 /// A lane with its section, and its list of extents (2) or heights (4).
 fn lane_list(rng: &mut Rng, m: &Memory, table: Table, word: usize) -> Option<(usize, usize, List)> {
     let mut all = Vec::new();
     for section in 0..usize::from(m.words[5]) {
-        let [first, left, right] = [0, 1, 2].map(|k| usize::from(m.words[SECTION_WORDS.line(section) + k]));
-        for lane in first..first + left + right {
+        let first = usize::from(m.words[SECTION_WORDS.line(section)]);
+        for lane in first..first + lane_count(m, section) {
             let at = LANE_WORDS.line(lane) + word;
             let list = (table, usize::from(m.words[at]), usize::from(m.words[at + 1]));
             all.push((section, lane, list));
@@ -355,8 +361,8 @@ fn range(rng: &mut Rng, m: &mut Memory, at: usize, lines: usize, limit: usize) {
 }
 
 fn lanes(rng: &mut Rng, m: &mut Memory) -> bool {
-    let at = SECTION_WORDS.line(rng.below(usize::from(m.words[5])));
-    let count = usize::from(m.words[at + 1]) + usize::from(m.words[at + 2]);
+    let section = rng.below(usize::from(m.words[5]));
+    let (at, count) = (SECTION_WORDS.line(section), lane_count(m, section));
     match rng.below(5) {
         0 => m.words[at] = near_count(rng, LANE_WORDS.lines - count.min(192)),
         1 => m.words[at + rng.from_to(1, 2)] = near_count(rng, 6),
@@ -369,9 +375,9 @@ fn lanes(rng: &mut Rng, m: &mut Memory) -> bool {
 
 /// A lane of any section.
 fn any_lane(rng: &mut Rng, m: &Memory) -> Option<usize> {
-    let section = SECTION_WORDS.line(rng.below(usize::from(m.words[5])));
-    let n = usize::from(m.words[section + 1]) + usize::from(m.words[section + 2]);
-    (n > 0).then(|| LANE_WORDS.line(usize::from(m.words[section]) + rng.below(n)))
+    let section = rng.below(usize::from(m.words[5]));
+    let (first, n) = (usize::from(m.words[SECTION_WORDS.line(section)]), lane_count(m, section));
+    (n > 0).then(|| LANE_WORDS.line(first + rng.below(n)))
 }
 
 fn lane_codes(rng: &mut Rng, m: &mut Memory) -> bool {
@@ -470,11 +476,10 @@ fn mark_kind(rng: &mut Rng, m: &mut Memory) -> bool {
     true
 }
 
-/// A mark on the last lane of its section, or on the next, which is not there.
+/// A mark on any lane of its section, or on a place around their count: the last lane, the next, which is not there, or far past.
 fn mark_lane(rng: &mut Rng, m: &mut Memory) -> bool {
     let Some((section, line)) = any_mark(rng, m) else { return false };
-    let at = SECTION_WORDS.line(section);
-    let lanes = usize::from(m.words[at + 1]) + usize::from(m.words[at + 2]);
+    let lanes = lane_count(m, section);
     m.words[MARK_WORDS.line(line)] = if rng.one_in(2) { rng.below(lanes) as u16 } else { near_count(rng, lanes) };
     true
 }
@@ -512,8 +517,7 @@ fn mark_order(rng: &mut Rng, m: &mut Memory) -> bool {
 /// A section with as many marks as it may have, or one more, all in order and within their limits.
 fn full_marks(rng: &mut Rng, m: &mut Memory) -> bool {
     let section = rng.below(usize::from(m.words[5]));
-    let at = SECTION_WORDS.line(section);
-    let (lanes, n) = (usize::from(m.words[at + 1]) + usize::from(m.words[at + 2]), 16 + rng.below(2));
+    let (lanes, n) = (lane_count(m, section), 16 + rng.below(2));
     if lanes == 0 {
         return false;
     }

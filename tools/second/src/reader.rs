@@ -209,8 +209,8 @@ struct Columns {
     order: [usize; CELLS],
 }
 
-/// A line's values by the columns' order in 01: the bits of a number, a whole number in two's complement, the place of a word in
-/// its list.
+/// A line's values by the columns' order in 01 and 02: the bits of a number, a whole number in two's complement, the place of a
+/// word in its list.
 type Values = [u64; CELLS];
 
 /// What is left of the text. Each method takes what it names from the front. Where they cannot, `names` and `values` leave the rest

@@ -1,4 +1,4 @@
-// Job texts: roads as the tables of documents 01 and 02, and texts damaged in every way that its form and limits can tell.
+// Job texts: roads as the tables of documents 01 and 02, and texts damaged in every way that their form and limits can tell.
 use crate::admission::spiral_samples;
 use crate::generate;
 use crate::model::*;
@@ -583,7 +583,7 @@ fn over_limit(rng: &mut Rng, job: &Job) -> Vec<Edit> {
 
 /// Kinds around their limits, and cells that are none.
 const KINDS: &[&str] = &["0", "1", "255", "256", "-1", "9999", "-9999", "01", "-0", "10000", "257", "512"];
-/// Ids that few sections have.
+/// Ids, most of them in few sections.
 const IDS: &[&str] = &["0", "7", "-7", "1", "-1", "6", "-6", "2", "-2", "9999"];
 
 /// A line of the table of marks.

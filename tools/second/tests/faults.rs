@@ -18,8 +18,9 @@ fn breaks(limit: Limit, x: f64) -> bool {
         Limit::Arc { line, low, high } => x.is_nan() || x.abs() > line && (x.abs() < low || x.abs() > high),
         Limit::Unused => x.is_nan() || x < 0.0 || x > 0.0,
         Limit::Finite => x.is_nan() || x.is_infinite(),
-        Limit::AtLeast { low } => x.is_nan() || low.is_nan() || x < low,
-        Limit::AtMost { high } => x.is_nan() || high.is_nan() || x > high,
+        Limit::SpanStart => x.is_nan() || x < 0.0,
+        Limit::SpanEnd { start } => x.is_nan() || x < start,
+        Limit::SpanPast { extent } => x > extent,
     }
 }
 

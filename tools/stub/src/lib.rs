@@ -116,7 +116,7 @@ fn marked_wrongly(wrong: &Fault, words: &[u16]) -> Option<u32> {
         }
         (_, Reason::NoLane { .. }) => fault("mark lane").then_some(0),
         (_, Reason::Kind { .. }) => fault("mark kind").then_some(3),
-        (_, Reason::Limit(Limit::AtMost { .. })) => fault("mark extent").then_some(0),
+        (_, Reason::Limit(Limit::SpanPast { .. })) => fault("mark extent").then_some(0),
         _ => None,
     }
 }

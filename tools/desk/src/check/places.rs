@@ -25,7 +25,9 @@ pub fn of(fault: &Fault) -> String {
         (Place::Line { line, .. }, Reason::Measure(measured)) => cubic(tables, line, measured),
         (_, Reason::Side { line: lane, .. }) if tables.is_some() => line(tables, Name::Lane, *lane),
         (_, Reason::Lines { list, most, .. }) if tables.is_some() => list_line(tables, *list, *most),
-        (_, Reason::Kind { line: mark, .. }) if tables.is_some() => format!("{}, column kind", line(tables, Name::Mark, *mark)),
+        (_, Reason::Kind { list, line: mark, .. }) if tables.is_some() => {
+            format!("{}{}, column kind", line(tables, Name::Mark, *mark), owned(*list))
+        }
         (Place::Line { table, line: i }, _) => line(tables, table, i),
         (Place::Number { list, line, column, value }, _) => number(tables, list, line, column, value),
         (Place::Word { at, value }, _) => format!("words[{at}] = {value}: {}", word(at)),

@@ -33,13 +33,16 @@ pub fn of(fault: &Fault, text: &[u8]) -> String {
                 counted(*lanes, "lane", "lanes")
             )
         }
-        Reason::NoLane { section, lanes } => format!("there is no such lane in section {section}: {}", up_to(*lanes)),
+        Reason::NoLane { section, lanes: 0 } => format!("section {section} has no lanes"),
+        Reason::NoLane { section, lanes } => {
+            format!("section {section} has {}: places 0 to {}", counted(*lanes, "lane", "lanes"), lanes - 1)
+        }
         Reason::Lines { list, least, most } => lines(*list, *least, *most),
         Reason::FirstStart => "the first start must be 0".into(),
         Reason::Order { order, before } => out_of_order(fault, *order, *before),
         Reason::MarkOrder { earlier, before } => mark_order(fault, *earlier, *before),
         Reason::Limit(limit) => outside(fault, *limit),
-        Reason::Kind { line, least, most } => mark_kind(fault, text, *line, *least, *most),
+        Reason::Kind { line, least, most, .. } => mark_kind(fault, text, *line, *least, *most),
         Reason::Measure(measured) => measure(measured),
         Reason::Terms { of, terms, sum, most } => strip_terms(tables, *of, terms, *sum, *most),
         Reason::Samples { spirals, most, .. } => samples(tables, spirals, *most),
@@ -124,7 +127,7 @@ fn out_of_order(fault: &Fault, order: Order, before: f64) -> String {
     let Place::Number { list, line, value, .. } = fault.place() else { return String::new() };
     let previous = format!("{} of {}", with_digits(before), other_line(fault.tables.as_deref(), list.name, line - 1));
     match order {
-        _ if before.is_nan() || value.is_nan() => format!("it is compared with {previous}, and one of the two is not a number"),
+        _ if before.is_nan() || value.is_nan() => no_number(&previous),
         Order::Rises => format!("it is not above {previous}: sections rise strictly"),
         Order::NeverFalls => format!("it is below {previous}: starts never fall"),
         Order::Apart => format!("it is {} past {previous}: at least 0.001 is needed", decimal(value - before)),
@@ -137,9 +140,14 @@ fn mark_order(fault: &Fault, earlier: usize, before: f64) -> String {
     let previous =
         format!("{} of {}, on the same lane", with_digits(before), other_line(fault.tables.as_deref(), list.name, earlier));
     if before.is_nan() || value.is_nan() {
-        return format!("it is compared with {previous}, and one of the two is not a number");
+        return no_number(&previous);
     }
     format!("it is below {previous}: a lane's starts never fall")
+}
+
+/// A start against another, where one of them is a NaN.
+fn no_number(previous: &str) -> String {
+    format!("it is compared with {previous}, and one of the two is not a number")
 }
 
 // ---- row 4
@@ -150,16 +158,6 @@ fn mark_kind(fault: &Fault, text: &[u8], line: usize, least: usize, most: usize)
     let Some(tables) = fault.tables.as_deref() else { return outside };
     let cell = cells(text, tables.line(Name::Mark, 0) - 1, tables.line(Name::Mark, line), &["kind"]);
     format!("{cell}: {outside}")
-}
-
-/// What a mark's start or end is held against.
-fn span_limit(column: usize, limit: Limit) -> String {
-    match limit {
-        Limit::AtLeast { low } if column == 1 => format!("it is not at or past the mark's start, {}", decimal(low)),
-        Limit::AtLeast { low } => format!("it is not {} or above", decimal(low)),
-        Limit::AtMost { high } => format!("it is past the section's end, {} from its start", decimal(high)),
-        _ => String::new(),
-    }
 }
 
 fn outside(fault: &Fault, limit: Limit) -> String {
@@ -179,7 +177,9 @@ fn outside(fault: &Fault, limit: Limit) -> String {
         ),
         Limit::Unused => "the geometry's kind does not use it, so it must be zero".into(),
         Limit::Finite => "it is not finite".into(),
-        Limit::AtLeast { .. } | Limit::AtMost { .. } => span_limit(column, limit),
+        Limit::SpanStart => "it is not 0 or above".into(),
+        Limit::SpanEnd { start } => format!("it is not at or past the mark's start, {}", decimal(start)),
+        Limit::SpanPast { extent } => format!("it is past the section's end, {} from its start", decimal(extent)),
     }
 }
 

@@ -1,4 +1,6 @@
 //! The cross section: the surface's height over t, as seen along the road, so that left is left.
+use second::model::Mark;
+
 use super::graph::Graph;
 use super::labels::{Labels, Look, around, size_of};
 use super::lines::{SEEN, simplified};
@@ -33,7 +35,7 @@ const EXAGGERATIONS: [f64; 7] = [1.0, 2.0, 5.0, 10.0, 20.0, 50.0, 100.0];
 /// Heights that differ by less than this are flat, not worth any.
 const FLAT: f64 = 0.001;
 
-/// How high a mark stands.
+/// How high paint stands.
 const PAINTED: f64 = 9.0;
 
 const HEIGHT: Look = Look { class: "small halo", size: SMALL };
@@ -106,19 +108,19 @@ impl Across<'_> {
     }
 
     fn names(&self, svg: &mut Svg, graph: &Graph, sides: &Sides, ends: (f64, f64), mut labels: Labels) {
+        let painted = self.paint(svg, graph, &mut labels);
         self.wanted(svg, graph, &mut labels);
         lane_ids(svg, graph, sides, &mut labels);
         self.reference(svg, graph, sides, &mut labels);
-        let mut marked: Vec<f64> = sides.both().collect();
-        marked.iter().for_each(|t| graph.upright(svg, "border", *t));
-        self.marks(svg, graph, &mut labels);
-        if marked.is_empty() {
-            marked = vec![0.0, ends.0 + BESIDE, ends.1 - BESIDE];
+        let mut places: Vec<f64> = sides.both().collect();
+        places.iter().filter(|t| !painted.contains(t)).for_each(|t| graph.upright(svg, "border", *t));
+        if places.is_empty() {
+            places = vec![0.0, ends.0 + BESIDE, ends.1 - BESIDE];
         }
-        marked.sort_by(f64::total_cmp);
-        marked.dedup();
-        let words: Vec<String> = marked.iter().map(|t| self.height_words(*t)).collect();
-        for (i, t) in marked.into_iter().enumerate().filter(|(i, _)| says_more(&words, *i)) {
+        places.sort_by(f64::total_cmp);
+        places.dedup();
+        let words: Vec<String> = places.iter().map(|t| self.height_words(*t)).collect();
+        for (i, t) in places.into_iter().enumerate().filter(|(i, _)| says_more(&words, *i)) {
             self.label_height(svg, graph, t, &words[i], &mut labels);
         }
     }
@@ -149,23 +151,28 @@ impl Across<'_> {
         }
     }
 
-    /// The marks that cover their lane here, upright on its outer border.
-    fn marks(&self, svg: &mut Svg, graph: &Graph, labels: &mut Labels) {
+    /// The marks that cover their lane here, upright on its outer border, which is drawn below them; to the t of those borders.
+    fn paint(&self, svg: &mut Svg, graph: &Graph, labels: &mut Labels) -> Vec<f64> {
         let section = &self.subject.model.sections[self.subject.section(self.at)];
-        for mark in section.marks.iter().filter(|mark| mark.covers(self.at - section.start)) {
-            let Some(t) = paint::outer_at(self.subject, section, mark.lane, self.at) else { continue };
+        let layers = paint::layers(section.marks.iter().filter(|mark| mark.covers(self.at - section.start)));
+        let border = |mark: &Mark| paint::outer_at(self.subject, section, mark.lane, self.at);
+        let painted: Vec<f64> = layers.iter().filter_map(|(mark, _)| border(mark)).collect();
+        painted.iter().for_each(|t| graph.upright(svg, "border", *t));
+        for (mark, over) in layers {
+            let Some(t) = border(mark) else { continue };
             let foot = graph.paper(Point::new(t, self.height(t)));
-            svg.line(self.subject.paint.class(mark.kind), foot, foot.moved(0.0, -PAINTED));
+            svg.line(&format!("{}{over}", self.subject.paint.class(mark.kind)), foot, foot.moved(0.0, -PAINTED));
             labels.take(Rect::around(foot.moved(0.0, -PAINTED / 2.0), 4.0, PAINTED));
         }
+        painted
     }
 
     /// Where t is 0, and the base where that is elsewhere.
     fn reference(&self, svg: &mut Svg, graph: &Graph, sides: &Sides, labels: &mut Labels) {
         let base = sides.base();
         let one = base.is_some_and(|b| graph.x(b) - graph.x(0.0) < 1.0 && graph.x(0.0) - graph.x(b) < 1.0);
-        let marks = [(Some(0.0), if one { "base, t 0" } else { "t 0" }), (base.filter(|_| !one), "base")];
-        for (t, words) in marks {
+        let feet = [(Some(0.0), if one { "base, t 0" } else { "t 0" }), (base.filter(|_| !one), "base")];
+        for (t, words) in feet {
             let Some(t) = t else { continue };
             let foot = Point::new(graph.x(t), graph.y(self.height(t)) + 2.0);
             svg.area("dark", &[foot, foot.moved(4.0, 8.0), foot.moved(-4.0, 8.0)]);

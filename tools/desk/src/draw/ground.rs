@@ -1,4 +1,4 @@
-//! The road in a view: lanes, base, marks, reference line, and where sections and geometries start.
+//! The road in a view: lanes, base, paint, reference line, and where sections and geometries start.
 use second::model::Shape;
 
 use super::jumps::{self, Jump};
@@ -10,9 +10,9 @@ use super::subject::Subject;
 use super::svg::Svg;
 use super::view::View;
 
-/// How far marks reach past the road, or from the reference line where there are no lanes.
+/// How far lines across it reach past the road, or from the reference line where there are no lanes.
 pub const PAST: f64 = 7.0;
-const MARK: f64 = 4.0;
+const TICK: f64 = 4.0;
 
 const DOT: f64 = 2.3;
 const RING: f64 = 5.0;
@@ -81,11 +81,11 @@ impl Ground<'_> {
         Crossing { left: end(left, past), right: end(right, -past), leftward }
     }
 
-    /// A short mark across the reference line.
-    pub fn mark(&self, svg: &mut Svg, s: f64) {
+    /// A tick across the reference line.
+    pub fn tick(&self, svg: &mut Svg, s: f64) {
         let station = self.subject.station(s);
         let (at, leftward) = (self.view.paper(Point::new(station.x, station.y)), leftward(station.heading));
-        svg.line("mark", at.toward(leftward, MARK), at.toward(leftward, -MARK));
+        svg.line("mark", at.toward(leftward, TICK), at.toward(leftward, -TICK));
     }
 
     pub fn on_paper(&self, line: &[Point]) -> Vec<Point> {

@@ -22,7 +22,7 @@ pub const LEGIBLE: f64 = 9.0;
 const FAR: f64 = 8.0;
 /// Marked distances are about this far apart on the paper, and no more than that many.
 const APART: f64 = 60.0;
-const MOST_MARKS: f64 = 25.0;
+const MOST_TICKS: f64 = 25.0;
 const TICK: f64 = 3.0;
 
 /// The parts of a section at which its lane ids are tried.
@@ -134,11 +134,11 @@ impl Names<'_> {
 
     fn distances(&mut self, svg: &mut Svg) {
         let Some((from, to)) = self.ground.sampled.ends() else { return };
-        let most = ((to - from) * self.ground.view.scale / APART).clamp(1.0, MOST_MARKS);
+        let most = ((to - from) * self.ground.view.scale / APART).clamp(1.0, MOST_TICKS);
         let ticks = ticks(from, to, most as usize);
         for s in ticks.values.iter().filter(|s| (from..=to).contains(*s)) {
             let line = self.ground.crossing(*s, 0.0);
-            self.ground.mark(svg, *s);
+            self.ground.tick(svg, *s);
             let words = ticks.text(*s);
             let size = size_of(&words, DISTANCE.size);
             let back = Point::new(-line.leftward.x, -line.leftward.y);

@@ -1,24 +1,26 @@
-//! Marks: strokes along the outer border of their lane, coloured by kind.
+//! Marks: strokes of paint along the outer border of their lane, coloured by kind.
 use second::model::{Mark, Road, Section};
 
 use super::ground::Ground;
 use super::lines::joined;
 use super::plane::Point;
 use super::sampled::Piece;
-use super::style::PAINTS;
+use super::style::{OVER, PAINTS};
 use super::subject::Subject;
 use super::svg::Svg;
 
-/// The kinds that a road's marks have, in order: the first has the first colour, and colours come again after the last.
+/// The kinds that a road's marks have which cover something, in order: the first has the first colour, and colours come again after
+/// the last.
 #[derive(Debug, Clone, PartialEq)]
 pub struct Paint(Vec<u16>);
 
 /// Most kinds that the legend names for one colour.
-const MOST: usize = 4;
+const MOST: usize = 2;
 
 impl Paint {
     pub fn of(road: &Road) -> Self {
-        let mut kinds: Vec<u16> = road.sections.iter().flat_map(|section| &section.marks).map(|mark| mark.kind).collect();
+        let marks = road.sections.iter().flat_map(|section| &section.marks).filter(|mark| mark.start < mark.end);
+        let mut kinds: Vec<u16> = marks.map(|mark| mark.kind).collect();
         kinds.sort_unstable();
         kinds.dedup();
         Self(kinds)
@@ -40,10 +42,23 @@ impl Paint {
     }
 }
 
+/// In few words, since two entries stand in a row.
 fn named(kinds: &[u16]) -> String {
+    if let [kind] = kinds {
+        return format!("paint of kind {kind}");
+    }
     let list = kinds.iter().take(MOST).map(u16::to_string).collect::<Vec<_>>().join(", ");
     let more = if kinds.len() > MOST { ", .." } else { "" };
-    format!("mark of kind {list}{more}")
+    format!("paint {list}{more}")
+}
+
+/// Marks that cover something, the longest first, so that a shorter one lies on top; with each the class that `OVER` adds to it.
+pub fn layers<'a>(marks: impl Iterator<Item = &'a Mark>) -> Vec<(&'a Mark, &'static str)> {
+    let mut marks: Vec<&Mark> = marks.filter(|mark| mark.start < mark.end).collect();
+    marks.sort_by(|a, b| (b.end - b.start).total_cmp(&(a.end - a.start)));
+    let meet = |a: &Mark, b: &Mark| a.lane == b.lane && a.start < b.end && b.start < a.end;
+    let below = |i: usize| marks[..i].iter().filter(|mark| meet(mark, marks[i])).count();
+    (0..marks.len()).map(|i| (marks[i], OVER[below(i).min(OVER.len() - 1)])).collect()
 }
 
 /// The outer border of a lane, by its place among those of its section: of what each side has at its base and at its lanes' borders.
@@ -63,10 +78,10 @@ impl Ground<'_> {
     pub fn paint(&self, svg: &mut Svg, jump: f64) {
         for pieces in self.sampled.pieces.chunk_by(|a, b| a.section == b.section) {
             let section = &self.subject.model.sections[pieces[0].section];
-            for mark in &section.marks {
+            for (mark, over) in layers(section.marks.iter()) {
                 let runs = pieces.iter().map(|piece| self.painted(piece, section, mark));
                 let lines: Vec<Vec<Point>> = joined(runs, jump).iter().map(|line| self.on_paper(line)).collect();
-                svg.lines(self.subject.paint.class(mark.kind), &lines);
+                svg.lines(&format!("{}{over}", self.subject.paint.class(mark.kind)), &lines);
             }
         }
     }
@@ -101,8 +116,25 @@ mod tests {
         assert_eq!(paint, Paint(vec![1, 3, 255]));
         assert_eq!([1, 3, 255].map(|kind| paint.class(kind)), [PAINTS[0], PAINTS[1], PAINTS[2]]);
         let words: Vec<String> = paint.legend().into_iter().map(|(_, words)| words).collect();
-        assert_eq!(words, ["mark of kind 1", "mark of kind 3", "mark of kind 255"]);
+        assert_eq!(words, ["paint of kind 1", "paint of kind 3", "paint of kind 255"]);
         assert!(Paint::of(&road(&[])).is_none());
+    }
+
+    #[test]
+    fn a_mark_that_covers_nothing_is_no_paint() {
+        let mut road = road(&[1, 3]);
+        road.sections[0].marks[0].start = 1.0;
+        assert_eq!(Paint::of(&road), Paint(vec![3]));
+        assert_eq!(layers(road.sections[0].marks.iter()), [(&road.sections[0].marks[1], "")]);
+    }
+
+    #[test]
+    fn shorter_marks_lie_on_longer_ones() {
+        let mark = |lane, start, end| Mark { lane, kind: 1, start, end };
+        let marks = [mark(0, 0.0, 2.0), mark(0, 1.0, 9.0), mark(1, 0.0, 5.0), mark(0, 1.0, 9.0), mark(0, 9.0, 10.0)];
+        let [short, long, other, again, past] = &marks;
+        let expected = [(long, ""), (again, " over"), (other, ""), (short, " top"), (past, "")];
+        assert_eq!(layers(marks.iter()), expected);
     }
 
     #[test]
@@ -111,6 +143,6 @@ mod tests {
         assert_eq!((paint.class(1), paint.class(8)), (PAINTS[0], PAINTS[7]));
         assert_eq!(paint.class(9), PAINTS[0]);
         let legend = paint.legend();
-        assert_eq!((legend.len(), legend[0].1.as_str()), (8, "mark of kind 1, 9, 17, 25, .."));
+        assert_eq!((legend.len(), legend[0].1.as_str()), (8, "paint 1, 9, .."));
     }
 }

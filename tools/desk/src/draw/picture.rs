@@ -62,7 +62,7 @@ pub fn draw(subject: &Subject, at: f64, progress: &mut Progress) -> String {
     column.legend();
     column.paint(&subject.paint);
     column.wants(&wants, if subject.length() < 1.0 { 5 } else { 3 });
-    column.notes(&jumps, sampled.coarse);
+    column.notes(&jumps, sampled.coarse, &subject.paint);
     profile::draw(&mut svg, PROFILE, subject, &sampled, at);
     let detail = scene.legible(DETAIL, view.scale);
     Across { subject, wants: &wants, at }.draw(&mut svg, if detail.is_some() { ACROSS_NARROW } else { ACROSS });

@@ -18,10 +18,14 @@ pub const SMALL: f64 = 10.0;
 /// The classes of the reference line by kind: line, arc, spiral.
 pub const KINDS: [&str; 3] = ["ref line", "ref arc", "ref spiral"];
 
-/// The classes of marks, by the order of their kinds, and their look, which a picture without marks does not have.
+/// The classes of paint, by the order of its kinds, what is added where it lies on other paint, and their look, which a picture
+/// without paint does not have.
 pub const PAINTS: [&str; 8] = ["paint p0", "paint p1", "paint p2", "paint p3", "paint p4", "paint p5", "paint p6", "paint p7"];
+pub const OVER: [&str; 3] = ["", " over", " top"];
 pub const PAINT_STYLE: &str = "\
 .paint{stroke-width:3.4}\
+.over{stroke-width:2.2}\
+.top{stroke-width:1.1}\
 .p0{stroke:#b8860b}\
 .p1{stroke:#00838f}\
 .p2{stroke:#d81b60}\

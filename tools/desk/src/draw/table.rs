@@ -73,7 +73,7 @@ impl Column<'_> {
         self.down = top + 6.0 * ROW + 8.0;
     }
 
-    /// The colours of marks, two a row, below the rest of the legend.
+    /// The colours of paint, two a row, below the rest of the legend.
     pub fn paint(&mut self, paint: &Paint) {
         for pair in paint.legend().chunks(2) {
             let at = self.row();
@@ -138,21 +138,28 @@ impl Column<'_> {
     }
 
     /// As many jumps as there is room for, and what else was found.
-    pub fn notes(&mut self, jumps: &[Jump], coarse: Option<f64>) {
+    pub fn notes(&mut self, jumps: &[Jump], coarse: Option<f64>, paint: &Paint) {
         if let Some(step) = coarse {
             let at = self.row();
+            let without = if paint.is_none() { "no lanes" } else { "no lanes, no paint" };
             self.svg.words(
                 "small bad",
                 Anchor::Start,
                 at,
-                &format!("Curves too tight for this plan: dots every {} m, no lanes.", short(step)),
+                &format!("Curves too tight for this plan: dots every {} m, {without}.", short(step)),
             );
-            self.down += 6.0;
+            self.down += if self.rows_left() < 3 { 0.0 } else { 6.0 };
         }
-        if jumps.is_empty() || self.rows_left() < 3 {
+        if jumps.is_empty() {
             return;
         }
-        self.heading(&format!("Reference line, worth a look: {}", jumps.len()));
+        let found = format!("Reference line, worth a look: {}", jumps.len());
+        if self.rows_left() < 3 {
+            let at = self.row();
+            self.svg.words("small", Anchor::Start, at, &found);
+            return;
+        }
+        self.heading(&found);
         let room = self.rows_left();
         let shown = if jumps.len() > room { room.saturating_sub(1) } else { jumps.len() };
         for jump in &jumps[..shown] {
@@ -180,7 +187,20 @@ fn refused(number: u32, want: &Want, cells: &[String]) -> String {
 #[cfg(test)]
 mod tests {
     use super::*;
+    use crate::draw::labels;
     use riftkettle::Refusal;
+    use second::model::{Mark, Road, Section};
+
+    #[test]
+    fn two_entries_of_paint_fit_in_a_row() {
+        for kinds in [200..=207, 200..=255] {
+            let marks = kinds.map(|kind| Mark { lane: 0, kind, start: 0.0, end: 1.0 }).collect();
+            let road = Road { sections: vec![Section { marks, ..Section::default() }], ..Road::default() };
+            for (_, words) in Paint::of(&road).legend() {
+                assert!(labels::width(&words, style::LABEL) <= ENDS[4] / 2.0 - WORDS, "{words}");
+            }
+        }
+    }
 
     #[test]
     fn a_refused_number_is_not_hidden_by_rounding() {

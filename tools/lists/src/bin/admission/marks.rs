@@ -1,6 +1,6 @@
 // Document 02, point 2: marks in lent memory. Cases change `roads::marked`.
 use crate::Change::{self, Number, Word};
-use crate::{List, SAMPLES, roads};
+use crate::{List, roads};
 use second::model::*;
 
 const TINY: f64 = 5e-324;
@@ -230,12 +230,13 @@ fn order_of_rows(list: &mut List) {
         list.case("02, point 2: 3 before 4", &[t, Number(0, NAN)], 3);
         list.case("02, point 2: 3 before 4", &[t, four[0]], 3);
         list.case("02, point 2: 3 before 5", &[five[0], five[1], t], 3);
-        list.samples("02, point 2: 3 before 6", &[t], 0, Err(3));
+        list.samples("02, point 2: 3 before 6", &[five[0], t], 0, Err(3));
     }
     for f in four {
         list.case("02, point 2: 4 before 5", &[five[0], five[1], f], 4);
         list.case("02, point 2: 3 of a section before it", &[Number(SECTION.line(1), 0.0), f], 3);
-        list.samples("02, point 2: 4 before 6", &[f], SAMPLES, Err(4));
+        list.samples("02, point 2: 4 before 6", &[five[0], f], 0, Err(4));
     }
     list.case("02, point 2: 5 with marks", &five, 5);
+    list.samples("02, point 2: 6 with marks", &[five[0]], 0, Err(6));
 }
