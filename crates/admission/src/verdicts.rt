@@ -1,7 +1,7 @@
 // What admission says of a road.
 use refusals::Refusal;
 
-#[derive(Drop)]
+#[derive(Clone, Copy)]
 pub enum Verdict {
     Admitted,
     Refused(Refusal),

@@ -1,4 +1,6 @@
 // Row 4: sections and lanes.
+#![tactic(auto)]
+
 mod sections;
 
 pub use sections::{section_extent, sections_limited};

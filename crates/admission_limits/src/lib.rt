@@ -1,4 +1,6 @@
 // Row 4: the limits of geometries, of what runs along the road, and of the whole road.
+#![tactic(auto)]
+
 mod geometries;
 mod limits;
 

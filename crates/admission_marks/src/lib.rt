@@ -1,4 +1,6 @@
 // Row 4: mark spans.
+#![tactic(auto)]
+
 mod marks;
 
 pub use marks::marks_limited;

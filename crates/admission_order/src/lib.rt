@@ -1,4 +1,6 @@
 // Row 3, by the numbers: order.
+#![tactic(auto)]
+
 mod marks;
 mod order;
 

@@ -1,4 +1,6 @@
 // Row 3, by the words: counts, codes and ranges.
+#![tactic(auto)]
+
 mod marks;
 mod structure;
 

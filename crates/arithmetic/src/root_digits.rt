@@ -6,7 +6,7 @@ ghost use Rattle.arithmetic.specs.RootSteps.{RootOf};
 use crate::bits::power;
 
 // The digits of a root so far, and what is left of the number under it.
-#[derive(Drop)]
+#[derive(Clone, Copy)]
 pub(crate) struct Partial {
     pub(crate) root: u64,
     pub(crate) rem: u64,

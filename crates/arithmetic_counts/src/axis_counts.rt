@@ -12,7 +12,7 @@ const GREATEST_COUNTED: f64 = 80.0;
 
 const COUNTS_PER_METRE: f64 = 10000.0;
 
-#[derive(Drop)]
+#[derive(Clone, Copy)]
 pub enum Counted {
     Count(i64),
     Refused(Refusal),

@@ -1,4 +1,6 @@
 // Axis counts: a length in metres as whole tenths of a millimetre.
+#![tactic(auto)]
+
 mod axis_counts;
 
 pub use axis_counts::{Counted, counts};

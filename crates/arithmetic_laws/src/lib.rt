@@ -1,1 +1,2 @@
 // Laws of sine, cosine and tangent: sizes and examples.
+#![tactic(auto)]

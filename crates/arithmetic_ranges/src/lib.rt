@@ -1,4 +1,6 @@
 // Sizes and ranges of numbers, the lesser of two, and differences that stop at 0.
+#![tactic(auto)]
+
 mod ranges;
 mod wholes;
 

@@ -15,7 +15,7 @@ const TWICE_WHOLE: f64 = 9007199254740992.0;
 const MIDDLE: f64 = 6755399441055744.0;
 
 // The greatest whole number that is at most some x, and that number mod 4.
-#[derive(Drop)]
+#[derive(Clone, Copy)]
 pub(crate) struct WholePart {
     pub n: f64,
     pub quarter: u64,

@@ -14,7 +14,7 @@ const P: f64 = 1.5707963267341256;
 
 const Q: f64 = 6.077100506506192e-11;
 
-#[derive(Drop)]
+#[derive(Clone, Copy)]
 pub struct SinCos {
     pub sin: f64,
     pub cos: f64,

@@ -1,4 +1,6 @@
 // Places and displacements in three f32, as src/coords.rs has them, and the points of a lent slice.
+#![tactic(auto)]
+
 mod points;
 mod vectors;
 

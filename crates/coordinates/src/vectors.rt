@@ -9,7 +9,7 @@ use records::Point;
 const LARGEST: f32 = 340282346638528859811704183484516925440.0;
 
 // A displacement between places, or a direction: metres, or a number where it is a direction.
-#[derive(Drop)]
+#[derive(Clone, Copy)]
 pub struct Vector {
     pub x: f32,
     pub y: f32,

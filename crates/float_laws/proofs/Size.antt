@@ -193,17 +193,19 @@ nn (inf s) = not s
 nn (fin true m e) = eqb m 0
 nn (fin false m e) = true
 
+pick-sign : (f : Format) (b : Bool) (q k : ℕ) → sign (cond b (odd (suc (prec f)) false q k (low f)) (inf false)) ≡ false
+unfolding odd
+pick-sign f true zero k = refl
+pick-sign f true (suc q) k = refl
+pick-sign f false q k = refl
+
+units-sign : (f : Format) (q k : ℕ) → sign (units f false q k) ≡ false
+unfolding units
+units-sign f q k = pick-sign f (ltb (q * 2 ^ k) (overflow f)) q k
+
 nn-round⁺ : (f : Format) (a c : ℕ) → T (nn (round f false a c))
-nn-round⁺ f a c = go (round f false a c) (ap sign (round_is f false a c) ∙ units-sign (kept (prec f) (a * 2 ^ low f) c) (drop (prec f) (a * 2 ^ low f) c))
+nn-round⁺ f a c = go (round f false a c) (ap sign (round_is f false a c) ∙ units-sign f (kept (prec f) (a * 2 ^ low f) c) (drop (prec f) (a * 2 ^ low f) c))
   where
-    pick-sign : (b : Bool) (q k : ℕ) → sign (cond b (odd (suc (prec f)) false q k (low f)) (inf false)) ≡ false
-    pick-sign true zero k = unfold odd in refl
-    pick-sign true (suc q) k = unfold odd in refl
-    pick-sign false q k = refl
-
-    units-sign : (q k : ℕ) → sign (units f false q k) ≡ false
-    units-sign q k = unfold units in pick-sign (ltb (q * 2 ^ k) (overflow f)) q k
-
     go : (z : Float) → sign z ≡ false → T (nn z)
     go nan e = tt
     go (inf true) e = absurd (true≢false e)

@@ -29,3 +29,4 @@
 //   a loop that adds                                                           `sum-none` and `sum_step` of Order
 //   a mean of two values, or a piece of a polyline                             Interpolate
 //   a direction                                                                UnitVector; `norm-within` of Exact where only sizes matter
+#![tactic(auto)]

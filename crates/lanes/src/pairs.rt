@@ -1,5 +1,5 @@
 // A lane's height off the road at its inner and outer border.
-#[derive(Drop)]
+#[derive(Clone, Copy)]
 pub struct Pair {
     pub inner: f64,
     pub outer: f64,

@@ -1,4 +1,6 @@
 // Where the lanes of a section lie across the road. By section index; nothing inside checks the road.
+#![tactic(auto)]
+
 mod across;
 mod borders;
 

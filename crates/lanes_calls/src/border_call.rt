@@ -11,7 +11,7 @@ use lanes_borders::section_lanes;
 use records_active::section_at;
 use refusals::Refusal;
 
-#[derive(Drop)]
+#[derive(Clone, Copy)]
 pub enum Bordered {
     // how many lanes were written
     Lanes(usize),

@@ -1,4 +1,6 @@
 // The calls of the lanes layer: the border list at a station, and the lane named at an offset. Each checks the road whole and anew, then its arguments.
+#![tactic(auto)]
+
 mod border_call;
 mod name_call;
 

@@ -10,7 +10,7 @@ use lanes_naming::{LaneName, lane_named_in};
 use records_active::section_at;
 use refusals::Refusal;
 
-#[derive(Drop)]
+#[derive(Clone, Copy)]
 pub enum Named {
     // its id, positive on the left and negative on the right
     Lane(i32),

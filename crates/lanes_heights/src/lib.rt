@@ -1,4 +1,6 @@
 // Heights of lanes: a lane's own, those at its borders, and the height across it.
+#![tactic(auto)]
+
 mod across;
 mod border_heights;
 mod fractions;

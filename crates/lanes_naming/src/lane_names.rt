@@ -1,7 +1,7 @@
 // What a lane is called.
 
 // A lane of a section by its side and its place there, from the center outward.
-#[derive(Drop)]
+#[derive(Clone, Copy)]
 pub enum LaneAt {
     Left(usize),
     Right(usize),
@@ -9,7 +9,7 @@ pub enum LaneAt {
 }
 
 // The name of a lane: its id, positive on the left and negative on the right.
-#[derive(Drop)]
+#[derive(Clone, Copy)]
 pub enum LaneName {
     Id(i32),
     Nothing,

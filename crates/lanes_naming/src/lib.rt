@@ -1,4 +1,6 @@
 // Which lane lies at an offset.
+#![tactic(auto)]
+
 mod lane_names;
 mod naming;
 

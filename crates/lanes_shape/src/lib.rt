@@ -1,4 +1,6 @@
 // The height by profiles, the height by the cross section, and both together.
+#![tactic(auto)]
+
 mod across;
 mod profiles;
 mod strips;

@@ -1,4 +1,6 @@
 // The calls of the reference line: the samples of an admitted road's spirals, and the pose of a geometry at a station.
+#![tactic(auto)]
+
 mod pose_answers;
 mod pose_call;
 mod sample_call;

@@ -2,7 +2,7 @@
 use line_samples::Pose;
 use refusals::Refusal;
 
-#[derive(Drop)]
+#[derive(Clone, Copy)]
 pub enum Posed {
     Pose(Pose),
     Refused(Refusal),

@@ -12,7 +12,7 @@ use line_samples::Sample;
 use records::{GeomRec, GeomShape};
 use refusals::Refusal;
 
-#[derive(Drop)]
+#[derive(Clone, Copy)]
 pub enum Sampled {
     // how many samples were written
     Made(usize),

@@ -2,7 +2,7 @@
 use arithmetic_sine::SinCos;
 use line_samples::Pose;
 
-#[derive(Drop)]
+#[derive(Clone, Copy)]
 pub struct Bearing {
     pub pose: Pose,
     pub turn: SinCos,

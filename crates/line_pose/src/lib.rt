@@ -1,4 +1,6 @@
 // The pose of a geometry at a station.
+#![tactic(auto)]
+
 mod bearings;
 mod leads;
 mod poses;

@@ -1,4 +1,6 @@
 // The samples of spirals: how many a road needs, and each from the last.
+#![tactic(auto)]
+
 mod points;
 mod samples;
 

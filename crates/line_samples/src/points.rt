@@ -1,6 +1,6 @@
 // A sample of a spiral: the distance into it, the place and the heading there.
 
-#[derive(Drop)]
+#[derive(Clone, Copy)]
 pub struct Sample {
     pub distance: f64,
     pub x: f64,
@@ -9,7 +9,7 @@ pub struct Sample {
 }
 
 // A place on the reference line and the heading there.
-#[derive(Drop)]
+#[derive(Clone, Copy)]
 pub struct Pose {
     pub x: f64,
     pub y: f64,

@@ -1,4 +1,6 @@
 // The text that the program `surface` writes for a job text.
+#![tactic(auto)]
+
 mod answers;
 mod digits;
 mod lines;

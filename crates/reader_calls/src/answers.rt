@@ -1,7 +1,7 @@
 // What reading answers.
 use refusals::Refusal;
 
-#[derive(Drop)]
+#[derive(Clone, Copy)]
 pub enum Read {
     // how many wants
     Accepted(usize),

@@ -10,7 +10,7 @@ use reader_lines::Order;
 use reader_schema::tables::{ROAD_TABLE, TABLE_COUNT};
 use reader_store::Progress;
 
-#[derive(Drop)]
+#[derive(Clone, Copy)]
 pub struct Taken {
     // the number of the refusal, 0 for none
     pub number: u8,

@@ -1,4 +1,6 @@
 // Cells of the job text.
+#![tactic(auto)]
+
 mod names;
 mod sixteen;
 mod values;

@@ -5,7 +5,7 @@ ghost use Rattle.reader_cells.specs.Cells.{name_span};
 use reader_hex::byte_at;
 
 // A number that was read, and the place after it.
-#[derive(Drop)]
+#[derive(Clone, Copy)]
 pub struct Span {
     pub value: u64,
     pub next: usize,

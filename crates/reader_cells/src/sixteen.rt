@@ -4,7 +4,7 @@ ghost use Rattle.reader_cells.specs.Cells.{byte_at, digit_of};
 
 use reader_hex::digit;
 
-#[derive(Drop)]
+#[derive(Clone, Copy)]
 pub struct Digits {
     pub of: [u8; 16],
 }

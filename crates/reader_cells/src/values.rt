@@ -12,7 +12,7 @@ use reader_schema::{count_of, place_of};
 pub const WHOLE_BIAS: u64 = 10000;
 
 // A cell as one number: an f64's bit pattern, a whole number with its bias, or a word's place in its list.
-#[derive(Drop)]
+#[derive(Clone, Copy)]
 pub enum Cell {
     // the number, and the place after the cell
     Value(u64, usize),

@@ -4,7 +4,7 @@ ghost use Rattle.reader_hex.specs.Hex.{word_within, hex_word_at};
 
 use crate::bytes::digit;
 
-#[derive(Drop)]
+#[derive(Clone, Copy)]
 pub enum Word {
     Number(u64),
     Broken,

@@ -1,4 +1,6 @@
 // Bytes of a text and hexadecimal digits in lower case, numbers written as sixteen of them, and an f64 by such a pattern.
+#![tactic(auto)]
+
 mod bytes;
 mod digits;
 mod patterns;

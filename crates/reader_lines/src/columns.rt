@@ -6,19 +6,19 @@ ghost use Rattle.reader_lines.specs.Columns.{no_order, no_cells, all_due, is_due
 use reader_schema::tables::COLUMNS_MOST;
 
 // The column of each word of a line, in the text's order.
-#[derive(Drop)]
+#[derive(Clone, Copy)]
 pub struct Order {
     pub of: [u8; COLUMNS_MOST],
 }
 
 // The cell of each column, in the schema's order, whatever the text's.
-#[derive(Drop)]
+#[derive(Clone, Copy)]
 pub struct Cells {
     pub of: [u64; COLUMNS_MOST],
 }
 
 // The columns that are still to be named.
-#[derive(Drop)]
+#[derive(Clone, Copy)]
 pub struct Due {
     pub of: [bool; COLUMNS_MOST],
 }

@@ -1,4 +1,6 @@
 // The lines of a table: its line of names, and a line of its values.
+#![tactic(auto)]
+
 mod columns;
 mod names_line;
 mod values_line;

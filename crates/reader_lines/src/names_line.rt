@@ -7,14 +7,14 @@ use crate::columns::{Order, all_due, is_due, met, no_order, ordered};
 const NO_COLUMN: usize = 255;
 
 // A column that was named, and the place after its name.
-#[derive(Drop)]
+#[derive(Clone, Copy)]
 pub struct Named {
     pub column: usize,
     pub next: usize,
 }
 
 // Whether a line of names is right, the place after it, and the columns in its order.
-#[derive(Drop)]
+#[derive(Clone, Copy)]
 pub struct Head {
     pub good: bool,
     pub next: usize,

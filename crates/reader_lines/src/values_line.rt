@@ -7,7 +7,7 @@ use reader_cells::Cell;
 use reader_schema::tables::COLUMNS_MOST;
 
 // Whether a line of values is right, the place after it, and its cells by column.
-#[derive(Drop)]
+#[derive(Clone, Copy)]
 pub struct Values {
     pub good: bool,
     pub next: usize,

@@ -1,4 +1,6 @@
 // The tables of the job text as data: names, columns, kinds and limits; the tables' numbers.
+#![tactic(auto)]
+
 mod schema;
 pub mod tables;
 

@@ -1,4 +1,6 @@
 // Where the cells of a line are kept in the road's memory, and lines under their parents.
+#![tactic(auto)]
+
 mod columns;
 mod layout;
 mod lines;

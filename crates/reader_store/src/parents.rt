@@ -24,7 +24,7 @@ const TERMS_A_STRIP: u32 = TERM_COUNT as u32;
 const WORDS_A_STRIP: u32 = STRIP_STRIDE as u32;
 
 // Whether there is such a parent, its rank in the order that children follow, and its index in memory.
-#[derive(Drop)]
+#[derive(Clone, Copy)]
 pub struct Index {
     pub there: bool,
     pub rank: u32,
@@ -32,7 +32,7 @@ pub struct Index {
 }
 
 // Where a line is counted: the word for its parent's first line, the word for the count, and whether the line is the first.
-#[derive(Drop)]
+#[derive(Clone, Copy)]
 pub struct Parent {
     pub there: bool,
     pub rank: u32,

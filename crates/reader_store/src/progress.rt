@@ -3,7 +3,7 @@ ghost use Rattle.std.specs.Prelude.{◌≡◌, ◌<◌};
 ghost use Rattle.reader_store.specs.Progress.{strip_of, strip_line, listed_as, start_progress, unsound_progress, ended_progress};
 
 // Of each strip, its line in the strip table, counted from 1; 0 where it has none.
-#[derive(Drop)]
+#[derive(Clone, Copy)]
 pub struct Strips {
     pub left_inner: u16,
     pub left_outer: u16,
@@ -11,7 +11,7 @@ pub struct Strips {
     pub right_outer: u16,
 }
 
-#[derive(Drop)]
+#[derive(Clone, Copy)]
 pub struct Progress {
     // whether every reference and every order was right so far
     pub sound: bool,

@@ -1,4 +1,6 @@
 // A road in two lent slices: its layout, the nested lists that it stands for, and its lists of cubics.
+#![tactic(auto)]
+
 pub mod layout;
 mod points;
 mod road;

@@ -1,7 +1,7 @@
 // The records of a road by value, and the two points of the answers.
 
 // A place in the world: right-handed, z up, metres.
-#[derive(Drop)]
+#[derive(Clone, Copy)]
 pub struct Point {
     pub x: f32,
     pub y: f32,
@@ -9,7 +9,7 @@ pub struct Point {
 }
 
 // The reference line at one station: elevation z with its rate along s, superelevation with its rate along s.
-#[derive(Drop)]
+#[derive(Clone, Copy)]
 pub struct RefPoint {
     pub s: f64,
     pub x: f64,
@@ -25,7 +25,7 @@ pub struct RefPoint {
 pub const STRAIGHT_CURVATURE: f64 = 1e-9;
 
 // The shape of a geometry; an arc carries its curvature, a spiral its curvatures at the start and at the end.
-#[derive(Drop)]
+#[derive(Clone, Copy)]
 pub enum GeomShape {
     Line,
     Arc(f64),
@@ -33,7 +33,7 @@ pub enum GeomShape {
 }
 
 // One geometry of the reference line: where it starts, its heading there, its length and its shape.
-#[derive(Drop)]
+#[derive(Clone, Copy)]
 pub struct GeomRec {
     pub s: f64,
     pub x: f64,
@@ -44,7 +44,7 @@ pub struct GeomRec {
 }
 
 // A lane's height off the road at its inner and outer border, from s_offset metres into its section.
-#[derive(Drop)]
+#[derive(Clone, Copy)]
 pub struct HeightDef {
     pub s_offset: f64,
     pub inner: f64,
@@ -53,7 +53,7 @@ pub struct HeightDef {
 
 // A span of paint on a lane of a section: the place of the lane among those of its section, left ones outward, then right ones; its kind; where it
 // starts and ends, in metres into the section.
-#[derive(Drop)]
+#[derive(Clone, Copy)]
 pub struct Mark {
     pub lane: usize,
     pub kind: usize,
@@ -62,14 +62,14 @@ pub struct Mark {
 }
 
 // A strip of the cross section: not there, with a height of its own, or standing on the inner strip's edge.
-#[derive(Drop)]
+#[derive(Clone, Copy)]
 pub enum StripKind {
     Absent,
     Absolute,
     Relative,
 }
 
-#[derive(Drop)]
+#[derive(Clone, Copy)]
 pub enum Found {
     At(usize),
     Nothing,

@@ -1,4 +1,6 @@
 // Which record is active at a station, and its value and slope.
+#![tactic(auto)]
+
 mod scan;
 mod stations;
 

@@ -2,7 +2,7 @@
 ghost use Rattle.std.specs.Prelude.{◌≡◌};
 ghost use Rattle.records_cubic.specs.Cubics.{eval_at, slope_at, cubic_at, cubics_of};
 
-#[derive(Drop)]
+#[derive(Clone, Copy)]
 pub struct Cubic {
     pub start: f64,
     pub a: f64,

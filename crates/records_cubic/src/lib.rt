@@ -1,4 +1,6 @@
 // Cubics by value, and in five numbers each.
+#![tactic(auto)]
+
 mod cubics;
 
 pub use cubics::{Cubic, cubic_at};

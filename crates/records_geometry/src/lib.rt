@@ -1,4 +1,6 @@
 // The road's geometries.
+#![tactic(auto)]
+
 mod geometries;
 
 pub use geometries::{geom, unused_zero};

@@ -19,7 +19,7 @@ const FIRST_EXTENT: u32 = EXTENT_BASE as u32;
 const EXTENT_STRIDE: u32 = CUBIC_STRIDE as u32;
 
 // Whether a lane has borders in place of widths, and where they stand in the numbers: the first place, and how many.
-#[derive(Drop)]
+#[derive(Clone, Copy)]
 pub struct LaneExtent {
     pub border: bool,
     pub start: u32,

@@ -1,4 +1,6 @@
 // The lanes of a section, with their extents and heights.
+#![tactic(auto)]
+
 mod lanes;
 
 pub use lanes::{

@@ -1,5 +1,7 @@
 // Numbers, words and parts of lent slices.
 // Every accessor is total: past the end of a slice a number is NaN, a word 0 and a part shorter, so no caller needs a bound.
+#![tactic(auto)]
+
 mod access;
 
 pub use access::{number, part, word};

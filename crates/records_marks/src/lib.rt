@@ -1,4 +1,6 @@
 // The mark spans of a section, and whether one of them covers a station.
+#![tactic(auto)]
+
 mod marks;
 
 pub use marks::{covered, covers, mark, mark_count};

@@ -2,7 +2,7 @@
 use refusals::Refusal;
 use surface_locate::Position;
 
-#[derive(Drop)]
+#[derive(Clone, Copy)]
 pub enum Located {
     Position(Position),
     Refused(Refusal),

@@ -18,7 +18,7 @@ use surface_points::{Footing, footing_at};
 const MOST_MOVES: u32 = 24;
 
 // Where the moves ended, and the miss there.
-#[derive(Drop)]
+#[derive(Clone, Copy)]
 struct Arrival {
     walk: Walk,
     miss: Vector,

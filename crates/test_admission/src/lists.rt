@@ -12,7 +12,7 @@ use libc::{STDIN_FILENO, STDOUT_FILENO};
 use records::layout::{NUMBERS_NEEDED, WORDS_NEEDED};
 use test_support::{Line, line_at};
 
-#[derive(Drop)]
+#[derive(Clone, Copy)]
 pub(crate) struct State {
     // how many words, numbers and numbers for samples are lent
     pub(crate) words: u64,

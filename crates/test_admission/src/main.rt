@@ -1,5 +1,7 @@
 // Runs a list of cases from standard input against the crate `admission`. It writes a line for each case that differs, then how
 // many cases there were and how many differ. tools/lists makes the list.
+#![tactic(auto)]
+
 mod calls;
 mod lists;
 mod memory;

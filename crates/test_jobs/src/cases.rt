@@ -7,14 +7,14 @@ use crate::memory::{lent, number_space, want_space, word_space};
 use reader_calls::Read;
 use test_support::checksum;
 
-#[derive(Drop)]
+#[derive(Clone, Copy)]
 pub(crate) struct Seen {
     // 0, or the number of the refusal
     pub(crate) answer: u64,
     pub(crate) wants: u64,
 }
 
-#[derive(Drop)]
+#[derive(Clone, Copy)]
 pub(crate) struct Case {
     pub(crate) seen: Seen,
     pub(crate) sum: u64,

@@ -14,7 +14,7 @@ use libc::{STDIN_FILENO, STDOUT_FILENO};
 use records::layout::{NUMBERS_NEEDED, WORDS_NEEDED};
 use test_support::{Line, append, extend, line_at};
 
-#[derive(Drop)]
+#[derive(Clone, Copy)]
 pub(crate) struct State {
     // how many bytes the text and the base have
     pub(crate) text: usize,
@@ -123,7 +123,7 @@ fn block() -> [u8; 36864]
     [0; 36864]
 }
 
-#[derive(Drop)]
+#[derive(Clone, Copy)]
 pub(crate) struct Turn {
     // whether there may be more
     more: bool,

@@ -6,7 +6,7 @@ use libc::{STDIN_FILENO, STDOUT_FILENO};
 use program_output::OUTPUT_NEEDED;
 use test_support::{Line, line_at};
 
-#[derive(Drop)]
+#[derive(Clone, Copy)]
 pub(crate) struct State {
     // how many jobs there were, and lines that break the form
     pub(crate) jobs: u64,

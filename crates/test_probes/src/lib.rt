@@ -1,4 +1,6 @@
 // A second C interface, for the comparison and the benchmark of the tools alone: functions that no controller calls, compared and timed without a check of the road.
+#![tactic(auto)]
+
 mod across;
 mod along;
 mod angles;

@@ -1,4 +1,6 @@
 // For the programs that replay lists: the lines of a list, a text put together as its lines say, a checksum of lent memory.
+#![tactic(auto)]
+
 mod lines;
 mod sums;
 mod texts;

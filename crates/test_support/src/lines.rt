@@ -4,7 +4,7 @@ ghost use Rattle.test_support.specs.Lines.{broken_line, step_of, line_within, ca
 
 use reader_hex::{Word, word_at};
 
-#[derive(Drop)]
+#[derive(Clone, Copy)]
 pub struct Line {
     // whether it has the form; if not, all else is 0
     pub good: bool,

@@ -10,7 +10,7 @@ use libc::STDIN_FILENO;
 use reader_hex::byte_at;
 
 // How much of the memory is the track, and how much the lent list.
-#[derive(Drop)]
+#[derive(Clone, Copy)]
 struct Held {
     track: usize,
     list: usize,

@@ -6,14 +6,14 @@ ghost use Rattle.test_tracks.specs.Words.{digits_word, word_in, good_of, value_o
 use crate::patterns::number;
 use reader_hex::digit;
 
-#[derive(Drop)]
+#[derive(Clone, Copy)]
 pub enum Word {
     Number(u32),
     Broken,
 }
 
 // How many words a line has; whether it is a letter and so many words, and nothing else.
-#[derive(Drop)]
+#[derive(Clone, Copy)]
 pub struct Words {
     pub good: bool,
     pub count: usize,

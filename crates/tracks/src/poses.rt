@@ -11,21 +11,21 @@ use coordinates::{Vector, place_between, point, unit, vector_between};
 use records::Point;
 
 // A segment, and the fraction along it.
-#[derive(Drop)]
+#[derive(Clone, Copy)]
 pub struct Spot {
     pub segment: usize,
     pub t: f32,
 }
 
 // A position on the track, and the direction of travel in plan: zero where the track has none.
-#[derive(Drop)]
+#[derive(Clone, Copy)]
 pub struct TrackPose {
     pub position: Point,
     pub heading: Vector,
 }
 
 // A segment, with the arc lengths at its ends.
-#[derive(Drop)]
+#[derive(Clone, Copy)]
 struct Stretch {
     segment: usize,
     from: f32,

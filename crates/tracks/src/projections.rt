@@ -13,7 +13,7 @@ use coordinates::{
 use records::Point;
 
 // The arc length of the nearest place, that place, and the signed distance from the line in plan, positive to the left of travel.
-#[derive(Drop)]
+#[derive(Clone, Copy)]
 pub struct Projection {
     pub s: f32,
     pub point: Point,
@@ -21,14 +21,14 @@ pub struct Projection {
 }
 
 // The nearest segment so far, by the point it ends at, 0 where there is none yet; with the square of its distance in space.
-#[derive(Drop)]
+#[derive(Clone, Copy)]
 struct Chosen {
     square: f32,
     end: usize,
 }
 
 // The place of a segment closest to another place, how far along it lies, and the way from it to that place.
-#[derive(Drop)]
+#[derive(Clone, Copy)]
 struct Closest {
     t: f32,
     point: Point,

@@ -7,20 +7,20 @@ use records::Point;
 use refusals::Refusal;
 use tracks::{Projection, TrackPose, list_tangents, pose_on, project_on};
 
-#[derive(Drop)]
+#[derive(Clone, Copy)]
 pub enum Traced {
     // of how many points the tangents were written
     Written(usize),
     Refused(Refusal),
 }
 
-#[derive(Drop)]
+#[derive(Clone, Copy)]
 pub enum TrackPosed {
     Pose(TrackPose),
     Refused(Refusal),
 }
 
-#[derive(Drop)]
+#[derive(Clone, Copy)]
 pub enum Projected {
     Found(Projection),
     Refused(Refusal),

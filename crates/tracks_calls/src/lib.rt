@@ -1,4 +1,6 @@
 // The calls on a track line: tangents, pose and projection. Each checks the track whole and anew, rows 13 and 14.
+#![tactic(auto)]
+
 mod calls;
 mod rows;
 

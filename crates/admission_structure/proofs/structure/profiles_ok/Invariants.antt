@@ -1,0 +1,12 @@
+-- `profiles_ok`: a scan with no early way out; up to i the profiles passed.
+use Prim.Native.Nat.{◌-◌, ◌≤◌}
+use mathlib.Core.Path.{◌≡◌}
+use Rattle.records_lent.specs.Lists.{all_below}
+use Rattle.admission_structure.specs.Structure.{profile_ok}
+use Rattle.admission_structure.proofs.structure.profiles_ok.Given as goal
+
+abbrev pub invariant-loop-i : goal.invariant-loop-i
+invariant-loop-i l = (l.i ≤ l.n) × (l.ok ≡ all_below (profile_ok l.words l.numbers) l.i)
+
+abbrev pub decreases-loop-i : goal.decreases-loop-i
+decreases-loop-i l = l.n - l.i

@@ -1,0 +1,8 @@
+-- `at_least_zero`: by its test.
+use Rattle.arithmetic_ranges.proofs.ranges.at_least_zero.Goals as goal
+
+pub returns-then-x : goal.returns-then-x
+returns-then-x c = rw c.if-x.taken
+
+pub returns-else-x : goal.returns-else-x
+returns-else-x c = rw c.if-x.left

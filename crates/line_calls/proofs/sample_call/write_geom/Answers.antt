@@ -1,0 +1,35 @@
+-- `write_geom`: one law for each shape. A spiral has its first sample, so the steps are one less than its samples.
+use native.Mathlib.Omega.{arith}
+use Rattle.line_calls.proofs.SampleWriting.{geom-some, geom-spiral, geom-arc, geom-line}
+use Rattle.line_calls.proofs.sample_call.write_geom.Goals as goal
+
+pub put-requires : goal.put-requires
+put-requires c =
+    omega (arith, geom-some c.args.g c.in-Spiral.is, c.requires)
+
+pub overflow_add-at : goal.overflow_add-at
+overflow_add-at c =
+    omega (arith, geom-some c.args.g c.in-Spiral.is, c.requires)
+
+pub overflow_sub-n : goal.overflow_sub-n
+overflow_sub-n c =
+    omega (arith, geom-some c.args.g c.in-Spiral.is, c.requires)
+
+pub write_steps-requires : goal.write_steps-requires
+write_steps-requires c =
+    omega (arith, geom-some c.args.g c.in-Spiral.is, c.requires, c.put.auto.0)
+
+pub returns-in-Spiral : goal.returns-in-Spiral
+returns-in-Spiral c =
+    let a = c.args in
+    geom-spiral a.g a.at a.n a.samples.now c.in-Spiral.is c.requires.1 c.first_sample-first.ensures c.put.ensures c.write_steps.ensures
+
+pub returns-in-Arc : goal.returns-in-Arc
+returns-in-Arc c =
+    let a = c.args in
+    geom-arc a.g a.at a.samples.now c.in-Arc.is
+
+pub returns-in-Line : goal.returns-in-Line
+returns-in-Line c =
+    let a = c.args in
+    geom-line a.g a.at a.samples.now c.in-Line.is

@@ -1,0 +1,41 @@
+use Prim.Native.Nat.{◌-◌}
+use native.Mathlib.Omega.{arith}
+use mathlib.Core.Path.{◌∙◌, sym}
+use lib.Dec.{T}
+use lib.Ieee.{binary64, fits}
+use Rattle.line_samples.specs.Samples.{goes_on, most_steps}
+use Rattle.line_samples.proofs.SpiralLaws.{steps_next, steps-stop, steps-full}
+use Rattle.line_samples.proofs.SpiralQuarters.{steps_from_lem, number_fits}
+use borrow.Author.Rules.{rules}
+use Rattle.line_samples.proofs.samples.spiral_steps.Goals as goal
+use Rattle.line_samples.proofs.samples.spiral_steps.Goals.{Start}
+
+fit : (c : Start) → T (fits binary64 c.args.length)
+fit c = search rules
+
+pub loop-n-init : goal.loop-n-init
+loop-n-init c =
+    let q = c.quarters_below-n.ensures in
+    (omega (arith, q.0), steps_from_lem c.args.length c.quarters_below-n.result (fit (goal.at.loop-n-init c).Start) q)
+
+pub int_to_float-u : goal.int_to_float-u
+int_to_float-u c = number_fits c.quarters_below-n.result c.quarters_below-n.ensures.0
+
+pub loop-n-preserved : goal.loop-n-preserved
+unfolding goes_on
+loop-n-preserved c =
+    let len = c.args.length in
+    (omega arith, c.loop-n.invariant.1 ∙ steps_next len c.loop-n.u c.loop-n.n (goes_on len c.loop-n.u) c.step_at-u.result c.loop-n-test.true c.if-u-last.true c.step_at-u.ensures)
+
+pub returns-else-u-last : goal.returns-else-u-last
+unfolding goes_on
+returns-else-u-last c =
+    let len = c.args.length in
+    let none = steps-stop len c.loop-n.u (most_steps - c.loop-n.n) (goes_on len c.loop-n.u) c.if-u-last.false in
+    let inv = c.loop-n.invariant.1 in
+    record { value = omega arith; small = c.loop-n.invariant.0 }
+
+pub returns : goal.returns
+returns c =
+    let len = c.args.length in
+    record { value = sym (c.loop-n.invariant.1 ∙ steps-full len c.loop-n.u c.loop-n.n (goes_on len c.loop-n.u) c.loop-n.invariant.0 c.loop-n-test.false); small = c.loop-n.invariant.0 }

@@ -1,0 +1,51 @@
+use mathlib.Core.Path.{refl, ◌∙◌}
+use native.Mathlib.Omega.{arith}
+use borrow.Author.Tests.{not-true, not-false}
+use Rattle.reader_cells.proofs.Inside.{inside}
+use Rattle.reader_calls.proofs.TakingCases.{agree-done, agree-stop, lines_start, lines_end, lines_cut, lines-over, lines_next}
+use borrow.Author.Rules.{rules}
+use Rattle.reader_calls.proofs.tables.lines.Goals as goal
+
+pub loop-order-init : goal.loop-order-init
+loop-order-init c =
+    let a = c.args in
+    (search rules, refl, refl, refl, lines_start a.table a.order a.text.now a.from _ a.words.now a.numbers.now a.wants.now c.limit_of-limit.ensures)
+
+pub overflow_add-result : goal.overflow_add-result
+overflow_add-result c =
+    let h = inside c.args.text.now c.loop-order.at c.byte_at.ensures (omega arith) in
+    record { fits = omega (arith, h) }
+
+pub returns-then-byte_at-eq10 : goal.returns-then-byte_at-eq10
+returns-then-byte_at-eq10 c =
+    let a = c.args in
+    let at = c.loop-order in
+    let e = c.end_table-ended.ensures in
+    agree-done (at.invariant.4 ∙ lines_end a.table a.order a.text.now at.at at.k at.progress at.words at.numbers at.wants c.byte_at.ensures _ c.if-byte_at-eq10.true e.value e.words_after)
+
+pub returns-then-not-row : goal.returns-then-not-row
+returns-then-not-row c =
+    let a = c.args in
+    let at = c.loop-order in
+    let e = lines_cut a.table a.order a.text.now at.at at.k at.progress at.words at.numbers at.wants c.byte_at.ensures c.if-byte_at-eq10.false c.values_at-row.ensures _ (not-true _ c.if-not-row.true) in
+    agree-stop _ _ _ _ (at.invariant.4 ∙ e) c.turned.ensures (omega arith) (omega arith)
+
+pub returns-then-limit-k : goal.returns-then-limit-k
+returns-then-limit-k c =
+    let a = c.args in
+    let at = c.loop-order in
+    let e = lines-over a.table a.order a.text.now at.at at.k at.progress at.words at.numbers at.wants c.byte_at.ensures c.if-byte_at-eq10.false c.values_at-row.ensures _ c.if-limit-k.true (not-false _ c.if-not-row.false) in
+    agree-stop _ _ _ _ (at.invariant.4 ∙ e) c.turned-then-limit-k.ensures (omega arith) (omega arith)
+
+pub loop-order-preserved : goal.loop-order-preserved
+loop-order-preserved c =
+    let a = c.args in
+    let at = c.loop-order in
+    let kept = c.keep_line-progress in
+    let q = kept.ensures in (
+      search rules,
+      kept.auto.0 ∙ at.invariant.1,
+      kept.auto.1.0 ∙ at.invariant.2,
+      kept.auto.1.1.0 ∙ at.invariant.3,
+      at.invariant.4 ∙ lines_next a.table a.order a.text.now at.at at.k at.progress at.words at.numbers at.wants c.byte_at.ensures c.if-byte_at-eq10.false c.values_at-row.ensures _ c.if-limit-k.false (not-false _ c.if-not-row.false) q.value q.words_after q.numbers_after q.wants_after,
+    )

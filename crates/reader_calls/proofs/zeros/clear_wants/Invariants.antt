@@ -1,0 +1,12 @@
+-- The invariant: zeros up to i, what was lent from i on.
+use mathlib.Core.Path.{◌≡◌}
+use Prim.Native.Nat.{◌≤◌, ◌-◌}
+use mathlib.Core.List.{◌++◌}
+use lib.ListN.{length, replicate, drop}
+use Rattle.reader_calls.proofs.zeros.clear_wants.Given as goal
+
+abbrev pub invariant-loop-i : goal.invariant-loop-i
+invariant-loop-i l = (l.i ≤ length l.initial.wants) × (length l.wants ≡ length l.initial.wants) × (l.wants ≡ replicate l.i 0 ++ drop l.i l.initial.wants)
+
+abbrev pub decreases-loop-i : goal.decreases-loop-i
+decreases-loop-i l = length l.initial.wants - l.i

@@ -1,0 +1,12 @@
+-- Past the eighth place `get_or` answers its default.
+use mathlib.Core.Path.{◌≡◌, sym}
+use native.Mathlib.Omega.{arith}
+use lib.ListN.{length, get_or-eq_default}
+use borrow.Author.Rules.{rules}
+use Rattle.reader_lines.proofs.columns.cell_of.Goals as goal
+
+pub returns-else-column-lt-COLUMNS_MOST : goal.returns-else-column-lt-COLUMNS_MOST
+returns-else-column-lt-COLUMNS_MOST c =
+    let a = c.args in
+    let q : length a.cells.of ≡ 8 = search rules in
+    sym (get_or-eq_default a.cells.of 0 (omega (arith, q)))

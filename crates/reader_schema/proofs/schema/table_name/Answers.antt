@@ -1,0 +1,10 @@
+-- The constants are what the schema's text computes to; past the end both are 0.
+use mathlib.Core.Path.{sym}
+use Prim.Native.Nat.{◌≤◌}
+use lib.ListN.{get_or-eq_default}
+use Rattle.reader_schema.specs.Schema.{names, name_of}
+use Rattle.reader_schema.proofs.schema.table_name.Goals as goal
+
+pub returns-else-table-lt-TABLE_COUNT : goal.returns-else-table-lt-TABLE_COUNT
+unfolding name_of names
+returns-else-table-lt-TABLE_COUNT c = let h : 16 ≤ c.args.table = c.if-table-lt-TABLE_COUNT.false in sym (get_or-eq_default names 0 h)

@@ -1,0 +1,34 @@
+-- `heights`: what the words of the lane's line say, or none.
+use native.Mathlib.Omega.{arith}
+use mathlib.Core.Path.{◌∙◌, ap, sym}
+use Rattle.records.specs.Roads.{Lane, lane_in}
+use Rattle.records.proofs.CubicLaws.{heights-none}
+use Rattle.records.proofs.RoadLaws.{heights-by}
+use Rattle.records_lanes.proofs.LineLaws.{lane_at_lem}
+use Rattle.records_lanes.proofs.lanes.heights.Goals as goal
+
+pub overflow_mul-at : goal.overflow_mul-at
+overflow_mul-at c = omega (arith, c.lane_line.ensures.small _ c.in-At.is)
+
+pub overflow_add-at : goal.overflow_add-at
+overflow_add-at c = omega (arith, c.lane_line.ensures.small _ c.in-At.is)
+
+pub overflow_add-at-in-At : goal.overflow_add-at-in-At
+overflow_add-at-in-At c = omega (arith, c.lane_line.ensures.small _ c.in-At.is)
+
+pub overflow_add-at-in-At-2 : goal.overflow_add-at-in-At-2
+overflow_add-at-in-At-2 c = omega (arith, c.lane_line.ensures.small _ c.in-At.is)
+
+pub returns-in-At : goal.returns-in-At
+unfolding lane_in
+returns-in-At c =
+    let a = c.args in
+    let e = lane_at_lem a.words.now a.numbers.now a.section a.right a.k c.lane_line.ensures.value c.in-At.is in
+    heights-by a.words.now a.numbers.now _ _ c.word.ensures.value c.word-in-At.ensures.value c.part.ensures
+    ∙ sym (ap (λ (l : Lane). l.heights) e)
+
+pub returns-in-Nothing : goal.returns-in-Nothing
+returns-in-Nothing c =
+    let a = c.args in
+    let e = lane_at_lem a.words.now a.numbers.now a.section a.right a.k c.lane_line.ensures.value c.in-Nothing.is in
+    heights-none c.part-in-Nothing.ensures ∙ sym (ap (λ (l : Lane). l.heights) e)

@@ -1,0 +1,9 @@
+-- `section_count`: the word that counts the lines.
+use mathlib.Core.Path.{◌∙◌, sym}
+use Rattle.records.proofs.RoadLaws.{section_count_lem}
+use Rattle.records_sections.proofs.sections.section_count.Goals as goal
+
+pub returns : goal.returns
+returns c =
+    let a = c.args in
+    c.word.ensures.value ∙ sym (section_count_lem a.words.now a.numbers.now)

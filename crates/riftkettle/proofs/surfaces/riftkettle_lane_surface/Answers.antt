@@ -1,0 +1,32 @@
+-- `riftkettle_lane_surface`: the answer is known by its case.
+use mathlib.Core.Path.{◌∙◌, ap}
+use lib.IntN.{ℤ}
+use mir.Syntax.{w32}
+use mir.Val.{SFits}
+use mir.ValLaws.{to_z-of_z}
+use Rattle.surface_calls.specs.SurfaceCalls.{lane_surface_call, surface_answer}
+use Rattle.riftkettle.specs.Exports.{point_list, heading_of}
+use Rattle.riftkettle.proofs.ExportLaws.{told, code-value, code-refused, left-value, left-refused}
+use borrow.Author.Rules.{rules}
+use Rattle.riftkettle.proofs.surfaces.riftkettle_lane_surface.Goals as goal
+use Rattle.riftkettle.proofs.surfaces.riftkettle_lane_surface.Goals.{After-number, After-point-1}
+
+-- the id is an i32
+held : (c : After-point-1) → SFits w32 c.args.id
+held c = search rules
+
+-- the id is an i32
+held-2 : (c : After-number) → SFits w32 c.args.id
+held-2 c = search rules
+
+pub returns-in-Point : goal.returns-in-Point
+returns-in-Point c =
+    let a = c.args in
+    let e = told surface_answer (c.lane_surface.ensures ∙ ap (λ (id : ℤ). lane_surface_call a.words.now a.numbers.now a.samples.now id a.s a.t) (to_z-of_z w32 a.id (held (goal.at.returns-in-Point c).After-point-1))) c.in-Point.is in
+    record { value = code-value e; point_after = left-value point_list a.point.now e; heading_after = left-value heading_of a.heading.now e }
+
+pub returns-in-Refused : goal.returns-in-Refused
+returns-in-Refused c =
+    let a = c.args in
+    let e = told surface_answer (c.lane_surface.ensures ∙ ap (λ (id : ℤ). lane_surface_call a.words.now a.numbers.now a.samples.now id a.s a.t) (to_z-of_z w32 a.id (held-2 (goal.at.returns-in-Refused c).After-number))) c.in-Refused.is in
+    record { value = c.number.ensures ∙ code-refused e; point_after = left-refused point_list a.point.now e; heading_after = left-refused heading_of a.heading.now e }

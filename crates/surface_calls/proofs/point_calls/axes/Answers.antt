@@ -1,0 +1,13 @@
+-- The shared rows refuse, or all pass and the value is the answer.
+use Rattle.surface_calls.proofs.CallSteps.{axes-refused, axes-found}
+use Rattle.surface_calls.proofs.point_calls.axes.Goals as goal
+
+pub returns-in-Refused : goal.returns-in-Refused
+returns-in-Refused c =
+    let a = c.args in
+    axes-refused a.words.now a.numbers.now a.samples.now a.s c.enter.ensures c.in-Refused.is
+
+pub returns-in-Admitted : goal.returns-in-Admitted
+returns-in-Admitted c =
+    let a = c.args in
+    axes-found a.words.now a.numbers.now a.samples.now a.s c.enter.ensures c.in-Admitted.is c.axes_at.ensures

@@ -1,0 +1,10 @@
+-- The square of 0.0000009 lies between its brackets, by computation.
+use mathlib.Core.Path.{refl}
+use lib.Ieee.{of_bits, fits, le, lt}
+use Rattle.arithmetic.specs.Root.{root_of}
+use Rattle.arithmetic_distance.specs.Brackets.{brackets}
+use Rattle.surface_locate.proofs.misses.near.Goals as goal
+
+pub under-requires : goal.under-requires
+unfolding of_bits fits le lt root_of brackets
+under-requires c = refl

@@ -1,0 +1,20 @@
+-- `probe_active`: the place is below the part's length, so that one more fits.
+use native.Mathlib.Omega.{arith}
+use Rattle.test_probes.proofs.ProbeLaws.{active-below, active-some, active-none}
+use Rattle.test_probes.proofs.curves.probe_active.Goals as goal
+
+pub overflow_add-result : goal.overflow_add-result
+overflow_add-result c =
+    let a = c.args in
+    let l = active-below a.part.now a.s c.active.ensures c.in-At.is in
+    omega arith
+
+pub returns-in-At : goal.returns-in-At
+returns-in-At c =
+    let a = c.args in
+    active-some a.part.now a.s c.active.ensures c.in-At.is
+
+pub returns-in-Nothing : goal.returns-in-Nothing
+returns-in-Nothing c =
+    let a = c.args in
+    active-none a.part.now a.s c.active.ensures c.in-Nothing.is

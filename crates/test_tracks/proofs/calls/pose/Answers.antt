@@ -1,0 +1,8 @@
+-- What each step ensures, put together.
+use Rattle.test_tracks.proofs.Agreement.{pose_by_lem}
+use Rattle.test_tracks.proofs.calls.pose.Goals as goal
+
+pub returns : goal.returns
+returns c =
+    let a = c.args in
+    pose_by_lem a.track.now a.row.now c.number.ensures c.pose_at-answer.ensures c.pose_number.ensures c.pose_numbers-numbers.ensures c.held_against.ensures

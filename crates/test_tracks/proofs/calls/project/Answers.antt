@@ -1,0 +1,10 @@
+-- What each step ensures, put together.
+use Rattle.test_tracks.proofs.Agreement.{project-by}
+use Rattle.test_tracks.proofs.calls.project.Goals as goal
+
+pub returns : goal.returns
+returns c =
+    let a = c.args in
+    project-by a.track.now a.row.now
+    (rw (c.number.ensures, c.number-2.ensures, c.number-3.ensures))
+    c.project-answer.ensures c.project_number.ensures c.project_numbers-numbers.ensures c.held_against.ensures

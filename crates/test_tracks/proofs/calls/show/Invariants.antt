@@ -1,0 +1,9 @@
+-- The place stays within the numbers. The measure is the numbers that are left.
+use Rattle.std.proofs.Common.{◌-◌, ◌≤◌, length}
+use Rattle.test_tracks.proofs.calls.show.Given as goal
+
+abbrev pub invariant-loop-i : goal.invariant-loop-i
+invariant-loop-i l = i ≤ length l.numbers
+
+abbrev pub decreases-loop-i : goal.decreases-loop-i
+decreases-loop-i l = length l.numbers - i

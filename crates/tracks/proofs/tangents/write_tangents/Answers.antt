@@ -1,0 +1,42 @@
+use mathlib.Core.Path.{◌≡◌, refl, ◌∙◌}
+use mathlib.Core.Logic.{⊎_elim}
+use Prim.Native.Nat.{◌/◌}
+use native.Mathlib.Omega.{arith}
+use lib.ListN.{length, length-set}
+use Rattle.coordinates.specs.Points.{point_at}
+use Rattle.tracks.specs.Tangents.{outgoing_of}
+use Rattle.tracks.proofs.TangentSteps.{incoming-first, outgoing-last, outgoing-next, incoming-kept, tangent-made, written_none, written-turn}
+use Rattle.tracks.proofs.tangents.write_tangents.Goals as goal
+
+pub loop-k-init : goal.loop-k-init
+loop-k-init c =
+    let a = c.args in
+    let p = point_at a.points.now in
+    (omega arith, refl, written_none p (length a.points.now / 3) a.list.now, λ _. incoming-first p 0 refl)
+
+pub bounds-list-at-in-loop-k : goal.bounds-list-at-in-loop-k
+bounds-list-at-in-loop-k c = simp length-set (omega arith)
+
+pub bounds-list-at-in-loop-k-2 : goal.bounds-list-at-in-loop-k-2
+bounds-list-at-in-loop-k-2 c = simp length-set (omega arith)
+
+pub loop-k-preserved : goal.loop-k-preserved
+loop-k-preserved c =
+    let at = c.loop-k in
+    let a = c.args in
+    let p = point_at a.points.now in
+    let n = length a.points.now / 3 in
+    let out : c.if-k-n.outgoing ≡ outgoing_of p n at.k =
+    ⊎_elim
+    (λ w. w.4 ∙ outgoing-next p n at.k w.0.taken w.1.ensures w.2.ensures w.3.ensures)
+    (λ w. w.1 ∙ outgoing-last p n at.k (let l = w.0.left in omega arith))
+    c.if-k-n.branch in
+    let e = tangent-made p n at.k (at.invariant.3 c.loop-k-test.true) out c.sum.ensures c.unit-t.ensures in
+    (omega arith, simp length-set at.invariant.1, written-turn p n a.list.now at.list at.k e (omega arith) at.invariant.2, incoming-kept p n at.k out)
+
+pub returns : goal.returns
+returns c =
+    let at = c.loop-k in
+    let a = c.args in
+    let e : at.k ≡ length a.points.now / 3 = omega arith in
+    rw e at at.invariant.2
