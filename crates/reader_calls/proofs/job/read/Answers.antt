@@ -19,6 +19,6 @@ returns-in-Refused c =
     let f = c.fill-answer in
     let e = c.clear-in-Refused in
     let both = read-wrong a.text.now (length a.words.now) (length a.numbers.now) (length a.wants.now) d.new.0 d.new.1.0 d.new.1.1.0 f.new.1.0 f.new.1.1.0 f.new.1.1.1.0 d.ensures.words_after d.ensures.numbers_after d.ensures.wants_after f.result f.ensures c.in-Refused.is
-    (e.ensures.words_after ∙ ap zeros (f.auto.1.0 ∙ d.auto.0))
-    (e.ensures.numbers_after ∙ ap zero_numbers (f.auto.1.1.0 ∙ d.auto.1.0))
-    (e.ensures.wants_after ∙ ap zeros (f.auto.1.1.1.0 ∙ d.auto.1.1.0)) in record { result_value = both.0; words_after = both.1.0; numbers_after = both.1.1.0; wants_after = both.1.1.1 }
+    (e.ensures.words_after ∙ ap zeros (f.auto.words ∙ d.auto.words))
+    (e.ensures.numbers_after ∙ ap zero_numbers (f.auto.numbers ∙ d.auto.numbers))
+    (e.ensures.wants_after ∙ ap zeros (f.auto.wants ∙ d.auto.wants)) in record { result_value = both.0; words_after = both.1.0; numbers_after = both.1.1.0; wants_after = both.1.1.1 }

@@ -24,9 +24,9 @@ loop-table-preserved c =
     let t = c.table_at-taken in
     let l : at.table + 1 ≤ 16 = omega (arith, c.loop-table-test.true) in (
       l,
-      t.auto.1.1.1.0 ∙ at.invariant.1,
-      t.auto.1.1.1.1.0 ∙ at.invariant.2,
-      t.auto.1.1.1.1.1.0 ∙ at.invariant.3,
+      t.auto.words ∙ at.invariant.1,
+      t.auto.numbers ∙ at.invariant.2,
+      t.auto.wants ∙ at.invariant.3,
       at.invariant.4 ∙ tables-next a.text.now 16 at.table at.at at.count at.progress at.words at.numbers at.wants t.result t.new.1.1.1.0 t.new.1.1.1.1.0 t.new.1.1.1.1.1.0 c.loop-table-test.true t.ensures c.if-taken-ne0.false c.counted-progress.ensures,
     )
 

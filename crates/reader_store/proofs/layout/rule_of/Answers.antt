@@ -8,4 +8,4 @@ use Rattle.reader_store.proofs.layout.rule_of.Goals as goal
 
 pub returns-else-table-lt-TABLE_COUNT : goal.returns-else-table-lt-TABLE_COUNT
 unfolding rule_of rules
-returns-else-table-lt-TABLE_COUNT c = let h : 16 ≤ c.args.table = c.if-table-lt-TABLE_COUNT.left in sym (get_or-eq_default rules 0 h)
+returns-else-table-lt-TABLE_COUNT c = let h : 16 ≤ c.args.table = c.if-table-lt-TABLE_COUNT.false in sym (get_or-eq_default rules 0 h)
