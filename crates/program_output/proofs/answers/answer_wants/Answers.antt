@@ -30,4 +30,4 @@ returns-in-Made c =
 pub returns-in-Refused : goal.returns-in-Refused
 returns-in-Refused c =
     let a = c.args in
-    let both = absurd (never-refused a.words.now a.numbers.now c.requires.numbers_value blank blank-long _ (sym (ap samples_answer c.in-Refused.is) ∙ c.samples-made.ensures.result_value)) in record { value = both.0; out_after = both.1 }
+    let none = never-refused a.words.now a.numbers.now c.requires.numbers_value blank blank-long _ (sym (ap samples_answer c.in-Refused.is) ∙ c.samples-made.ensures.result_value) in record { value = absurd none; out_after = absurd none }
