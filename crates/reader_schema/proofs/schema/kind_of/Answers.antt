@@ -55,3 +55,10 @@ returns-in-13 c = rw (c.in-13.is, lt-ltb _ 8 c.if-column-ge-COLUMNS_MOST.false)
 pub returns-in-14 : goal.returns-in-14
 unfolding column_kind kinds
 returns-in-14 c = rw (c.in-14.is, lt-ltb _ 8 c.if-column-ge-COLUMNS_MOST.false)
+
+pub returns-in_default : goal.returns-in_default
+unfolding column_kind
+returns-in_default c =
+    let a = c.args in
+    let r = c.in_default.in_default-own.rest in
+    rw (lt-ltb _ 8 c.if-column-ge-COLUMNS_MOST.false) (plain a.table a.column r.0.0.0.0.0.0.0.1 r.0.0.0.0.0.0.1 r.0.0.0.0.0.1 r.0.0.0.0.1 r.0.0.0.1 r.0.0.1 r.0.1 r.1)

@@ -79,3 +79,10 @@ returns-in-13 c = rw (c.in-13.is, lt-ltb _ 8 c.if-column-ge-COLUMNS_MOST.false)
 pub returns-in-14 : goal.returns-in-14
 unfolding number_place numbers
 returns-in-14 c = rw (c.in-14.is, lt-ltb _ 8 c.if-column-ge-COLUMNS_MOST.false)
+
+pub returns-in_default : goal.returns-in_default
+unfolding number_place row
+returns-in_default c =
+    let a = c.args in
+    let r = c.in_default.in_default-own.rest in
+    rw (lt-ltb _ 8 c.if-column-ge-COLUMNS_MOST.false) (none a.table a.column r.0.0.0.0.0.0.0.0.0.0.1 r.0.0.0.0.0.0.0.0.0.1 r.0.0.0.0.0.0.0.0.1 r.0.0.0.0.0.0.0.1 r.0.0.0.0.0.0.1 r.0.0.0.0.0.1 r.0.0.0.0.1 r.0.0.0.1 r.0.0.1 r.0.1 r.1)

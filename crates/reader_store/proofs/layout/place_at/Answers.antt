@@ -44,3 +44,9 @@ returns-in-2 c = rw c.in-2.is (get_or-map (part_of 2) places c.args.table [])
 pub returns-in-3 : goal.returns-in-3
 unfolding place_at places part_of
 returns-in-3 c = rw c.in-3.is (get_or-map (part_of 3) places c.args.table [])
+
+pub returns-in_default : goal.returns-in_default
+unfolding place_at
+returns-in_default c =
+    let r = c.in_default.in_default-own.rest in
+    rw (le-ltb _ 4 (past c.args.part r.0.0.0.1 r.0.0.1 r.0.1 r.1))

@@ -29,3 +29,10 @@ returns-in-1 c = rw (c.in-1.is, lt-ltb _ 8 c.if-column-ge-COLUMNS_MOST.false)
 pub returns-in-7 : goal.returns-in-7
 unfolding word_place words
 returns-in-7 c = rw (c.in-7.is, lt-ltb _ 8 c.if-column-ge-COLUMNS_MOST.false)
+
+pub returns-in_default : goal.returns-in_default
+unfolding word_place
+returns-in_default c =
+    let a = c.args in
+    let r = c.in_default.in_default-own.rest in
+    rw (lt-ltb _ 8 c.if-column-ge-COLUMNS_MOST.false) (none a.table a.column r.0.1 r.1)

@@ -24,3 +24,7 @@ returns-in-117 c = rw (c.in-117.is, c.surfaced.ensures, c.surface.ensures, c.of_
 pub returns-in-118 : goal.returns-in-118
 unfolding call_numbers
 returns-in-118 c = rw (c.in-118.is, c.surfaced-in-118.ensures, c.lane_surface.ensures, to_z-of_z w32 c.id.result (held (goal.at.returns-in-118 c).After-surfaced-in-118), c.id.ensures, c.of_bits-y.ensures, c.of_bits-x.ensures)
+
+pub returns-in_default : goal.returns-in_default
+unfolding call_numbers
+returns-in_default c = let r = c.in_default.in_default-own.rest in rw (ne_eqb _ _ r.0.0.0.1, ne_eqb _ _ r.0.0.1, ne_eqb _ _ r.0.1, ne_eqb _ _ r.1, c.located.ensures, c.locate.ensures, c.of_bits.ensures, c.of_bits-y.ensures, c.of_bits-x.ensures)
