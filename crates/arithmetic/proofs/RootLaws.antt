@@ -13,7 +13,7 @@ use lib.Ieee.{Float, nan, inf, fin, Format, prec, low, up, down, size, fits, le}
 use lib.Ieee.Digits.{size-lt}
 use lib.Ieee.Fits.{up_pos}
 use lib.Ieee.Scale.{finite}
-use lib.Ieee.Positive.{positive, positive_finite, first_pos}
+use lib.Ieee.Positive.{positive, positive-finite, first_pos}
 use borrow.Author.Tests.{eqb-true, eqb-false}
 use Rattle.float_laws.proofs.Units.{rnd, rnd-zero}
 use Rattle.float_laws.proofs.Value.{mag, pl, mi, Real, units_of, mag_is}
@@ -127,7 +127,7 @@ positive-or-zero f (fin false (suc m) e) r z = inl (lt→ltb 0 (suc m) (zero-lt-
 pub root-real : (f : Format) (x : Float) → Real f x → mi f x ≡ 0 → Real f (root_of f x)
 root-real f x r z =
     record {
-      finite = ⊎_elim (λ p. positive_finite (root_of f x) (root-positive f x r.fits p)) (λ (q : (mag f x ≡ 0) × T (finite (root_of f x))). q.1) (positive-or-zero f x r z);
+      finite = ⊎_elim (λ p. positive-finite (root_of f x) (root-positive f x r.fits p)) (λ (q : (mag f x ≡ 0) × T (finite (root_of f x))). q.1) (positive-or-zero f x r z);
       fits = root-fits f x r.fits;
     }
 
