@@ -32,7 +32,7 @@ use Rattle.lanes_borders.proofs.BorderSteps.{three, left-written, right-written,
 use Rattle.lanes_borders.proofs.Outward.{Ahead}
 use Rattle.lanes_borders.proofs.BorderLaws.{eight, thirty_six, eighty, ExtentWithin, inner-is-outer, inner-within, outer-border-within, outer-ahead}
 use Rattle.lanes_calls.specs.LaneCalls.{section_at, lanes_at, list_rows, borders_call, borders_list}
-use Rattle.lanes_laws.specs.BorderSizes.{inner_at, outer_at, Outward, SideKept, BorderSizes}
+use Rattle.lanes_laws.specs.BorderSizes.{inner_at, outer_at, first_on, lanes_on, Outward, SideKept, BorderSizes}
 use Rattle.lanes_calls.proofs.CallLaws.{list-by}
 
 -- ---- an admitted road at s
@@ -176,5 +176,5 @@ border-sizes words numbers fitting ok s f on list room =
     record {
       answer = listed;
       side = λ (right : Bool).
-          elim right [ false ↦ subst (λ (l : List Float). SideKept l false 0 (length (side_lanes road i false))) w k.0 | true ↦ subst (λ (l : List Float). SideKept l true (length (side_lanes road i false)) (length (side_lanes road i true))) w k.1 ];
+          elim right as (λ (b : Bool). SideKept (borders_list words numbers s list) b (first_on words numbers s b) (lanes_on words numbers s b)) [ false ↦ subst (λ (l : List Float). SideKept l false 0 (length (side_lanes road i false))) w k.0 | true ↦ subst (λ (l : List Float). SideKept l true (length (side_lanes road i false)) (length (side_lanes road i true))) w k.1 ];
     }

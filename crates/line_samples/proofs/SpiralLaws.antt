@@ -60,6 +60,7 @@ spiral_steps-le len = steps-le most_steps (goes_on len zero64) len zero64
 some : (n : ℕ) (more : Bool) (len u : Float) → T more → 1 ≤ steps_from (suc n) more len u
 unfolding steps_from
 some n true len u h = suc-le-suc zero-le
+some n false len u h = elim h [ ]
 
 -- a step is made where the loop starts at all
 pub steps-some : (len : Float) → T (goes_on len zero64) → 1 ≤ spiral_steps len

@@ -1,5 +1,6 @@
 -- `flat_in_order`: each flat table by the scan of its cubics.
 use Rattle.admission_order.specs.Order.{cubics_in_order}
+use mathlib.Core.Bool.{◌&&◌}
 use mathlib.Core.Path.{ap, ap₂, ◌∙◌}
 use Rattle.admission_order.proofs.order.flat_in_order.Goals as goal
 

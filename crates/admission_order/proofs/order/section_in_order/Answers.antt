@@ -1,5 +1,6 @@
 -- `section_in_order`: its two sides, each by its scan.
 use Rattle.records_lent.specs.Lists.{all_below}
+use mathlib.Core.Bool.{◌&&◌}
 use mathlib.Core.Path.{ap, ap₂, ◌∙◌}
 use Rattle.admission_order.specs.Order.{section_in_order}
 use Rattle.admission_order.proofs.order.section_in_order.Goals as goal

@@ -14,14 +14,11 @@ left c = c.args.s.rem * c.args.half % c.args.s.root
 first : (c : Start) → Early c.args.s.root c.args.s.rem c.args.half c.requires (quotient c) (left c)
 first c = early c.args.s.root c.args.s.rem c.args.half c.requires
 
-abbrev start : After-next_digit-d → tie.Start
-start c = c
+low : (c : After-next_digit-d) → Lowered c.args.s.root c.args.s.rem c.args.half c.requires (c.args.s.rem * c.args.half / c.args.s.root) (c.args.s.rem * c.args.half % c.args.s.root) c.next_digit-d.result
+low c = lowered c.args.s.root c.args.s.rem c.args.half c.requires c.next_digit-d.result c.next_digit-d.ensures
 
-low : (c : After-next_digit-d) → Lowered (start c).args.s.root (start c).args.s.rem (start c).args.half (start c).requires (quotient (start c)) (left (start c)) c.next_digit-d.result
-low c = lowered (start c).args.s.root (start c).args.s.rem (start c).args.half (start c).requires c.next_digit-d.result c.next_digit-d.ensures
-
-last : (c : After-next_digit-d) → Late (start c).args.s.root (start c).args.s.rem (start c).args.half (start c).requires (quotient (start c)) (left (start c)) c.next_digit-d.result
-last c = late (start c).args.s.root (start c).args.s.rem (start c).args.half (start c).requires c.next_digit-d.result (low c)
+last : (c : After-next_digit-d) → Late c.args.s.root c.args.s.rem c.args.half c.requires (c.args.s.rem * c.args.half / c.args.s.root) (c.args.s.rem * c.args.half % c.args.s.root) c.next_digit-d.result
+last c = late c.args.s.root c.args.s.rem c.args.half c.requires c.next_digit-d.result (low c)
 
 pub overflow_mul-part : goal.overflow_mul-part
 overflow_mul-part c = record { fits = omega (arith, (first (goal.at.overflow_mul-part c).Start).part) }

@@ -19,7 +19,7 @@ nearest_whole-requires c = product-in c.args.v (fit (goal.at.nearest_whole-requi
 pub returns-then-v-2 : goal.returns-then-v-2
 returns-then-v-2 c =
     let v = c.args.v in
-    ap value (to_z-of_z w64 c.nearest_whole.result (record { sfits = c.nearest_whole.type-inv }) ∙ c.nearest_whole.ensures) ∙ sym (count-in v c.if-v.true c.if-v-2.true)
+    ap value (to_z-of_z w64 c.nearest_whole.result (record { sfits = c.nearest_whole.type_inv }) ∙ c.nearest_whole.ensures) ∙ sym (count-in v c.if-v.true c.if-v-2.true)
 
 pub returns-else-v-2 : goal.returns-else-v-2
 returns-else-v-2 c = sym (count-high c.args.v c.if-v.true c.if-v-2.false)

@@ -21,14 +21,16 @@ small-minus : (c : After-nearest_size-k) → c.nearest_size-k.result ≤ 800000
 unfolding of_bits
 small-minus c =
     let p = c.args.p in
-    let t = turned p (fit c) c.requires.0 c.requires.1 c.if-p.true in
-    le_trans (le_of_eq c.nearest_size-k.ensures) (size-le (neg p) (neg-fits binary64 p (fit c)) t.0 t.1)
+    let f : T (fits binary64 p) = search rules in
+    let t = turned p f c.requires.0 c.requires.1 c.if-p.true in
+    le_trans (le_of_eq c.nearest_size-k.ensures) (size-le (neg p) (neg-fits binary64 p f) t.0 t.1)
 
 small-plus : (c : After-nearest_size) → c.nearest_size.result ≤ 800000
 unfolding of_bits
 small-plus c =
     let p = c.args.p in
-    le_trans (le_of_eq c.nearest_size.ensures) (size-le p (fit c) (kept p (fit c) c.requires.0 c.requires.1 c.if-p.false) c.requires.1)
+    let f : T (fits binary64 p) = search rules in
+    le_trans (le_of_eq c.nearest_size.ensures) (size-le p f (kept p f c.requires.0 c.requires.1 c.if-p.false) c.requires.1)
 
 pub nearest_size-k-requires : goal.nearest_size-k-requires
 unfolding of_bits

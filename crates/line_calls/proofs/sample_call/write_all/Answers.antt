@@ -44,7 +44,7 @@ loop-i-preserved c =
     let road = road_of a.words.now a.numbers.now in
     let i = c.loop-i.i in (
       omega arith,
-      wrote.auto.1.0 ∙ c.loop-i.invariant.1,
+      wrote.auto.samples ∙ c.loop-i.invariant.1,
       turn-place road i c.loop-i.invariant.2 g.ensures count.ensures.value,
       all-turn road i a.samples.now c.loop-i.invariant.2 g.ensures c.loop-i.invariant.3 wrote.ensures,
     )

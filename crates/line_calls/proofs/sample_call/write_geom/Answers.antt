@@ -17,7 +17,7 @@ overflow_sub-n c =
 
 pub write_steps-requires : goal.write_steps-requires
 write_steps-requires c =
-    omega (arith, geom-some c.args.g c.in-Spiral.is, c.requires, c.put.auto.0)
+    omega (arith, geom-some c.args.g c.in-Spiral.is, c.requires, c.put.auto.samples)
 
 pub returns-in-Spiral : goal.returns-in-Spiral
 returns-in-Spiral c =

@@ -16,7 +16,7 @@ loop-i-preserved c =
     let at = c.loop-i in
     let a = c.args in (
       omega arith,
-      c.put.auto.0 ∙ at.invariant.1,
+      c.put.auto.samples ∙ at.invariant.1,
       steps-turn a.g a.k0 a.k1 a.at a.n at.i at.last at.samples c.loop-i-test.true q.ensures p.ensures ∙ at.invariant.2,
     )
 

@@ -14,7 +14,7 @@ returns-then-out-lt-OUTPUT_NEEDED c = let a = c.args in let both = answered-shor
 pub answer_wants-requires : goal.answer_wants-requires
 answer_wants-requires c =
     let w = accepted-job c.args.text.now (length-replicate {A = ℕ} 1891 0) (length-replicate 8449 (of_bits binary64 0)) (length-replicate {A = ℕ} 32 0) (sym (ap read_answer c.in-Accepted.is) ∙ c.read.ensures.result_value) c.read.ensures.words_after c.read.ensures.numbers_after c.read.ensures.wants_after in
-    record { numbers_value = w.0; n_bound = w.1; wants_needed_in_bounds = omega (arith, c.read.auto.1.1.1.0, length-replicate {A = ℕ} 32 0); output_needed_in_bounds = c.if-out-lt-OUTPUT_NEEDED.false }
+    record { numbers_value = w.0; n_bound = w.1; wants_needed_in_bounds = omega (arith, c.read.auto.wants, length-replicate {A = ℕ} 32 0); output_needed_in_bounds = c.if-out-lt-OUTPUT_NEEDED.false }
 
 pub returns-in-Accepted : goal.returns-in-Accepted
 returns-in-Accepted c =

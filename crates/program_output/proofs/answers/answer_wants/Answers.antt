@@ -11,10 +11,10 @@ pub overflow_mul-samples : goal.overflow_mul-samples
 overflow_mul-samples c = let h = made-count c.args.words.now c.args.numbers.now c.requires.numbers_value blank blank-long c.in-Made.count (sym (ap samples_answer c.in-Made.is) ∙ c.samples-made.ensures.result_value) in search rules
 
 pub slice_bounds-samples-end-in-Made : goal.slice_bounds-samples-end-in-Made
-slice_bounds-samples-end-in-Made c = let h = made-count c.args.words.now c.args.numbers.now c.requires.numbers_value blank blank-long c.in-Made.count (sym (ap samples_answer c.in-Made.is) ∙ c.samples-made.ensures.result_value) in omega (arith, blank-long, c.samples-made.auto.1.1.0)
+slice_bounds-samples-end-in-Made c = let h = made-count c.args.words.now c.args.numbers.now c.requires.numbers_value blank blank-long c.in-Made.count (sym (ap samples_answer c.in-Made.is) ∙ c.samples-made.ensures.result_value) in omega (arith, blank-long, c.samples-made.auto.samples)
 
 pub slice_bounds-put_wants-end : goal.slice_bounds-put_wants-end
-slice_bounds-put_wants-end c = let h = made-count c.args.words.now c.args.numbers.now c.requires.numbers_value blank blank-long c.in-Made.count (sym (ap samples_answer c.in-Made.is) ∙ c.samples-made.ensures.result_value) in simp length-take (omega (arith, blank-long, c.samples-made.auto.1.1.0))
+slice_bounds-put_wants-end c = let h = made-count c.args.words.now c.args.numbers.now c.requires.numbers_value blank blank-long c.in-Made.count (sym (ap samples_answer c.in-Made.is) ∙ c.samples-made.ensures.result_value) in simp length-take (omega (arith, blank-long, c.samples-made.auto.samples))
 
 pub put_wants-requires : goal.put_wants-requires
 put_wants-requires c =
@@ -30,4 +30,4 @@ returns-in-Made c =
 pub returns-in-Refused : goal.returns-in-Refused
 returns-in-Refused c =
     let a = c.args in
-    let both = absurd (never-refused a.words.now a.numbers.now c.requires.numbers_value blank blank-long _ (sym (ap samples_answer c.in-Refused.is) ∙ c.samples-made.ensures.result_value)) in record { value = both.0; out_after = both.1 }
+    let none = never-refused a.words.now a.numbers.now c.requires.numbers_value blank blank-long _ (sym (ap samples_answer c.in-Refused.is) ∙ c.samples-made.ensures.result_value) in record { value = absurd none; out_after = absurd none }

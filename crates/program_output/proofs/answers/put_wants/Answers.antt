@@ -20,7 +20,7 @@ loop-k-preserved c =
     let at = c.loop-k in
     let p = c.put_line-at in
     let w = wants-turn a.words.now a.numbers.now a.samples.now a.wants.now a.out.now a.from at.k c.of_bits.ensures c.of_bits-in-loop-k.ensures c.surface-answer.ensures at.invariant.2 at.invariant.3 at.invariant.4 p.ensures.value p.ensures.out_after in
-    (omega arith, p.auto.0 ∙ at.invariant.1, w.0, w.1, w.2)
+    (omega arith, p.auto.out ∙ at.invariant.1, w.0, w.1, w.2)
 
 pub returns : goal.returns
 returns c =

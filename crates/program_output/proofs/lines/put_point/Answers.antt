@@ -8,16 +8,16 @@ pub put_hex-requires-2 : goal.put_hex-requires-2
 put_hex-requires-2 c = simp length-set (omega arith)
 
 pub bounds-out-at-2 : goal.bounds-out-at-2
-bounds-out-at-2 c = omega (arith, c.put_hex.auto.0, simp length-set at c.put_hex-2.auto.0)
+bounds-out-at-2 c = omega (arith, c.put_hex.auto.out, simp length-set at c.put_hex-2.auto.out)
 
 pub put_hex-requires-3 : goal.put_hex-requires-3
-put_hex-requires-3 c = simp length-set (omega (arith, c.put_hex.auto.0, simp length-set at c.put_hex-2.auto.0))
+put_hex-requires-3 c = simp length-set (omega (arith, c.put_hex.auto.out, simp length-set at c.put_hex-2.auto.out))
 
 pub bounds-out-at-3 : goal.bounds-out-at-3
-bounds-out-at-3 c = omega (arith, c.put_hex.auto.0, simp length-set at c.put_hex-2.auto.0, simp length-set at c.put_hex-3.auto.0)
+bounds-out-at-3 c = omega (arith, c.put_hex.auto.out, simp length-set at c.put_hex-2.auto.out, simp length-set at c.put_hex-3.auto.out)
 
 pub shape_of-out : goal.shape_of-out
-shape_of-out c = simp length-set (omega (arith, c.put_hex.auto.0, simp length-set at c.put_hex-2.auto.0, simp length-set at c.put_hex-3.auto.0))
+shape_of-out c = simp length-set (omega (arith, c.put_hex.auto.out, simp length-set at c.put_hex-2.auto.out, simp length-set at c.put_hex-3.auto.out))
 
 pub returns : goal.returns
 returns c =

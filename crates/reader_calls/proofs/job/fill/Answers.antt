@@ -17,5 +17,5 @@ returns c =
     let a = c.args in
     let t = c.tables-taken in
     let j = c.judged in
-    filled-same j.result t.new.1.0 t.new.1.1.0 t.new.1.1.1.0 (reading-is a.text.now a.words.now a.numbers.now a.wants.now (not-false _ c.if-not-room.false-raw) c.if-text-gt-TEXT_MOST.false)
-    (filled-by (tables_from 16 0 a.text.now 0 0 start_progress a.words.now a.numbers.now a.wants.now) t.result j.result t.new.1.0 t.new.1.1.0 t.new.1.1.1.0 t.ensures j.ensures)
+    filled-same j.result t.new.words t.new.numbers t.new.wants (reading-is a.text.now a.words.now a.numbers.now a.wants.now (not-false _ c.if-not-room.false-raw) c.if-text-gt-TEXT_MOST.false)
+    (filled-by (tables_from 16 0 a.text.now 0 0 start_progress a.words.now a.numbers.now a.wants.now) t.result j.result t.new.words t.new.numbers t.new.wants t.ensures j.ensures)

@@ -10,7 +10,7 @@ returns-in-Accepted c =
     let a = c.args in
     let d = c.clear in
     let f = c.fill-answer in
-    let both = read_right a.text.now (length a.words.now) (length a.numbers.now) (length a.wants.now) d.new.0 d.new.1.0 d.new.1.1.0 f.new.1.0 f.new.1.1.0 f.new.1.1.1.0 d.ensures.words_after d.ensures.numbers_after d.ensures.wants_after f.result f.ensures c.in-Accepted.is in record { result_value = both.0; words_after = both.1.0; numbers_after = both.1.1.0; wants_after = both.1.1.1 }
+    let both = read_right a.text.now (length a.words.now) (length a.numbers.now) (length a.wants.now) d.new.words d.new.numbers d.new.wants f.new.words f.new.numbers f.new.wants d.ensures.words_after d.ensures.numbers_after d.ensures.wants_after f.result f.ensures c.in-Accepted.is in record { result_value = both.0; words_after = both.1.0; numbers_after = both.1.1.0; wants_after = both.1.1.1 }
 
 pub returns-in-Refused : goal.returns-in-Refused
 returns-in-Refused c =
@@ -18,7 +18,7 @@ returns-in-Refused c =
     let d = c.clear in
     let f = c.fill-answer in
     let e = c.clear-in-Refused in
-    let both = read-wrong a.text.now (length a.words.now) (length a.numbers.now) (length a.wants.now) d.new.0 d.new.1.0 d.new.1.1.0 f.new.1.0 f.new.1.1.0 f.new.1.1.1.0 d.ensures.words_after d.ensures.numbers_after d.ensures.wants_after f.result f.ensures c.in-Refused.is
-    (e.ensures.words_after ∙ ap zeros (f.auto.1.0 ∙ d.auto.0))
-    (e.ensures.numbers_after ∙ ap zero_numbers (f.auto.1.1.0 ∙ d.auto.1.0))
-    (e.ensures.wants_after ∙ ap zeros (f.auto.1.1.1.0 ∙ d.auto.1.1.0)) in record { result_value = both.0; words_after = both.1.0; numbers_after = both.1.1.0; wants_after = both.1.1.1 }
+    let both = read-wrong a.text.now (length a.words.now) (length a.numbers.now) (length a.wants.now) d.new.words d.new.numbers d.new.wants f.new.words f.new.numbers f.new.wants d.ensures.words_after d.ensures.numbers_after d.ensures.wants_after f.result f.ensures c.in-Refused.is
+    (e.ensures.words_after ∙ ap zeros (f.auto.words ∙ d.auto.words))
+    (e.ensures.numbers_after ∙ ap zero_numbers (f.auto.numbers ∙ d.auto.numbers))
+    (e.ensures.wants_after ∙ ap zeros (f.auto.wants ∙ d.auto.wants)) in record { result_value = both.0; words_after = both.1.0; numbers_after = both.1.1.0; wants_after = both.1.1.1 }

@@ -44,8 +44,8 @@ loop-order-preserved c =
     let kept = c.keep_line-progress in
     let q = kept.ensures in (
       search rules,
-      kept.auto.0 ∙ at.invariant.1,
-      kept.auto.1.0 ∙ at.invariant.2,
-      kept.auto.1.1.0 ∙ at.invariant.3,
+      kept.auto.words ∙ at.invariant.1,
+      kept.auto.numbers ∙ at.invariant.2,
+      kept.auto.wants ∙ at.invariant.3,
       at.invariant.4 ∙ lines_next a.table a.order a.text.now at.at at.k at.progress at.words at.numbers at.wants c.byte_at.ensures c.if-byte_at-eq10.false c.values_at-row.ensures _ c.if-limit-k.false (not-false _ c.if-not-row.false) q.value q.words_after q.numbers_after q.wants_after,
     )

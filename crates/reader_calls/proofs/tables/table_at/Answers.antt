@@ -18,4 +18,4 @@ returns c =
     let a = c.args in
     let l = c.lines in
     let e = table_lines_lem a.table a.text.now a.at a.progress a.words.now a.numbers.now a.wants.now c.name_at-name.ensures c.table_name.ensures c.if-name-table_name.false c.head_at-head.ensures (not-false _ c.if-not-head.false) in
-    agree_same l.result l.new.1.1.1.1.0 l.new.1.1.1.1.1.0 l.new.1.1.1.1.1.1.0 e l.ensures
+    agree_same l.result l.new.words l.new.numbers l.new.wants e l.ensures

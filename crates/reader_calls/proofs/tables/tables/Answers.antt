@@ -15,7 +15,7 @@ returns-then-taken-ne0 c =
     let a = c.args in
     let at = c.loop-table in
     let t = c.table_at-taken in
-    agree_same t.result t.new.1.1.1.0 t.new.1.1.1.1.0 t.new.1.1.1.1.1.0 at.invariant.4 (tables-stop a.text.now 16 at.table at.at at.count at.progress at.words at.numbers at.wants t.result t.new.1.1.1.0 t.new.1.1.1.1.0 t.new.1.1.1.1.1.0 c.loop-table-test.true t.ensures c.if-taken-ne0.true)
+    agree_same t.result t.new.words t.new.numbers t.new.wants at.invariant.4 (tables-stop a.text.now 16 at.table at.at at.count at.progress at.words at.numbers at.wants t.result t.new.words t.new.numbers t.new.wants c.loop-table-test.true t.ensures c.if-taken-ne0.true)
 
 pub loop-table-preserved : goal.loop-table-preserved
 loop-table-preserved c =
@@ -24,10 +24,10 @@ loop-table-preserved c =
     let t = c.table_at-taken in
     let l : at.table + 1 ≤ 16 = omega (arith, c.loop-table-test.true) in (
       l,
-      t.auto.1.1.1.0 ∙ at.invariant.1,
-      t.auto.1.1.1.1.0 ∙ at.invariant.2,
-      t.auto.1.1.1.1.1.0 ∙ at.invariant.3,
-      at.invariant.4 ∙ tables-next a.text.now 16 at.table at.at at.count at.progress at.words at.numbers at.wants t.result t.new.1.1.1.0 t.new.1.1.1.1.0 t.new.1.1.1.1.1.0 c.loop-table-test.true t.ensures c.if-taken-ne0.false c.counted-progress.ensures,
+      t.auto.words ∙ at.invariant.1,
+      t.auto.numbers ∙ at.invariant.2,
+      t.auto.wants ∙ at.invariant.3,
+      at.invariant.4 ∙ tables-next a.text.now 16 at.table at.at at.count at.progress at.words at.numbers at.wants t.result t.new.words t.new.numbers t.new.wants c.loop-table-test.true t.ensures c.if-taken-ne0.false c.counted-progress.ensures,
     )
 
 pub returns-then-at-text : goal.returns-then-at-text

@@ -1,12 +1,35 @@
 -- A figure, a letter, or neither: what the definition's tests then say.
-use Prim.Native.Nat.{ℕ, ◌-◌, ◌≤◌}
+use Prim.Native.Nat.{ℕ, ◌-◌, ◌≤◌, ◌<◌}
 use mathlib.Core.Path.{◌≡◌, refl}
 use mathlib.Core.Bool.{Bool, true, false, ◌&&◌}
 use native.Mathlib.Omega.{arith}
-use borrow.Author.Tests.{le-ltb, le-leb, lt-leb, ltb-false}
+use borrow.Author.Tests.{le-ltb, le-leb, lt-leb, ltb-false, leb-true, leb-false}
 use lib.Dec.{ltb, leb}
 use Rattle.reader_hex.specs.Hex.{digit_of}
+use borrow.Author.Rules.{rules}
 use Rattle.reader_hex.proofs.bytes.digit.Goals as goal
+
+left : (a b : Bool) → a && b ≡ true → a ≡ true
+left true b e = refl
+left false b e = e
+
+right : (a b : Bool) → a && b ≡ true → b ≡ true
+right true b e = e
+right false b e = absurd (bool e)
+  where
+    bool : false ≡ true → ⊥
+    bool e = search rules
+
+-- a byte between two bounds, and one that is not though it is not below
+module _ (lo hi b : ℕ) where
+  low : leb lo b && leb b hi ≡ true → lo ≤ b
+  low e = leb-true lo b (left (leb lo b) (leb b hi) e)
+
+  high : leb lo b && leb b hi ≡ true → b ≤ hi
+  high e = leb-true b hi (right (leb lo b) (leb b hi) e)
+
+  over : leb lo b && leb b hi ≡ false → lo ≤ b → hi < b
+  over e h = leb-false b hi (rw (le-leb lo b h) at e)
 
 figure : (b : ℕ) → leb 48 b && leb b 57 ≡ true → b - 48 ≡ digit_of b
 unfolding digit_of

@@ -1,9 +1,9 @@
 use mathlib.Core.Path.{sym, ◌∙◌}
-use mathlib.Core.Logic.{⊎_elim}
 use native.Mathlib.Omega.{arith}
 use Rattle.reader_lines.proofs.Lines.{valued_past, row_is, row-end, row-broken, row-stop, row_next, stop-inside}
 use borrow.Author.Rules.{rules}
 use Rattle.reader_lines.proofs.values_line.values_at.Goals as goal
+use Rattle.reader_lines.proofs.values_line.values_at.Goals.{then-column-lt-COLUMNS_MOST, else-column-lt-COLUMNS_MOST}
 
 pub loop-i-init : goal.loop-i-init
 loop-i-init c = let a = c.args in (search rules, row_is a.text.now a.at a.table a.order c.count_of-n.ensures c.no_cells-values.ensures, rw c.no_cells-values.ensures)
@@ -25,8 +25,8 @@ pub loop-i-preserved : goal.loop-i-preserved
 loop-i-preserved c =
     let a = c.args in let at = c.loop-i in (
       search rules,
-      at.invariant.1 ∙ row_next a.text.now at.p a.table a.order at.i _ at.values c.column_of-column.ensures c.kind_of.ensures c.cell_at-cell.ensures c.loop-i-test.true c.in-Value.is c.byte_at.ensures c.stop_of.ensures c.if-byte_at-stop_of.false (⊎_elim (λ w. w.1) (λ w. w.1 ∙ sym (valued_past at.values _ _ at.invariant.2 w.0.left)) c.if-column-lt-COLUMNS_MOST.branch),
-      ⊎_elim (λ w. rw w.1 (search rules)) (λ w. rw w.1 at.invariant.2) c.if-column-lt-COLUMNS_MOST.branch,
+      at.invariant.1 ∙ row_next a.text.now at.p a.table a.order at.i _ at.values c.column_of-column.ensures c.kind_of.ensures c.cell_at-cell.ensures c.loop-i-test.true c.in-Value.is c.byte_at.ensures c.stop_of.ensures c.if-byte_at-stop_of.false (elim c.if-column-lt-COLUMNS_MOST.branch [ then-column-lt-COLUMNS_MOST w ↦ w.values-is | else-column-lt-COLUMNS_MOST w ↦ w.values-is ∙ sym (valued_past at.values _ _ at.invariant.2 w.if-column-lt-COLUMNS_MOST.false) ]),
+      elim c.if-column-lt-COLUMNS_MOST.branch [ then-column-lt-COLUMNS_MOST w ↦ rw w.values-is (search rules) | else-column-lt-COLUMNS_MOST w ↦ rw w.values-is at.invariant.2 ],
     )
 
 pub returns : goal.returns

@@ -60,5 +60,5 @@ pub returns-in_default : goal.returns-in_default
 unfolding column_kind
 returns-in_default c =
     let a = c.args in
-    let r = c.in_default.rest in
+    let r = c.in_default.in_default-own.rest in
     rw (lt-ltb _ 8 c.if-column-ge-COLUMNS_MOST.false) (plain a.table a.column r.0.0.0.0.0.0.0.1 r.0.0.0.0.0.0.1 r.0.0.0.0.0.1 r.0.0.0.0.1 r.0.0.0.1 r.0.0.1 r.0.1 r.1)

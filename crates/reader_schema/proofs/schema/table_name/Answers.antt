@@ -3,8 +3,13 @@ use mathlib.Core.Path.{sym}
 use Prim.Native.Nat.{◌≤◌}
 use lib.ListN.{get_or-eq_default}
 use Rattle.reader_schema.specs.Schema.{names, name_of}
+use borrow.Author.Rules.{rules}
 use Rattle.reader_schema.proofs.schema.table_name.Goals as goal
 
 pub returns-else-table-lt-TABLE_COUNT : goal.returns-else-table-lt-TABLE_COUNT
 unfolding name_of names
 returns-else-table-lt-TABLE_COUNT c = let h : 16 ≤ c.args.table = c.if-table-lt-TABLE_COUNT.false in sym (get_or-eq_default names 0 h)
+
+pub returns-then-table-lt-TABLE_COUNT : goal.returns-then-table-lt-TABLE_COUNT
+unfolding name_of names
+returns-then-table-lt-TABLE_COUNT c = search rules

@@ -11,7 +11,7 @@ pub loop-column-preserved : goal.loop-column-preserved
 loop-column-preserved c =
     let a = c.args in let at = c.loop-column in (
       search rules,
-      c.put_number.auto.0 ∙ at.invariant.1,
+      c.put_number.auto.numbers ∙ at.invariant.1,
       numbers_more a.table a.k a.cells at.column a.numbers.now at.invariant.2 refl c.put_number.ensures,
     )
 

@@ -6,7 +6,7 @@ use Rattle.reader_store.specs.Layout.{numbers_below}
 use Rattle.reader_store.proofs.columns.put_numbers.Given as goal
 
 abbrev pub invariant-loop-column : goal.invariant-loop-column
-invariant-loop-column l = (l.column ≤ 8) × (length l.numbers ≡ length l.initial.numbers) × (l.numbers ≡ numbers_below l.table l.k (record { l.of = l.of }) l.column l.initial.numbers)
+invariant-loop-column l = (l.column ≤ 8) × (length l.numbers ≡ length l.initial.numbers) × (l.numbers ≡ numbers_below l.table l.k (record { of = l.of }) l.column l.initial.numbers)
 
 abbrev pub decreases-loop-column : goal.decreases-loop-column
 decreases-loop-column l = 8 - l.column

@@ -11,7 +11,7 @@ pub loop-column-preserved : goal.loop-column-preserved
 loop-column-preserved c =
     let a = c.args in let at = c.loop-column in (
       search rules,
-      c.put_word.auto.0 ∙ at.invariant.1,
+      c.put_word.auto.words ∙ at.invariant.1,
       words_more a.table a.k a.cells at.column a.words.now at.invariant.2 refl c.put_word.ensures,
     )
 

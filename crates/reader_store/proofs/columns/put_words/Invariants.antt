@@ -6,7 +6,7 @@ use Rattle.reader_store.specs.Layout.{words_below}
 use Rattle.reader_store.proofs.columns.put_words.Given as goal
 
 abbrev pub invariant-loop-column : goal.invariant-loop-column
-invariant-loop-column l = (l.column ≤ 8) × (length l.words ≡ length l.initial.words) × (l.words ≡ words_below l.table l.k (record { l.of = l.of }) l.column l.initial.words)
+invariant-loop-column l = (l.column ≤ 8) × (length l.words ≡ length l.initial.words) × (l.words ≡ words_below l.table l.k (record { of = l.of }) l.column l.initial.words)
 
 abbrev pub decreases-loop-column : goal.decreases-loop-column
 decreases-loop-column l = 8 - l.column

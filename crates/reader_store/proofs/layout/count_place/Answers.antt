@@ -3,8 +3,13 @@ use mathlib.Core.Path.{sym}
 use Prim.Native.Nat.{◌≤◌}
 use lib.ListN.{get_or-eq_default}
 use Rattle.reader_store.specs.Layout.{counts, count_place}
+use borrow.Author.Rules.{rules}
 use Rattle.reader_store.proofs.layout.count_place.Goals as goal
 
 pub returns-else-table-lt-TABLE_COUNT : goal.returns-else-table-lt-TABLE_COUNT
 unfolding count_place counts
 returns-else-table-lt-TABLE_COUNT c = let h : 16 ≤ c.args.table = c.if-table-lt-TABLE_COUNT.false in sym (get_or-eq_default counts 0 h)
+
+pub returns-then-table-lt-TABLE_COUNT : goal.returns-then-table-lt-TABLE_COUNT
+unfolding count_place counts
+returns-then-table-lt-TABLE_COUNT c = search rules

@@ -48,5 +48,5 @@ returns-in-3 c = rw c.in-3.is (get_or-map (part_of 3) places c.args.table [])
 pub returns-in_default : goal.returns-in_default
 unfolding place_at
 returns-in_default c =
-    let r = c.in_default.rest in
+    let r = c.in_default.in_default-own.rest in
     rw (le-ltb _ 4 (past c.args.part r.0.0.0.1 r.0.0.1 r.0.1 r.1))

@@ -34,5 +34,5 @@ pub returns-in_default : goal.returns-in_default
 unfolding word_place
 returns-in_default c =
     let a = c.args in
-    let r = c.in_default.rest in
+    let r = c.in_default.in_default-own.rest in
     rw (lt-ltb _ 8 c.if-column-ge-COLUMNS_MOST.false) (none a.table a.column r.0.1 r.1)

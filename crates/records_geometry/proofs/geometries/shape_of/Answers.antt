@@ -7,6 +7,3 @@ returns-in-1 c = rw c.in-1.is
 
 pub returns-in-2 : goal.returns-in-2
 returns-in-2 c = rw c.in-2.is
-
-pub returns-in_default : goal.returns-in_default
-returns-in_default c = rw (ne_eqb _ _ c.in_default.rest.0.1, ne_eqb _ _ c.in_default.rest.1)

@@ -1,5 +1,4 @@
 -- `unused_of`: each arm is one reading of the tests on the code.
-use borrow.Author.Tests.{ne_eqb}
 use Rattle.records_geometry.proofs.geometries.unused_of.Goals as goal
 
 pub returns-in-1 : goal.returns-in-1
@@ -7,6 +6,3 @@ returns-in-1 c = rw c.in-1.is
 
 pub returns-in-2 : goal.returns-in-2
 returns-in-2 c = rw c.in-2.is
-
-pub returns-in_default : goal.returns-in_default
-returns-in_default c = rw (ne_eqb _ _ c.in_default.rest.0.1, ne_eqb _ _ c.in_default.rest.1)

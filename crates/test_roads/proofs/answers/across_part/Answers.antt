@@ -22,5 +22,5 @@ returns-in-2 c = rw (c.in-2.is, whole (goal.at.returns-in-2 c).After-lane_across
 
 pub returns-in_default : goal.returns-in_default
 returns-in_default c =
-    let q = c.in_default.rest in
+    let q = c.in_default.in_default-own.rest in
     rw (ne_eqb _ _ q.0.0.1, ne_eqb _ _ q.0.1, ne_eqb _ _ q.1, whole (goal.at.returns-in_default c).After-lane_across-a)

@@ -27,4 +27,4 @@ returns-in-118 c = rw (c.in-118.is, c.surfaced-in-118.ensures, c.lane_surface.en
 
 pub returns-in_default : goal.returns-in_default
 unfolding call_numbers
-returns-in_default c = let r = c.in_default.rest in rw (ne_eqb _ _ r.0.0.0.1, ne_eqb _ _ r.0.0.1, ne_eqb _ _ r.0.1, ne_eqb _ _ r.1, c.located.ensures, c.locate.ensures, c.of_bits.ensures, c.of_bits-y.ensures, c.of_bits-x.ensures)
+returns-in_default c = let r = c.in_default.in_default-own.rest in rw (ne_eqb _ _ r.0.0.0.1, ne_eqb _ _ r.0.0.1, ne_eqb _ _ r.0.1, ne_eqb _ _ r.1, c.located.ensures, c.locate.ensures, c.of_bits.ensures, c.of_bits-y.ensures, c.of_bits-x.ensures)

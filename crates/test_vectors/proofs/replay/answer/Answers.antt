@@ -21,5 +21,5 @@ returns-in-3 c = rw (c.in-3.is, c.bits_of-in-3.ensures, c.sin_cos-in-3.ensures.1
 
 pub returns-in_default : goal.returns-in_default
 unfolding vector_word
-returns-in_default c = let q = c.in_default.rest in
+returns-in_default c = let q = c.in_default.in_default-own.rest in
     rw (ne_eqb _ _ q.0.0.0.1, ne_eqb _ _ q.0.0.1, ne_eqb _ _ q.0.1, ne_eqb _ _ q.1, c.bits_of_counts.ensures, c.counts.ensures)

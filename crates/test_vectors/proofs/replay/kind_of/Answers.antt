@@ -25,5 +25,5 @@ returns-in-107 c = rw c.in-107.is (refl, search rules)
 
 pub returns-in_default : goal.returns-in_default
 unfolding vector_kind
-returns-in_default c = let q = c.in_default.rest in
+returns-in_default c = let q = c.in_default.in_default-own.rest in
     rw (ne_eqb _ _ q.0.0.0.0.1, ne_eqb _ _ q.0.0.0.1, ne_eqb _ _ q.0.0.1, ne_eqb _ _ q.0.1, ne_eqb _ _ q.1) (refl, search rules)

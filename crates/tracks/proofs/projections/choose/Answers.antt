@@ -5,6 +5,8 @@ use lib.ListN.{length}
 use Rattle.coordinates.specs.Points.{point_at}
 use Rattle.tracks.specs.ProjectionChoice.{chosen_of}
 use Rattle.tracks.proofs.ProjectionSteps.{chosen_none, chosen-turn}
+use lib.Ieee.{nan_bits}
+use borrow.Author.Rules.{rules}
 use Rattle.tracks.proofs.projections.choose.Goals as goal
 
 pub loop-i-init : goal.loop-i-init
@@ -22,3 +24,7 @@ returns c =
     let a = c.args in
     let e : at.i - 1 ≡ length a.points.now / 3 - 1 = omega arith in
     at.invariant.2 ∙ ap (chosen_of (point_at a.points.now) a.at) e
+
+pub float_from_bits-best : goal.float_from_bits-best
+unfolding nan_bits
+float_from_bits-best c = search rules

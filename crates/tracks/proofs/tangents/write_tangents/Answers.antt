@@ -1,5 +1,4 @@
 use mathlib.Core.Path.{◌≡◌, refl, ◌∙◌}
-use mathlib.Core.Logic.{⊎_elim}
 use Prim.Native.Nat.{◌/◌}
 use native.Mathlib.Omega.{arith}
 use lib.ListN.{length, length-set}
@@ -7,6 +6,7 @@ use Rattle.coordinates.specs.Points.{point_at}
 use Rattle.tracks.specs.Tangents.{outgoing_of}
 use Rattle.tracks.proofs.TangentSteps.{incoming-first, outgoing-last, outgoing-next, incoming-kept, tangent-made, written_none, written-turn}
 use Rattle.tracks.proofs.tangents.write_tangents.Goals as goal
+use Rattle.tracks.proofs.tangents.write_tangents.Goals.{then-k-n, else-k-n}
 
 pub loop-k-init : goal.loop-k-init
 loop-k-init c =
@@ -27,10 +27,10 @@ loop-k-preserved c =
     let p = point_at a.points.now in
     let n = length a.points.now / 3 in
     let out : c.if-k-n.outgoing ≡ outgoing_of p n at.k =
-    ⊎_elim
-    (λ w. w.4 ∙ outgoing-next p n at.k w.0.taken w.1.ensures w.2.ensures w.3.ensures)
-    (λ w. w.1 ∙ outgoing-last p n at.k (let l = w.0.left in omega arith))
-    c.if-k-n.branch in
+    elim c.if-k-n.branch [
+      then-k-n w ↦ w.outgoing-is ∙ outgoing-next p n at.k w.if-k-n.true w.point.ensures w.point-then-k-n.ensures w.direction-outgoing.ensures
+    | else-k-n w ↦ w.outgoing-is ∙ outgoing-last p n at.k (let l = w.if-k-n.false in omega arith)
+    ] in
     let e = tangent-made p n at.k (at.invariant.3 c.loop-k-test.true) out c.sum.ensures c.unit-t.ensures in
     (omega arith, simp length-set at.invariant.1, written-turn p n a.list.now at.list at.k e (omega arith) at.invariant.2, incoming-kept p n at.k out)
 
