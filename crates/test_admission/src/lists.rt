@@ -8,8 +8,9 @@ use crate::calls::{admission_answer, samples_answer};
 use crate::memory::{
     keep, lent, number_space, put_number, put_word, restore, sample_space, text_space, word_space,
 };
-use libc::{STDIN_FILENO, STDOUT_FILENO};
+use program_input::read_full;
 use records::layout::{NUMBERS_NEEDED, WORDS_NEEDED};
+use std::io;
 use test_support::{Line, line_at};
 
 #[derive(Clone, Copy)]
@@ -44,31 +45,25 @@ fn ask(letter: u8, words: &[u16], numbers: &[f64], state: State) -> u64 {
 }
 
 // Writes the answer given here, then the line that it differs from.
-fn show(line: Line, got: u64) {
+fn show(rt: &impl Print, line: Line, got: u64) -> io::Result<()> {
     let letter = [line.letter];
-    io::write_all(STDOUT_FILENO, b"differs, here ");
-    io::print_hex(STDOUT_FILENO, got, 16);
-    io::write_all(STDOUT_FILENO, b": ");
-    io::write_all(STDOUT_FILENO, &letter);
-    io::write_all(STDOUT_FILENO, b" ");
-    io::print_hex(STDOUT_FILENO, line.a, 16);
-    io::write_all(STDOUT_FILENO, b" ");
-    io::print_hex(STDOUT_FILENO, line.b, 16);
-    io::write_all(STDOUT_FILENO, b"\n");
+    print!(rt; "differs, here {got:016x}: ")?;
+    rt.write_all(&letter)?;
+    println!(rt; " {:016x} {:016x}", line.a, line.b)
 }
 
 // Counts a case. The next one lends all.
-fn judged(line: Line, got: u64, state: State) -> State {
+fn judged(rt: &impl Print, line: Line, got: u64, state: State) -> io::Result<State> {
     let mut r = state;
     r.words = WORDS_NEEDED as u64;
     r.numbers = NUMBERS_NEEDED as u64;
     r.samples = 8004;
     r.cases = std::num::wrapping_add_u64(state.cases, 1);
     if got != line.b {
-        show(line, got);
+        show(rt, line, got)?;
         r.differ = std::num::wrapping_add_u64(state.differ, 1);
     }
-    r
+    Ok(r)
 }
 
 fn broken(state: State) -> State {
@@ -113,31 +108,43 @@ fn changed(line: Line, words: &mut [u16], numbers: &mut [f64], state: State) -> 
     }
 }
 
-fn step(line: Line, words: &mut [u16], numbers: &mut [f64], state: State) -> State {
+fn step(
+    rt: &impl Print,
+    line: Line,
+    words: &mut [u16],
+    numbers: &mut [f64],
+    state: State,
+) -> io::Result<State> {
     let letter = line.letter;
     if letter == b'a' || letter == b's' {
-        let r = judged(line, ask(letter, words, numbers, state), state);
+        let r = judged(rt, line, ask(letter, words, numbers, state), state)?;
         restore(words, numbers);
-        return r;
+        return Ok(r);
     }
-    changed(line, words, numbers, state)
+    Ok(changed(line, words, numbers, state))
 }
 
 // Every line of the list. Bytes after the last whole line are a line that breaks the form.
-fn lines(list: &[u8], words: &mut [u16], numbers: &mut [f64], start: State) -> State {
+fn lines(
+    rt: &impl Print,
+    list: &[u8],
+    words: &mut [u16],
+    numbers: &mut [f64],
+    start: State,
+) -> io::Result<State> {
     let mut state = start;
     let mut i = 0;
     while i < list.len() / 36 {
-        state = step(line_at(list, i * 36), words, numbers, state);
+        state = step(rt, line_at(list, i * 36), words, numbers, state)?;
         i += 1;
     }
     if list.len() % 36 != 0 {
         state = broken(state);
     }
-    state
+    Ok(state)
 }
 
-pub(crate) fn run() -> State {
+pub(crate) fn run(rt: &(impl Input + Print)) -> io::Result<State> {
     let mut text = text_space();
     let mut words = word_space();
     let mut numbers = number_space();
@@ -149,6 +156,6 @@ pub(crate) fn run() -> State {
         differ: 0,
         broken: 0,
     };
-    let n = io::read_full(STDIN_FILENO, &mut text);
-    lines(&text[..n], &mut words, &mut numbers, start)
+    let n = read_full(&mut rt.reader(), &mut text);
+    lines(rt, &text[..n], &mut words, &mut numbers, start)
 }

@@ -6,14 +6,12 @@ mod calls;
 mod lists;
 mod memory;
 
-use libc::STDOUT_FILENO;
+use std::io;
 
-fn main() {
-    let end = lists::run();
-    io::print_decimal(STDOUT_FILENO, end.cases);
-    io::write_all(STDOUT_FILENO, b" cases, ");
-    io::print_decimal(STDOUT_FILENO, end.differ);
-    io::write_all(STDOUT_FILENO, b" differ, ");
-    io::print_decimal(STDOUT_FILENO, end.broken);
-    io::write_all(STDOUT_FILENO, b" broken lines\n");
+fn main(rt: HostRuntime) -> io::Result<()> {
+    let end = lists::run(&rt)?;
+    println!(rt;
+        "{} cases, {} differ, {} broken lines",
+        end.cases, end.differ, end.broken
+    )
 }

@@ -7,12 +7,9 @@ mod cases;
 mod memory;
 mod steps;
 
-use libc::STDOUT_FILENO;
+use std::io;
 
-fn main() {
-    let state = steps::run();
-    io::print_decimal(STDOUT_FILENO, state.cases);
-    io::write_all(STDOUT_FILENO, b" cases, ");
-    io::print_decimal(STDOUT_FILENO, state.broken);
-    io::write_all(STDOUT_FILENO, b" broken lines\n");
+fn main(rt: HostRuntime) -> io::Result<()> {
+    let state = steps::run(&rt)?;
+    println!(rt; "{} cases, {} broken lines", state.cases, state.broken)
 }

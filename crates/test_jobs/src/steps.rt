@@ -10,8 +10,9 @@ ghost use Rattle.std.specs.Prelude.{◌≡◌, length};
 
 use crate::cases::{Case, case_of};
 use crate::memory::{lent, text_space};
-use libc::{STDIN_FILENO, STDOUT_FILENO};
+use program_input::read_full;
 use records::layout::{NUMBERS_NEEDED, WORDS_NEEDED};
+use std::io;
 use test_support::{Line, append, extend, line_at};
 
 #[derive(Clone, Copy)]
@@ -66,55 +67,61 @@ fn changed(line: Line, text: &mut [u8], base: &mut [u8], state: State) -> State 
     }
 }
 
-fn show(number: u64, case: Case) {
+fn show(rt: &impl Print, number: u64, case: Case) -> io::Result<()> {
     let seen = case.seen;
-    io::print_decimal(STDOUT_FILENO, number);
-    io::write_all(STDOUT_FILENO, b" ");
-    io::print_decimal(STDOUT_FILENO, seen.answer);
-    io::write_all(STDOUT_FILENO, b" ");
-    io::print_decimal(STDOUT_FILENO, seen.wants);
-    io::write_all(STDOUT_FILENO, b" ");
-    io::print_hex(STDOUT_FILENO, case.sum, 16);
-    io::write_all(STDOUT_FILENO, b"\n");
+    println!(rt; "{number} {} {} {:016x}", seen.answer, seen.wants, case.sum)
 }
 
-fn tried(line: Line, text: &[u8], state: State) -> State {
+fn tried(rt: &impl Print, line: Line, text: &[u8], state: State) -> io::Result<State> {
     let n = lent(state.text, text.len());
     show(
+        rt,
         line.b,
         case_of(&text[..n], state.words, state.numbers, line.a as usize),
-    );
+    )?;
     let mut r = state;
     r.text = 0;
     r.words = WORDS_NEEDED;
     r.numbers = NUMBERS_NEEDED;
     r.cases = std::num::wrapping_add_u64(state.cases, 1);
-    r
+    Ok(r)
 }
 
-fn step(line: Line, text: &mut [u8], base: &mut [u8], state: State) -> State {
+fn step(
+    rt: &impl Print,
+    line: Line,
+    text: &mut [u8],
+    base: &mut [u8],
+    state: State,
+) -> io::Result<State> {
     if !line.good {
-        return broken(state);
+        return Ok(broken(state));
     }
     let letter = line.letter;
     if letter == b'r' {
-        return tried(line, text, state);
+        return tried(rt, line, text, state);
     }
-    changed(line, text, base, state)
+    Ok(changed(line, text, base, state))
 }
 
 // Every line of a part of the list. Bytes after the last whole line are a line that breaks the form.
-fn lines(list: &[u8], text: &mut [u8], base: &mut [u8], state: State) -> State {
+fn lines(
+    rt: &impl Print,
+    list: &[u8],
+    text: &mut [u8],
+    base: &mut [u8],
+    state: State,
+) -> io::Result<State> {
     let mut r = state;
     let mut i = 0;
     while i < list.len() / 36 {
-        r = step(line_at(list, i * 36), text, base, r);
+        r = step(rt, line_at(list, i * 36), text, base, r)?;
         i += 1;
     }
     if list.len() % 36 != 0 {
         r = broken(r);
     }
-    r
+    Ok(r)
 }
 
 fn block() -> [u8; 36864]
@@ -131,30 +138,40 @@ pub(crate) struct Turn {
 }
 
 // The next 1,024 lines.
-fn next_turn(text: &mut [u8], base: &mut [u8], state: State) -> Turn {
+fn next_turn(
+    rt: &(impl Input + Print),
+    text: &mut [u8],
+    base: &mut [u8],
+    state: State,
+) -> io::Result<Turn> {
     let mut buffer = block();
-    let n = io::read_full(STDIN_FILENO, &mut buffer);
-    Turn {
+    let n = read_full(&mut rt.reader(), &mut buffer);
+    Ok(Turn {
         more: n == 36864,
-        state: lines(&buffer[..n], text, base, state),
-    }
+        state: lines(rt, &buffer[..n], text, base, state)?,
+    })
 }
 
 // A proved loop has to end, and nothing says that the input does: the turns are more than any run takes.
-fn all(text: &mut [u8], base: &mut [u8], start: State) -> State {
+fn all(
+    rt: &(impl Input + Print),
+    text: &mut [u8],
+    base: &mut [u8],
+    start: State,
+) -> io::Result<State> {
     let mut state = start;
     let mut more = true;
     let mut turns = u64::MAX;
     while turns > 0 && more {
-        let turn = next_turn(text, base, state);
+        let turn = next_turn(rt, text, base, state)?;
         state = turn.state;
         more = turn.more;
         turns -= 1;
     }
-    state
+    Ok(state)
 }
 
-pub(crate) fn run() -> State {
+pub(crate) fn run(rt: &(impl Input + Print)) -> io::Result<State> {
     let mut text = text_space();
     let mut base = text_space();
     let start = State {
@@ -165,5 +182,5 @@ pub(crate) fn run() -> State {
         cases: 0,
         broken: 0,
     };
-    all(&mut text, &mut base, start)
+    all(rt, &mut text, &mut base, start)
 }

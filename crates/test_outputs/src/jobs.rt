@@ -2,8 +2,9 @@
 //
 //     j k n   the job numbered k, whose text is the n bytes that follow the line
 //     e       the list ends
-use libc::{STDIN_FILENO, STDOUT_FILENO};
+use program_input::read_full;
 use program_output::OUTPUT_NEEDED;
+use std::io;
 use test_support::{Line, line_at};
 
 #[derive(Clone, Copy)]
@@ -15,31 +16,29 @@ pub(crate) struct State {
     more: bool,
 }
 
-fn next_line() -> Line {
+fn next_line(rt: &impl Input) -> Line {
     let mut bytes = [0; 36];
-    let n = io::read_full(STDIN_FILENO, &mut bytes);
+    let n = read_full(&mut rt.reader(), &mut bytes);
     line_at(&bytes[..n], 0)
 }
 
-fn show(number: u64, text: &[u8]) {
+fn show(rt: &impl Print, number: u64, text: &[u8]) -> io::Result<()> {
     let mut out = [0; OUTPUT_NEEDED];
     let n = program_output::answer(text, &mut out);
-    io::write_all(STDOUT_FILENO, b"job ");
-    io::print_decimal(STDOUT_FILENO, number);
-    io::write_all(STDOUT_FILENO, b"\n");
-    io::write_all(STDOUT_FILENO, &out[..n]);
+    println!(rt; "job {number}")?;
+    rt.write_all(&out[..n])
 }
 
 // Whether the text was there. It may be longer than a job that is read.
-fn replayed(line: Line) -> bool {
+fn replayed(rt: &(impl Input + Print), line: Line) -> io::Result<bool> {
     if line.b > 66000 {
-        return false;
+        return Ok(false);
     }
     let size = line.b as usize;
     let mut text = [0; 66000];
-    let n = io::read_full(STDIN_FILENO, &mut text[..size]);
-    show(line.a, &text[..n]);
-    n == size
+    let n = read_full(&mut rt.reader(), &mut text[..size]);
+    show(rt, line.a, &text[..n])?;
+    Ok(n == size)
 }
 
 fn broken(state: State) -> State {
@@ -49,28 +48,28 @@ fn broken(state: State) -> State {
     r
 }
 
-fn step(line: Line, state: State) -> State {
+fn step(rt: &(impl Input + Print), line: Line, state: State) -> io::Result<State> {
     let letter = line.letter;
     let mut r = state;
     match letter {
         b'j' => {
-            if !replayed(line) {
-                return broken(state);
+            if !replayed(rt, line)? {
+                return Ok(broken(state));
             }
             r.jobs = std::num::wrapping_add_u64(state.jobs, 1);
-            r
+            Ok(r)
         }
         b'e' => {
             r.more = false;
-            r
+            Ok(r)
         }
         // a line that breaks the form has the letter 0
-        _ => broken(state),
+        _ => Ok(broken(state)),
     }
 }
 
 // A proved loop has to end, and nothing says that the input does: the turns are more than any run takes.
-pub(crate) fn run() -> State {
+pub(crate) fn run(rt: &(impl Input + Print)) -> io::Result<State> {
     let mut state = State {
         jobs: 0,
         broken: 0,
@@ -78,8 +77,8 @@ pub(crate) fn run() -> State {
     };
     let mut turns = u64::MAX;
     while turns > 0 && state.more {
-        state = step(next_line(), state);
+        state = step(rt, next_line(rt), state)?;
         turns -= 1;
     }
-    state
+    Ok(state)
 }

@@ -5,12 +5,9 @@
 
 mod jobs;
 
-use libc::STDOUT_FILENO;
+use std::io;
 
-fn main() {
-    let state = jobs::run();
-    io::print_decimal(STDOUT_FILENO, state.jobs);
-    io::write_all(STDOUT_FILENO, b" jobs, ");
-    io::print_decimal(STDOUT_FILENO, state.broken);
-    io::write_all(STDOUT_FILENO, b" broken lines\n");
+fn main(rt: HostRuntime) -> io::Result<()> {
+    let state = jobs::run(&rt)?;
+    println!(rt; "{} jobs, {} broken lines", state.jobs, state.broken)
 }

@@ -8,6 +8,8 @@ mod lines;
 mod memory;
 mod patterns;
 
-fn main() {
-    lines::run();
+use std::io;
+
+fn main(rt: HostRuntime) -> io::Result<()> {
+    lines::run(&rt)
 }

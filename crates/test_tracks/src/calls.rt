@@ -8,8 +8,8 @@ ghost use Rattle.test_tracks.specs.Case.{agrees_of, tangents_agree, pose_agrees,
 
 use crate::answers::{pose_number, pose_numbers, project_number, project_numbers, tangents_number};
 use crate::patterns::{number, pattern};
-use libc::STDOUT_FILENO;
 use records::Point;
+use std::io;
 
 // Whether the row is the number and the patterns of the f32.
 fn agrees(n: u32, numbers: &[f32], row: &[u32]) -> bool
@@ -26,51 +26,49 @@ fn agrees(n: u32, numbers: &[f32], row: &[u32]) -> bool
 }
 
 // Writes the answer given here, then the line that it differs from.
-fn show(line: &[u8], n: u32, numbers: &[f32]) {
-    io::write_all(STDOUT_FILENO, b"differs, here ");
-    io::print_hex(STDOUT_FILENO, n as u64, 8);
+fn show(rt: &impl Print, line: &[u8], n: u32, numbers: &[f32]) -> io::Result<()> {
+    print!(rt; "differs, here {n:08x}")?;
     let mut i = 0;
     while i < numbers.len() {
-        io::write_all(STDOUT_FILENO, b" ");
-        io::print_hex(STDOUT_FILENO, pattern(numbers[i]) as u64, 8);
+        print!(rt; " {:08x}", pattern(numbers[i]))?;
         i += 1;
     }
-    io::write_all(STDOUT_FILENO, b": ");
-    io::write_all(STDOUT_FILENO, line);
-    io::write_all(STDOUT_FILENO, b"\n");
+    print!(rt; ": ")?;
+    rt.write_all(line)?;
+    println!(rt; "")
 }
 
-// The same, and a difference is shown.
-fn held_against(line: &[u8], n: u32, numbers: &[f32], row: &[u32]) -> bool
+// The same, and a difference is shown. One that cannot be written is told to the caller all the same.
+fn held_against(rt: &impl Print, line: &[u8], n: u32, numbers: &[f32], row: &[u32]) -> bool
     requires { length row.now ≡ length numbers.now + 1 }
     ensures { result ≡ agrees_of n numbers.now row.now }
 {
     let same = agrees(n, numbers, row);
     if !same {
-        show(line, n, numbers);
+        let _ = show(rt, line, n, numbers);
     }
     same
 }
 
-fn tangents(line: &[u8], track: &[f32], list: &mut [f32], row: &[u32]) -> bool
+fn tangents(rt: &impl Print, line: &[u8], track: &[f32], list: &mut [f32], row: &[u32]) -> bool
     requires { length row.now ≡ length list.old + 1 }
     ensures value { result ≡ tangents_agree track.now list.old row.now }
     ensures list_after { list.new ≡ tangents_list track.now list.old }
 {
     let n = tangents_number(tracks_calls::tangents(track, list));
-    held_against(line, n, list, row)
+    held_against(rt, line, n, list, row)
 }
 
-fn pose(line: &[u8], track: &[f32], row: &[u32]) -> bool
+fn pose(rt: &impl Print, line: &[u8], track: &[f32], row: &[u32]) -> bool
     requires { 8 ≡ length row.now }
     ensures { result ≡ pose_agrees track.now row.now }
 {
     let answer = tracks_calls::pose_at(track, number(row[0]));
     let numbers = pose_numbers(answer);
-    held_against(line, pose_number(answer), &numbers, &row[1..])
+    held_against(rt, line, pose_number(answer), &numbers, &row[1..])
 }
 
-fn project(line: &[u8], track: &[f32], row: &[u32]) -> bool
+fn project(rt: &impl Print, line: &[u8], track: &[f32], row: &[u32]) -> bool
     requires { 9 ≡ length row.now }
     ensures { result ≡ project_agrees track.now row.now }
 {
@@ -81,7 +79,7 @@ fn project(line: &[u8], track: &[f32], row: &[u32]) -> bool
     };
     let answer = tracks_calls::project(track, at);
     let numbers = project_numbers(answer);
-    held_against(line, project_number(answer), &numbers, &row[3..])
+    held_against(rt, line, project_number(answer), &numbers, &row[3..])
 }
 
 // The place of the tally where a call is counted: the next one where its answer differs.
@@ -107,6 +105,7 @@ fn one_more(n: usize, m: usize) -> bool
 
 // The place for a whole line, 6 where its letter is unknown or its words are not as many as the call has.
 pub(crate) fn verdict(
+    rt: &impl Print,
     line: &[u8],
     letter: u8,
     track: &[f32],
@@ -117,13 +116,13 @@ pub(crate) fn verdict(
     ensures list_after { list.new ≡ list_told letter track.now list.old row.now }
 {
     if (letter == b'g') & one_more(row.len(), list.len()) {
-        return place(0, tangents(line, track, list, row));
+        return place(0, tangents(rt, line, track, list, row));
     }
     if (letter == b'p') & (row.len() == 8) {
-        return place(2, pose(line, track, row));
+        return place(2, pose(rt, line, track, row));
     }
     if (letter == b'j') & (row.len() == 9) {
-        return place(4, project(line, track, row));
+        return place(4, project(rt, line, track, row));
     }
     6
 }

@@ -6,7 +6,7 @@ ghost use Rattle.std.specs.Prelude.{◌<◌, ◌≤◌, length};
 use crate::calls::verdict;
 use crate::memory::{number_space, text_space, word_space};
 use crate::words::{numbers, read};
-use libc::STDIN_FILENO;
+use program_input::read_full;
 use reader_hex::byte_at;
 
 // How much of the memory is the track, and how much the lent list.
@@ -25,6 +25,7 @@ fn count(tally: &mut [u64; 7], place: usize)
 
 // One line; answers what is held after it.
 fn step(
+    rt: &impl Print,
     line: &[u8],
     held: Held,
     row: &mut [u32],
@@ -55,7 +56,7 @@ fn step(
     }
     count(
         tally,
-        verdict(line, letter, &track[..t], &mut list[..l], &row[..n]),
+        verdict(rt, line, letter, &track[..t], &mut list[..l], &row[..n]),
     );
     held
 }
@@ -72,7 +73,14 @@ fn end_of(text: &[u8], at: usize) -> usize
     i
 }
 
-fn lines(text: &[u8], row: &mut [u32], track: &mut [f32], list: &mut [f32], tally: &mut [u64; 7])
+fn lines(
+    rt: &impl Print,
+    text: &[u8],
+    row: &mut [u32],
+    track: &mut [f32],
+    list: &mut [f32],
+    tally: &mut [u64; 7],
+)
     requires text_len_bound { length text.now ≤ 600000 }
     requires row_in_bounds { (length row.old ≤ length track.old) × (length row.old ≤ length list.old) }
 {
@@ -80,16 +88,16 @@ fn lines(text: &[u8], row: &mut [u32], track: &mut [f32], list: &mut [f32], tall
     let mut at = 0;
     while at < text.len() {
         let end = end_of(text, at);
-        held = step(&text[at..end], held, row, track, list, tally);
+        held = step(rt, &text[at..end], held, row, track, list, tally);
         at = end + 1;
     }
 }
 
-pub(crate) fn run(tally: &mut [u64; 7]) {
+pub(crate) fn run(rt: &(impl Input + Print), tally: &mut [u64; 7]) {
     let mut text = text_space();
     let mut row = word_space();
     let mut track = number_space();
     let mut list = number_space();
-    let n = io::read_full(STDIN_FILENO, &mut text);
-    lines(&text[..n], &mut row, &mut track, &mut list, tally);
+    let n = read_full(&mut rt.reader(), &mut text);
+    lines(rt, &text[..n], &mut row, &mut track, &mut list, tally);
 }

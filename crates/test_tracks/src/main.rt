@@ -9,23 +9,18 @@ mod memory;
 mod patterns;
 mod words;
 
-use libc::STDOUT_FILENO;
+use std::io;
 
-fn report(name: &[u8], same: u64, differ: u64) {
-    io::write_all(STDOUT_FILENO, name);
-    io::print_decimal(STDOUT_FILENO, std::num::wrapping_add_u64(same, differ));
-    io::write_all(STDOUT_FILENO, b" lines, ");
-    io::print_decimal(STDOUT_FILENO, differ);
-    io::write_all(STDOUT_FILENO, b" differ\n");
+fn report(rt: &impl Print, name: &str, same: u64, differ: u64) -> io::Result<()> {
+    let lines = std::num::wrapping_add_u64(same, differ);
+    println!(rt; "{name} {lines} lines, {differ} differ")
 }
 
-fn main() {
+fn main(rt: HostRuntime) -> io::Result<()> {
     let mut tally = [0u64; 7];
-    lines::run(&mut tally);
-    report(b"tangents ", tally[0], tally[1]);
-    report(b"pose ", tally[2], tally[3]);
-    report(b"project ", tally[4], tally[5]);
-    io::write_all(STDOUT_FILENO, b"broken ");
-    io::print_decimal(STDOUT_FILENO, tally[6]);
-    io::write_all(STDOUT_FILENO, b" lines\n");
+    lines::run(&rt, &mut tally);
+    report(&rt, "tangents", tally[0], tally[1])?;
+    report(&rt, "pose", tally[2], tally[3])?;
+    report(&rt, "project", tally[4], tally[5])?;
+    println!(rt; "broken {} lines", tally[6])
 }

@@ -6,25 +6,20 @@
 mod patterns;
 mod replay;
 
-use libc::STDOUT_FILENO;
+use std::io;
 
-fn report(name: &[u8], same: u64, differ: u64) {
-    io::write_all(STDOUT_FILENO, name);
-    io::print_decimal(STDOUT_FILENO, std::num::wrapping_add_u64(same, differ));
-    io::write_all(STDOUT_FILENO, b" lines, ");
-    io::print_decimal(STDOUT_FILENO, differ);
-    io::write_all(STDOUT_FILENO, b" differ\n");
+fn report(rt: &impl Print, name: &str, same: u64, differ: u64) -> io::Result<()> {
+    let lines = std::num::wrapping_add_u64(same, differ);
+    println!(rt; "{name} {lines} lines, {differ} differ")
 }
 
-fn main() {
+fn main(rt: HostRuntime) -> io::Result<()> {
     let mut tally = [0u64; 12];
-    replay::all(&mut tally);
-    report(b"root ", tally[0], tally[1]);
-    report(b"narrow ", tally[2], tally[3]);
-    report(b"sine ", tally[4], tally[5]);
-    report(b"cosine ", tally[6], tally[7]);
-    report(b"counts ", tally[8], tally[9]);
-    io::write_all(STDOUT_FILENO, b"broken ");
-    io::print_decimal(STDOUT_FILENO, tally[11]);
-    io::write_all(STDOUT_FILENO, b" lines\n");
+    replay::all(&rt, &mut tally);
+    report(&rt, "root", tally[0], tally[1])?;
+    report(&rt, "narrow", tally[2], tally[3])?;
+    report(&rt, "sine", tally[4], tally[5])?;
+    report(&rt, "cosine", tally[6], tally[7])?;
+    report(&rt, "counts", tally[8], tally[9])?;
+    println!(rt; "broken {} lines", tally[11])
 }

@@ -6,8 +6,9 @@ ghost use Rattle.std.specs.Prelude.{◌≡◌, ◌+◌, ◌<◌, ◌≤◌, leng
 ghost use Rattle.test_vectors.specs.Vector.{vector_kind, vector_word, compared_of, vector_verdict};
 
 use crate::patterns::{bits_of_counts, bits_of_single};
-use libc::{STDIN_FILENO, STDOUT_FILENO};
+use program_input::read_full;
 use reader_hex::{Word, bits_of, of_bits, word_at};
+use std::io;
 
 // The place of a letter's function among the five, 5 for any other byte.
 fn kind_of(letter: u8) -> usize
@@ -37,15 +38,14 @@ fn answer(kind: usize, x: f64) -> u64
 }
 
 // Writes the answer given here, then the line that it differs from.
-fn show(line: &[u8], got: u64) {
-    io::write_all(STDOUT_FILENO, b"differs, here ");
-    io::print_hex(STDOUT_FILENO, got, 16);
-    io::write_all(STDOUT_FILENO, b": ");
-    io::write_all(STDOUT_FILENO, line);
+fn show(rt: &impl Print, line: &[u8], got: u64) -> io::Result<()> {
+    print!(rt; "differs, here {got:016x}: ")?;
+    rt.write_all(line)
 }
 
-// Twice the kind, and one more where the answer is not the one expected; 11 where either word is broken.
-fn compared(line: &[u8], kind: usize, argument: Word, expected: Word) -> usize
+// Twice the kind, and one more where the answer is not the one expected; 11 where either word is broken. A difference that cannot be
+// written is counted all the same.
+fn compared(rt: &impl Print, line: &[u8], kind: usize, argument: Word, expected: Word) -> usize
     requires { kind < 5 }
     ensures { (result ≡ compared_of kind argument expected) × (result < 12) }
 {
@@ -59,12 +59,12 @@ fn compared(line: &[u8], kind: usize, argument: Word, expected: Word) -> usize
     if got == expected {
         return kind * 2;
     }
-    show(line, got);
+    let _ = show(rt, line, got);
     kind * 2 + 1
 }
 
 // The same for a whole line, 11 where it breaks the form.
-fn verdict(line: &[u8]) -> usize
+fn verdict(rt: &impl Print, line: &[u8]) -> usize
     requires { 36 ≡ length line.now }
     ensures { (result ≡ vector_verdict line.now) × (result < 12) }
 {
@@ -73,7 +73,7 @@ fn verdict(line: &[u8]) -> usize
     let expected = word_at(line, 19, b'\n');
     let known = (kind < 5) & (line[1] == b' ');
     if known {
-        return compared(line, kind, argument, expected);
+        return compared(rt, line, kind, argument, expected);
     }
     11
 }
@@ -86,11 +86,11 @@ fn count(tally: &mut [u64; 12], place: usize)
 }
 
 // Counts every line of a text. Bytes after the last whole line are a line that breaks the form.
-fn lines(text: &[u8], tally: &mut [u64; 12]) {
+fn lines(rt: &impl Print, text: &[u8], tally: &mut [u64; 12]) {
     let mut i = 0;
     while i < text.len() / 36 {
         let at = i * 36;
-        count(tally, verdict(&text[at..at + 36]));
+        count(tally, verdict(rt, &text[at..at + 36]));
         i += 1;
     }
     if text.len() % 36 != 0 {
@@ -105,17 +105,17 @@ fn block() -> [u8; 36864]
 }
 
 // The next 1,024 lines; whether there may be more.
-fn some(tally: &mut [u64; 12]) -> bool {
+fn some(rt: &(impl Input + Print), tally: &mut [u64; 12]) -> bool {
     let mut buffer = block();
-    let n = io::read_full(STDIN_FILENO, &mut buffer);
-    lines(&buffer[..n], tally);
+    let n = read_full(&mut rt.reader(), &mut buffer);
+    lines(rt, &buffer[..n], tally);
     n == 36864
 }
 
 // A proved loop has to end, and nothing says that the input does: the turns are more than any run takes.
-pub(crate) fn all(tally: &mut [u64; 12]) {
+pub(crate) fn all(rt: &(impl Input + Print), tally: &mut [u64; 12]) {
     let mut turns = u64::MAX;
-    while turns > 0 && some(tally) {
+    while turns > 0 && some(rt, tally) {
         turns -= 1;
     }
 }

@@ -3,7 +3,7 @@ use Rattle.std.proofs.Common.{◌≡◌, ◌-◌, ◌/◌, length}
 use Rattle.test_admission.proofs.lists.lines.Given as goal
 
 abbrev pub invariant-loop-i : goal.invariant-loop-i
-invariant-loop-i l = (length l.initial.words ≡ length l.words) × (length l.initial.numbers ≡ length l.numbers)
+invariant-loop-i g l = (length l.initial.words ≡ length l.words) × (length l.initial.numbers ≡ length l.numbers)
 
 abbrev pub decreases-loop-i : goal.decreases-loop-i
-decreases-loop-i l = length l.list / 36 - l.i
+decreases-loop-i g l = length l.list / 36 - l.i

@@ -3,7 +3,7 @@ use Rattle.std.proofs.Common.{◌≡◌, length}
 use Rattle.test_jobs.proofs.steps.all.Given as goal
 
 abbrev pub invariant-loop-turns : goal.invariant-loop-turns
-invariant-loop-turns l = (length l.initial.text ≡ length l.text) × (length l.initial.base ≡ length l.base)
+invariant-loop-turns g l = (length l.initial.text ≡ length l.text) × (length l.initial.base ≡ length l.base)
 
 abbrev pub decreases-loop-turns : goal.decreases-loop-turns
-decreases-loop-turns l = l.turns
+decreases-loop-turns g l = l.turns

@@ -3,4 +3,4 @@ use Rattle.std.proofs.Common.{sym, length-take-le}
 use Rattle.test_jobs.proofs.steps.tried.Goals as goal
 
 pub slice_bounds-case_of-end : goal.slice_bounds-case_of-end
-slice_bounds-case_of-end c = sym (length-take-le _ _ c.lent-n.ensures.upper_bound)
+slice_bounds-case_of-end g c = sym (length-take-le _ _ c.lent-n.ensures.upper_bound)

@@ -3,7 +3,7 @@ use Rattle.std.proofs.Common.{◌≡◌, ◌-◌, ◌/◌, length}
 use Rattle.test_roads.proofs.lines.lines.Given as goal
 
 abbrev pub invariant-loop-i : goal.invariant-loop-i
-invariant-loop-i l = (length l.initial.words ≡ length l.words) × (length l.initial.numbers ≡ length l.numbers) × (length l.initial.lent ≡ length l.lent)
+invariant-loop-i g l = (length l.initial.words ≡ length l.words) × (length l.initial.numbers ≡ length l.numbers) × (length l.initial.lent ≡ length l.lent)
 
 abbrev pub decreases-loop-i : goal.decreases-loop-i
-decreases-loop-i l = length l.text / 36 - l.i
+decreases-loop-i g l = length l.text / 36 - l.i

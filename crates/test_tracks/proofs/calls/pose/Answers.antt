@@ -3,6 +3,6 @@ use Rattle.test_tracks.proofs.Agreement.{pose_by_lem}
 use Rattle.test_tracks.proofs.calls.pose.Goals as goal
 
 pub returns : goal.returns
-returns c =
+returns g c =
     let a = c.args in
     pose_by_lem a.track.now a.row.now c.number.ensures c.pose_at-answer.ensures c.pose_number.ensures c.pose_numbers-numbers.ensures c.held_against.ensures

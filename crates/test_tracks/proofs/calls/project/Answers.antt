@@ -3,7 +3,7 @@ use Rattle.test_tracks.proofs.Agreement.{project-by}
 use Rattle.test_tracks.proofs.calls.project.Goals as goal
 
 pub returns : goal.returns
-returns c =
+returns g c =
     let a = c.args in
     project-by a.track.now a.row.now
     (rw (c.number.ensures, c.number-2.ensures, c.number-3.ensures))

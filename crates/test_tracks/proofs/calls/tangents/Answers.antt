@@ -3,7 +3,7 @@ use Rattle.test_tracks.proofs.Agreement.{tangents-by}
 use Rattle.test_tracks.proofs.calls.tangents.Goals as goal
 
 pub returns : goal.returns
-returns c =
+returns g c =
     let a = c.args in
     let call = c.tangents.ensures in
     record { value = tangents-by a.track.now a.row.now a.list.now call.result_value c.tangents_number-n.ensures call.list_after c.held_against.ensures; list_after = call.list_after }

@@ -3,7 +3,7 @@ use Rattle.std.proofs.Common.{◌≡◌, ◌-◌, ◌≤◌, length}
 use Rattle.test_tracks.proofs.lines.lines.Given as goal
 
 abbrev pub invariant-loop-at : goal.invariant-loop-at
-invariant-loop-at l = (length l.row ≡ length l.initial.row) × (length l.track ≡ length l.initial.track) × (length l.list ≡ length l.initial.list) × (l.held.track ≤ length l.track) × (l.held.list ≤ length l.list)
+invariant-loop-at g l = (length l.row ≡ length l.initial.row) × (length l.track ≡ length l.initial.track) × (length l.list ≡ length l.initial.list) × (l.held.track ≤ length l.track) × (l.held.list ≤ length l.list)
 
 abbrev pub decreases-loop-at : goal.decreases-loop-at
-decreases-loop-at l = length l.text - l.at
+decreases-loop-at g l = length l.text - l.at

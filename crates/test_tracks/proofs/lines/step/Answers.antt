@@ -4,22 +4,22 @@ use Rattle.test_tracks.proofs.Stores.{part-fits}
 use Rattle.test_tracks.proofs.lines.step.Goals as goal
 
 pub slice_bounds-numbers-end-then-letter-eq116 : goal.slice_bounds-numbers-end-then-letter-eq116
-slice_bounds-numbers-end-then-letter-eq116 c = sym (length-take-le _ _ (search rules))
+slice_bounds-numbers-end-then-letter-eq116 g c = sym (length-take-le _ _ (search rules))
 
 pub numbers-requires : goal.numbers-requires
-numbers-requires c = part-fits c.read-words.result.count (length c.args.track.now) _ (search rules)
+numbers-requires g c = part-fits c.read-words.result.count (length c.args.track.now) _ (search rules)
 
 pub slice_bounds-numbers-end-then-letter-eq108-2 : goal.slice_bounds-numbers-end-then-letter-eq108-2
-slice_bounds-numbers-end-then-letter-eq108-2 c = sym (length-take-le _ _ (search rules))
+slice_bounds-numbers-end-then-letter-eq108-2 g c = sym (length-take-le _ _ (search rules))
 
 pub numbers-requires-then-letter-eq108 : goal.numbers-requires-then-letter-eq108
-numbers-requires-then-letter-eq108 c = part-fits c.read-words.result.count (length c.args.list.now) _ (search rules)
+numbers-requires-then-letter-eq108 g c = part-fits c.read-words.result.count (length c.args.list.now) _ (search rules)
 
 pub slice_bounds-verdict-end-2 : goal.slice_bounds-verdict-end-2
-slice_bounds-verdict-end-2 c = sym (length-take-le _ _ (search rules))
+slice_bounds-verdict-end-2 g c = sym (length-take-le _ _ (search rules))
 
 pub slice_bounds-verdict-end-4 : goal.slice_bounds-verdict-end-4
-slice_bounds-verdict-end-4 c = sym (length-take-le _ _ (search rules))
+slice_bounds-verdict-end-4 g c = sym (length-take-le _ _ (search rules))
 
 pub slice_bounds-verdict-end-6 : goal.slice_bounds-verdict-end-6
-slice_bounds-verdict-end-6 c = sym (length-take-le _ _ (search rules))
+slice_bounds-verdict-end-6 g c = sym (length-take-le _ _ (search rules))

@@ -2,7 +2,7 @@
 use Rattle.test_vectors.proofs.replay.all.Given as goal
 
 abbrev pub invariant-loop-turns : goal.invariant-loop-turns
-invariant-loop-turns l = Unit {0}
+invariant-loop-turns g l = Unit {0}
 
 abbrev pub decreases-loop-turns : goal.decreases-loop-turns
-decreases-loop-turns l = l.turns
+decreases-loop-turns g l = l.turns

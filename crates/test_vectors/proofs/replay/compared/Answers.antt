@@ -4,7 +4,7 @@ use Rattle.std.proofs.Common.{rules}
 use Rattle.test_vectors.proofs.replay.compared.Goals as goal
 
 pub returns-then-got-expected : goal.returns-then-got-expected
-returns-then-got-expected c = (agrees c.args.kind c.in-Number.is c.in-Number-expected.is c.of_bits.ensures c.answer-got.ensures c.if-got-expected.true, search rules)
+returns-then-got-expected g c = (agrees c.args.kind c.in-Number.is c.in-Number-expected.is c.of_bits.ensures c.answer-got.ensures c.if-got-expected.true, search rules)
 
 pub returns : goal.returns
-returns c = (differs c.args.kind c.in-Number.is c.in-Number-expected.is c.of_bits.ensures c.answer-got.ensures c.if-got-expected.false, search rules)
+returns g c = (differs c.args.kind c.in-Number.is c.in-Number-expected.is c.of_bits.ensures c.answer-got.ensures c.if-got-expected.false, search rules)

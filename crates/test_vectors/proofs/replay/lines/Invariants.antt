@@ -3,7 +3,7 @@ use Rattle.std.proofs.Common.{◌-◌, ◌/◌, length}
 use Rattle.test_vectors.proofs.replay.lines.Given as goal
 
 abbrev pub invariant-loop-i : goal.invariant-loop-i
-invariant-loop-i l = Unit {0}
+invariant-loop-i g l = Unit {0}
 
 abbrev pub decreases-loop-i : goal.decreases-loop-i
-decreases-loop-i l = length l.text / 36 - l.i
+decreases-loop-i g l = length l.text / 36 - l.i
