@@ -24,4 +24,4 @@ pub returns-in_default : goal.returns-in_default
 unfolding answer_part
 returns-in_default c =
     let q = c.in_default.in_default-own.rest in
-    rw (ne_eqb _ _ q.0.0.0.1, ne_eqb _ _ q.0.0.1, ne_eqb _ _ q.0.1, ne_eqb _ _ q.1, c.number.ensures, c.wrapping_add_u64.ensures)
+    rw (ne_eqb _ _ q.0.0.0.1, ne_eqb _ _ q.0.0.1, ne_eqb _ _ q.0.1, ne_eqb _ _ q.1, c.number.ensures, c.wrapping_add_u64.ensures.value)
