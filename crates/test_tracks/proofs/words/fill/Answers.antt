@@ -15,7 +15,7 @@ loop-i-preserved c =
     let w = c.word_at-w.ensures in (
       search rules,
       search rules,
-      all-next (fine a.line.now) here.i here.invariant.2 (c.good2.ensures ∙ ap good_of w),
+      all-next (fine a.line.now) here.i here.invariant.2 (c.good-ok.ensures ∙ ap good_of w),
       stored_more (read a.line.now) a.row.now here.i (omega arith) here.invariant.3 (c.value.ensures ∙ ap value_of w),
     )
 
