@@ -35,7 +35,7 @@ no_archive = { echo "make $@: there is no $(archive); run make first: it proves 
 
 .PHONY: all install uninstall examples desk install-desk uninstall-desk
 
-# rt ci clears the archive away with all else that it finds in out/; rt lib is quick after it where rt check or rt lib kept work there
+# The archive stands where rt lib leaves it, and rt ci takes it away: make builds it again.
 all:
 	@command -v rt > /dev/null || \
 	  { echo 'make: there is no rt: the Rattle toolchain is needed (README.md, "What you need")' >&2; exit 1; }
