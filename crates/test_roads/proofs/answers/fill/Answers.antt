@@ -7,10 +7,10 @@ pub returns-then-letter-eq98 : goal.returns-then-letter-eq98
 unfolding filled_of filled_list
 returns-then-letter-eq98 c =
     let is_b = eq-eqb _ _ c.if-letter-eq98.true in
-    record { value = rw (is_b, ← c.of_bits.ensures) c.borders_word.ensures.result_value; lent_after = rw (is_b, ← c.of_bits.ensures) c.borders_word.ensures.list_after }
+    record { value = rw (is_b, ← c.of_bits.ensures) c.borders_word.ensures.value; lent_after = rw (is_b, ← c.of_bits.ensures) c.borders_word.ensures.lent_after }
 
 pub returns : goal.returns
 unfolding filled_of filled_list
 returns c =
     let not_b = ne_eqb _ _ c.if-letter-eq98.false in
-    record { value = rw not_b c.samples_word.ensures.result_value; lent_after = rw not_b c.samples_word.ensures.samples_after }
+    record { value = rw not_b c.samples_word.ensures.value; lent_after = rw not_b c.samples_word.ensures.lent_after }
