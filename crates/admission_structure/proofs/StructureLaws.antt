@@ -1,5 +1,5 @@
 -- What structured words tell of the road that they stand for: the slices' lengths and how long each list of the road is, at least and at most. By the tests, and by how many lines a range inside a slice holds.
-use Prim.Native.Nat.{ℕ, ◌+◌, ◌*◌, ◌/◌, ◌-◌, ◌<◌, ◌≤◌}
+use Prim.Native.Nat.{ℕ, ◌+◌, ◌*◌, ◌/◌, ◌<◌, ◌≤◌}
 use native.Mathlib.Omega.{arith}
 use native.Mathlib.Nat.{add_assoc}
 use mathlib.Core.Path.{◌≡◌, refl, ap, ◌∙◌, sym, subst}

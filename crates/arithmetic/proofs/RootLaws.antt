@@ -9,7 +9,7 @@ use native.Mathlib.Omega.{arith}
 use lib.IntN.{ℤ}
 use lib.Dec.{T, eqb, lt→ltb}
 use lib.Pow.{pow_pos}
-use lib.Ieee.{Float, nan, inf, fin, Format, prec, low, up, down, size, fits, le}
+use lib.Ieee.{Float, nan, inf, fin, Format, prec, low, up, down, size, le}
 use lib.Ieee.Digits.{size-lt}
 use lib.Ieee.Fits.{up_pos}
 use lib.Ieee.Scale.{finite}

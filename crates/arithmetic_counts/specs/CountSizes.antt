@@ -1,5 +1,5 @@
 -- A count is at most 800,000 either way: document 01's row 12, "value outside -80..80", and ten thousand counts a metre.
-use Rattle.std.specs.Prelude.{ℕ, ◌≤◌, ◌≡◌, T, ℤ, nat_abs, Float}
+use Rattle.std.specs.Prelude.{◌≤◌, ◌≡◌, T, ℤ, nat_abs, Float}
 use Rattle.std.specs.Float.{binary64}
 use Rattle.std.specs.Float.Ieee.{fits}
 use Rattle.refusals.specs.Answer.{value}

@@ -9,7 +9,7 @@ use native.Mathlib.Omega.{arith}
 use mathlib.Core.Bool.{Bool, true, false, cond}
 use lib.Dec.{T, eqb, lit≤, lit<}
 use lib.IntN.{pos}
-use lib.Ieee.{Float, fin, binary64, low, le, neg, add, sub, mul, div, fits, of_bits}
+use lib.Ieee.{Float, fin, binary64, le, neg, add, sub, mul, div, fits, of_bits}
 use lib.Ieee.Scale.{finite}
 use Rattle.float_laws.proofs.Value.{mag, pl, mi, mag_is, one_side, le→units, units→le}
 use Rattle.float_laws.proofs.Interval.{In, least, most, sq-low}

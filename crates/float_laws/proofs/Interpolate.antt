@@ -1,6 +1,6 @@
 -- Linear interpolation as computed, a + (b - a) * t: for |a|, |b| ≤ M and 0 ≤ t ≤ 1 it is at most M in size but for three roundings, and so for a t that lies a little outside.
 -- The idea: with the exact b - a it is a * (1 - t) + b * t, a mean of a and b; each rounding adds half a unit in the last place of its own size. Assumes nothing.
-use mathlib.Core.Path.{◌≡◌, sym, ap, subst}
+use mathlib.Core.Path.{◌≡◌, sym, subst}
 use mathlib.Core.Logic.{◌⊎◌, inl, inr}
 use Prim.Native.Nat.{ℕ, suc, ◌+◌, ◌-◌, ◌*◌, ◌^◌, ◌≤◌, ◌<◌, zero-le}
 use native.Mathlib.Nat.{le_trans, le_of_eq, mul-le-mul, mul-le-mul_right, mul-le-mul_left, le_of_mul-le-mul_right, pow-suc, add-sub_of_le, le_of_lt, mul-pos, zero-mul}

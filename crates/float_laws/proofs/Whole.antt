@@ -2,7 +2,7 @@
 -- is the whole number nearest to x. The pattern of x + c then counts them: it is that of c, plus n. Assumes nothing.
 use mathlib.Core.Path.{◌≡◌, refl, sym, ap, ◌∙◌, subst}
 use mathlib.Core.Logic.{◌⊎◌, inl, inr}
-use Prim.Native.Nat.{ℕ, zero, suc, ◌+◌, ◌-◌, ◌*◌, ◌/◌, ◌^◌, ◌≤◌, ◌<◌}
+use Prim.Native.Nat.{ℕ, suc, ◌+◌, ◌-◌, ◌*◌, ◌/◌, ◌^◌, ◌≤◌, ◌<◌}
 use native.Mathlib.Nat.{eq-zero-or-pos, zero-div, add-mul, mul-lt-mul_of_pos_right, zero-add, le_refl, lt_of_lt_of_le, le_of_suc-le-suc, zero-mul, le_of_lt, le_trans, le_of_eq, lt_of_le_of_lt, mul-one, one-mul, add-sub_cancel_left, mul-le-mul_right, mul_comm, mul-sub, mul-pos, eq-or-lt_of_le, lt_of_mul-lt-mul_right, sub_self, eq_of_mul-eq-mul_right}
 use native.Mathlib.Omega.{arith}
 use mathlib.Core.Bool.{Bool, true, false, not, ◌&&◌, ◌||◌, beq, cond}
@@ -13,7 +13,7 @@ use lib.IntN.{pos}
 use lib.Ieee.{Float, nan, inf, fin, Format, binary32, binary64, prec, emax, low, up, down, hid, units, round, sum, add, sub, neg, eq, fits, to_bits, of_bits}
 use lib.Ieee.Exact.{HasValue, units_val}
 use lib.Ieee.Fits.{down_pos, and_l, and_i, eq→eqb}
-use lib.Ieee.Scale.{finite, overflow}
+use lib.Ieee.Scale.{overflow}
 use Rattle.float_laws.proofs.Units.{rnd, rnd-err, rnd-zero, rnd-exact, rnd-multiple}
 use Rattle.float_laws.proofs.Value.{sign, mag, pl, mi, Real, mag_is, mag_of, units_of}
 use Rattle.float_laws.proofs.Operation.{Is, add-Is, sub-Is, round-has}

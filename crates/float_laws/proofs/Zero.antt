@@ -9,7 +9,6 @@ use lib.IntN.{ℤ, pos}
 use lib.Pow.{pow_pos}
 use lib.Ieee.{Float, nan, inf, fin, Format, low, up, down, round, sum, add, sub, neg}
 use lib.Ieee.Fits.{round-fits, down_pos}
-use lib.Ieee.Scale.{finite}
 use borrow.Author.Tests.{le-ltb}
 use Rattle.float_laws.proofs.Units.{rnd, rnd-same}
 use Rattle.float_laws.proofs.Value.{mag, Real, units_of, mag_of, under}

@@ -1,6 +1,6 @@
 -- Document 01, "Values": "`shape_at`, `height_at`: linear between neighbours, constant outside; before a profile's first shape its a counts", and the cross section, grouped as in src/road.rs.
-use Rattle.std.specs.Prelude.{ℕ, zero, suc, ◌+◌, Bool, true, false, ◌&&◌, ◌||◌, not, cond, List, [], ◌∷◌, length, ltb, eqb, Float}
-use Rattle.std.specs.Float.Ieee.{lt, neg}
+use Rattle.std.specs.Prelude.{ℕ, ◌+◌, Bool, true, false, ◌&&◌, ◌||◌, not, cond, List, length, ltb, eqb, Float}
+use Rattle.std.specs.Float.Ieee.{lt}
 use Rattle.float_laws.specs.Binary64.{◌⊕◌, ◌⊖◌, ◌⊗◌, ◌⊘◌, f64, zero64, abs_of}
 use Rattle.records_cubic.specs.declared.cubics.Cubic.{Cubic}
 use Rattle.arithmetic_ranges.specs.Ranges.{not_below_zero}
@@ -9,7 +9,7 @@ use Rattle.records.specs.declared.points.Found.{Found}
 use Rattle.records.specs.declared.points.Found.TheVariants.{At, Nothing}
 use Rattle.records_cubic.specs.Cubics.{cubic_at, eval_at}
 use Rattle.records.specs.Active.{active_in, value_in, last_start, active_up_to}
-use Rattle.records.specs.Roads.{Road, Profile, Lane, Strip, StripDef, absent, present, profile_at, strip_at, height_def_at, column_by}
+use Rattle.records.specs.Roads.{Road, Strip, StripDef, absent, present, profile_at, strip_at, height_def_at, column_by}
 use Rattle.lanes.specs.declared.pairs.Pair.{Pair}
 
 -- a + (b - a)×f

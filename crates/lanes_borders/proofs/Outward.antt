@@ -9,7 +9,7 @@ use native.Mathlib.Omega.{arith}
 use lib.Dec.{T}
 use lib.Pow.{pow_pos, pow-add}
 use lib.Ieee.{Float, Format, binary32, binary64, prec, emax, low, le, lt, neg, add, sub, mul}
-use lib.Ieee.Scale.{finite, overflow}
+use lib.Ieee.Scale.{overflow}
 use Rattle.float_laws.proofs.Units.{rnd, rnd-same}
 use Rattle.float_laws.proofs.Value.{mag, pl, mi, Real, mag_is, one_side, under, lt→units, neg-real, neg-pl, neg-mi}
 use Rattle.float_laws.proofs.Operation.{Is, add-Is, sub-Is, mul-Is}

@@ -1,7 +1,7 @@
 -- Document 01, "The job text": the cells of a line. "An f64 is its 16 lowercase hexadecimal digits; a whole number is decimal, up to 4 digits,
 -- no leading zeros, `-` if negative. A word outside a column's listed ones is 1." Read `cell_at` first, at the end.
 -- A cell ends where its digits or its word end; that a space or an LF stands there is the line's rule and is tested by the line.
-use Rattle.std.specs.Prelude.{ℕ, zero, suc, ◌+◌, ◌-◌, ◌*◌, cond, List, get_or, leb, ltb, eqb}
+use Rattle.std.specs.Prelude.{ℕ, zero, suc, ◌+◌, ◌-◌, ◌*◌, cond, List, leb, ltb, eqb}
 pub use Rattle.reader_hex.specs.Hex.{byte_at}
 unfoldable pub use Rattle.reader_hex.specs.Hex.{digit_of}
 use Rattle.reader_schema.specs.Schema.{an_f64, a_whole, kind_by, word_count, place_of}

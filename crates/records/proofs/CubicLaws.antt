@@ -1,16 +1,14 @@
 -- The heights that a list of numbers holds, and the value and the slope by the active cubic. From the laws on tables.
 use Prim.Native.Nat.{ℕ, ◌+◌, ◌*◌, ◌/◌, ◌<◌, ◌≤◌}
 use native.Mathlib.Omega.{arith}
-use mathlib.Core.Path.{◌≡◌, refl, ap, ◌∙◌, sym}
+use mathlib.Core.Path.{◌≡◌, ap, ◌∙◌, sym}
 use mathlib.Core.List.{List, []}
 use lib.ListN.{length, get_or}
 use lib.Ieee.{Float, nan}
 use Rattle.float_laws.specs.Binary64.{zero64}
 use Rattle.records_cubic.specs.declared.cubics.Cubic.{Cubic}
 use Rattle.records.specs.declared.points.HeightDef.{HeightDef}
-use Rattle.records.specs.declared.points.Found.{Found}
 use Rattle.records.specs.declared.points.Found.TheVariants.{At, Nothing}
-use Rattle.records_lent.specs.Lists.{tabulate}
 use Rattle.records_cubic.specs.Cubics.{cubics_of, cubic_at, eval_at, slope_at}
 use Rattle.records.specs.Active.{last_start, active_up_to, active_in, value_in, slope_in}
 use Rattle.records.specs.Roads.{heights_of, height_def_at, height_def_from, no_height}

@@ -1,5 +1,5 @@
 -- What the road of two lent lists holds, place by place: how long each list is, its i-th element below that, nothing past it. Every list is a table, so each law is one of TableLaws.
-use Prim.Native.Nat.{ℕ, zero, suc, ◌+◌, ◌*◌, ◌/◌, ◌<◌, ◌≤◌}
+use Prim.Native.Nat.{ℕ, zero, suc, ◌+◌, ◌*◌, ◌<◌, ◌≤◌}
 use native.Mathlib.Omega.{arith}
 use native.Mathlib.Numerals.{add-one}
 use mathlib.Core.Path.{◌≡◌, refl, ap, ◌∙◌, sym}
@@ -9,16 +9,13 @@ use lib.ListN.{length, get_or}
 use lib.Dec.{eqb}
 use lib.Ieee.{Float, nan, eq}
 use Rattle.float_laws.specs.Binary64.{zero64}
-use Rattle.records_cubic.specs.declared.cubics.Cubic.{Cubic}
 use Rattle.records.specs.declared.points.GeomRec.{GeomRec}
-use Rattle.records.specs.declared.points.StripKind.{StripKind}
 use Rattle.records.specs.declared.points.StripKind.TheVariants.{Absent, Absolute, Relative}
-use Rattle.records.specs.declared.points.Found.{Found}
 use Rattle.records.specs.declared.points.Found.TheVariants.{At, Nothing}
 use Rattle.records_lent.specs.Lists.{tabulate, span}
 use Rattle.records_cubic.specs.Cubics.{cubics_of}
 use Rattle.records.specs.Active.{last_start, found_of, or_first, active_up_to}
-use Rattle.records.specs.Roads.{Road, Lane, Section, Profile, Strip, absent, present, road_of, geom_in, unused_in, lane_in, section_in, profile_in, column_in, strip_in, cubics_in, heights_in, heights_of, word_at, geom_from, no_geom, geom_at, unused_of, all_zero, unused_zero, no_section, section_of, no_lane, lane_by, lane_of, no_mark, mark_at, mark_in, no_profile, profile_at, strip_at, strip_kind_of, column_of, column_by, geom_index, section_index}
+use Rattle.records.specs.Roads.{Road, Section, Profile, Strip, absent, present, road_of, geom_in, unused_in, lane_in, section_in, profile_in, column_in, strip_in, cubics_in, heights_in, heights_of, word_at, geom_from, no_geom, geom_at, all_zero, unused_zero, no_section, section_of, no_lane, lane_of, no_mark, mark_at, mark_in, no_profile, profile_at, strip_at, strip_kind_of, column_of, geom_index, section_index}
 use Rattle.records_lent.proofs.TableLaws.{length-table, table_at, table-past, span-at}
 use Rattle.records.proofs.ScanLaws.{last_start-same}
 

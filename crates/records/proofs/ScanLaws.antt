@@ -6,9 +6,8 @@ use mathlib.Core.Bool.{Bool, true, false}
 use mathlib.Core.Logic.{⊎_elim}
 use native.Mathlib.Nat.{le_of_suc-le-suc, eq-or-lt_of_le}
 use lib.Ieee.{Float, le}
-use Rattle.records.specs.declared.points.Found.{Found}
 use Rattle.records.specs.declared.points.Found.TheVariants.{At, Nothing}
-use Rattle.records.specs.Active.{pick_found, last_start, found_of, or_first}
+use Rattle.records.specs.Active.{pick_found, last_start, found_of}
 
 before : (j : ℕ) → suc j - 1 ≡ j
 before j = omega arith

@@ -1,6 +1,6 @@
 -- Where a lent road's tables stand: `numbers` has the f64 columns, `words` the counts, codes and ranges. Document 01 leaves the layout free; docs/MEMORY.md is the same table for whoever lends a road.
 -- A table has a first place, a stride (places a line) and a limit (lines). Limits are those of document 01, "The job text", and of document 02 for marks.
-use Rattle.std.specs.Prelude.{ℕ, ◌+◌, ◌*◌}
+use Rattle.std.specs.Prelude.{ℕ}
 
 -- ---- numbers: the road's length, then the tables
 

@@ -1,5 +1,5 @@
 -- The checksum, element by element: what a turn of a loop does, and what is left at its end.
-use Rattle.std.proofs.Common.{◌≡◌, ℕ, zero, suc, ◌+◌, ◌*◌, ◌/◌, ◌%◌, ◌^◌, ◌<◌, ◌≤◌, List, [], ◌∷◌, map, length, get_or, drop, sym, refl, ap, ◌∙◌, add-one, arith, drop_of_length-le, drop-cons}
+use Rattle.std.proofs.Common.{◌≡◌, ℕ, suc, ◌+◌, ◌*◌, ◌/◌, ◌%◌, ◌^◌, ◌<◌, ◌≤◌, List, map, length, get_or, drop, sym, ap, ◌∙◌, add-one, arith, drop_of_length-le, drop-cons}
 use native.Mathlib.Nat.{mod-add-mod, add-mul-mod_self_right}
 use lib.Ieee.{Float, binary64, to_bits}
 use Rattle.test_support.specs.Sums.{mix_of, sum_of}

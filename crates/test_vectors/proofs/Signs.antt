@@ -1,5 +1,5 @@
 -- A signed number n of 64 bits, by the test n < 0: below zero -1 - n is no less than zero and n's size; else n is its own size.
-use Rattle.std.proofs.Common.{◌≡◌, ℕ, zero, suc, ◌+◌, ◌-◌, ◌^◌, ◌<◌, ◌≤◌, true, false, ℤ, pos, negsuc, ◌-ℤ◌, refl, ◌∙◌, arith, w64, SFits, to_z, of_z, ltb-true, le-ltb}
+use Rattle.std.proofs.Common.{◌≡◌, ℕ, suc, ◌+◌, ◌-◌, ◌^◌, ◌≤◌, true, false, ℤ, pos, negsuc, ◌-ℤ◌, refl, ◌∙◌, arith, w64, SFits, to_z, of_z, ltb-true, le-ltb}
 use lib.IntN.{sub_ℕ}
 use lib.Signed.{mag, lt_z}
 use mir.ValLaws.{to_z-of_z}

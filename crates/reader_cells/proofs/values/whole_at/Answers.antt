@@ -1,7 +1,6 @@
 -- One law for each way out, by the first byte. A `-` stands in the text, so the place after it fits.
 use native.Mathlib.Omega.{arith}
 use Rattle.reader_cells.proofs.Inside.{inside}
-use Rattle.reader_cells.proofs.Digits.{fits}
 use Rattle.reader_cells.proofs.CellCases.{minus-none, minus-some, plus_none, plus-some}
 use borrow.Author.Rules.{rules}
 use Rattle.reader_cells.proofs.values.whole_at.Goals as goal

@@ -1,5 +1,4 @@
 -- `shape_of`: each arm is one reading of the tests on the code.
-use borrow.Author.Tests.{ne_eqb}
 use Rattle.records_geometry.proofs.geometries.shape_of.Goals as goal
 
 pub returns-in-1 : goal.returns-in-1

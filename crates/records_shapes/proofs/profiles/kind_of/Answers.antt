@@ -1,5 +1,4 @@
 -- `kind_of`: each arm is one reading of the tests on the code.
-use borrow.Author.Tests.{ne_eqb}
 use Rattle.records_shapes.proofs.profiles.kind_of.Goals as goal
 
 pub returns-in-0 : goal.returns-in-0

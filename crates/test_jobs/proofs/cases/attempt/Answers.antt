@@ -30,4 +30,4 @@ returns c =
     let f = c.read in
     let both = parts-read a.text.now a.words.now a.numbers.now a.wants.now a.w a.n a.v (length (take a.w a.words.now)) (length (take a.n a.numbers.now)) (length (take a.v a.wants.now))
     (length-take-le a.w a.words.now h) (length-take-le a.n a.numbers.now i) (length-take-le a.v a.wants.now j)
-    f.result f.new.1.0 f.new.1.1.0 f.new.1.1.1.0 f.ensures.result_value f.ensures.words_after f.ensures.numbers_after f.ensures.wants_after in record { result_value = both.0; words_after = both.1.0; numbers_after = both.1.1.0; wants_after = both.1.1.1 }
+    f.result f.new.words f.new.numbers f.new.wants f.ensures.result_value f.ensures.words_after f.ensures.numbers_after f.ensures.wants_after in record { result_value = both.0; words_after = both.1.0; numbers_after = both.1.1.0; wants_after = both.1.1.1 }

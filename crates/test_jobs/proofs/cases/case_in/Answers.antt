@@ -10,5 +10,5 @@ returns c =
     let z = c.lent-v_lent in
     let t = c.attempt-read in
     case-is a.text.now a.words.now a.numbers.now a.wants.now a.w a.n a.v x.result y.result z.result
-    t.result t.new.1.0 t.new.1.1.0 t.new.1.1.1.0 x.ensures.value y.ensures.value z.ensures.value
+    t.result t.new.words t.new.numbers t.new.wants x.ensures.value y.ensures.value z.ensures.value
     t.ensures.result_value t.ensures.words_after t.ensures.numbers_after t.ensures.wants_after c.seen_of.ensures c.checksum-sum.ensures

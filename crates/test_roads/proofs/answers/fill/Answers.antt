@@ -5,8 +5,12 @@ use Rattle.test_roads.proofs.answers.fill.Goals as goal
 
 pub returns-then-letter-eq98 : goal.returns-then-letter-eq98
 unfolding filled_of filled_list
-returns-then-letter-eq98 c = let both = rw (eq-eqb _ _ c.if-letter-eq98.true, ← c.of_bits.ensures) c.borders_word.ensures in record { value = both.0; lent_after = both.1 }
+returns-then-letter-eq98 c =
+    let is_b = eq-eqb _ _ c.if-letter-eq98.true in
+    record { value = rw (is_b, ← c.of_bits.ensures) c.borders_word.ensures.value; lent_after = rw (is_b, ← c.of_bits.ensures) c.borders_word.ensures.lent_after }
 
 pub returns : goal.returns
 unfolding filled_of filled_list
-returns c = let both = rw (ne_eqb _ _ c.if-letter-eq98.false) c.samples_word.ensures in record { value = both.0; lent_after = both.1 }
+returns c =
+    let not_b = ne_eqb _ _ c.if-letter-eq98.false in
+    record { value = rw not_b c.samples_word.ensures.value; lent_after = rw not_b c.samples_word.ensures.lent_after }

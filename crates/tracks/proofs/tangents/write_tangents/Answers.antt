@@ -28,8 +28,8 @@ loop-k-preserved c =
     let n = length a.points.now / 3 in
     let out : c.if-k-n.outgoing ≡ outgoing_of p n at.k =
     elim c.if-k-n.branch [
-      then-k-n w ↦ w.outgoing-is ∙ outgoing-next p n at.k w.if-k-n.true w.point.ensures w.point-then-k-n.ensures w.direction-outgoing.ensures
-    | else-k-n w ↦ w.outgoing-is ∙ outgoing-last p n at.k (let l = w.if-k-n.false in omega arith)
+      | then-k-n w ↦ w.outgoing-is ∙ outgoing-next p n at.k w.if-k-n.true w.point.ensures w.point-then-k-n.ensures w.direction-outgoing.ensures
+      | else-k-n w ↦ w.outgoing-is ∙ outgoing-last p n at.k (let l = w.if-k-n.false in omega arith)
     ] in
     let e = tangent-made p n at.k (at.invariant.3 c.loop-k-test.true) out c.sum.ensures c.unit-t.ensures in
     (omega arith, simp length-set at.invariant.1, written-turn p n a.list.now at.list at.k e (omega arith) at.invariant.2, incoming-kept p n at.k out)
