@@ -39,7 +39,7 @@ no_archive = { echo "make $@: there is no $(archive); run make first: it proves 
 all:
 	@command -v rt > /dev/null || \
 	  { echo 'make: there is no rt: the Rattle toolchain is needed (README.md, "What you need")' >&2; exit 1; }
-	@echo "proves and builds the library (build.log): six minutes on two cores the first time, half a minute when nothing has changed"
+	@echo "proves and builds the library (build.log): a quarter of an hour the first time, half a minute when nothing has changed"
 	@cd crates/riftkettle && rt lib > "$(CURDIR)/build.log" 2>&1 || { tail -n 20 "$(CURDIR)/build.log" >&2; exit 1; }
 	@echo "$(archive) is built"
 
