@@ -23,7 +23,7 @@ absolute = $(if $(filter-out /%,$(firstword $(1))),$(CURDIR)/)$(1)
 override PREFIX := $(call absolute,$(PREFIX))
 
 version := $(shell sed -n 's/^.define RIFTKETTLE_VERSION "\(.*\)"$$/\1/p' include/riftkettle.h)
-archive := target/staticlib/libriftkettle.a
+archive := crates/riftkettle/out/libriftkettle.a
 documents := CHANGELOG.md LICENSE-APACHE LICENSE-MIT NOTICE docs/DECISIONS.md docs/JOB-TEXT.md docs/MEMORY.md docs/ROAD.md
 pictures := $(wildcard docs/pictures/*.svg)
 desk := $(or $(CARGO_TARGET_DIR),tools/target)/release/desk
@@ -35,12 +35,12 @@ no_archive = { echo "make $@: there is no $(archive); run make first: it proves 
 
 .PHONY: all install uninstall examples desk install-desk uninstall-desk
 
-# rt check proves several crates at a time, rt staticlib one after the other
+# The archive stands where rt lib leaves it, and rt ci takes it away: make builds it again.
 all:
 	@command -v rt > /dev/null || \
 	  { echo 'make: there is no rt: the Rattle toolchain is needed (README.md, "What you need")' >&2; exit 1; }
 	@echo "proves and builds the library (build.log): six minutes on two cores the first time, half a minute when nothing has changed"
-	@{ rt check riftkettle && rt staticlib riftkettle; } > build.log 2>&1 || { tail -n 20 build.log >&2; exit 1; }
+	@cd crates/riftkettle && rt lib > "$(CURDIR)/build.log" 2>&1 || { tail -n 20 "$(CURDIR)/build.log" >&2; exit 1; }
 	@echo "$(archive) is built"
 
 install:

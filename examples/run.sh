@@ -4,16 +4,16 @@
 #
 #     examples/run.sh [DIR]
 #
-#   DIR  the folder with libriftkettle.a, or a shared libriftkettle.so (default: target/staticlib of this checkout)
+#   DIR  the folder with libriftkettle.a, or a shared libriftkettle.so (default: crates/riftkettle/out of this checkout)
 #
 # A line for each example; the last line says how many were run and how many differ. Status 0: none differ.
 set -euo pipefail
-folder=$(realpath -m "${1:-$(dirname "$0")/../target/staticlib}")
+folder=$(realpath -m "${1:-$(dirname "$0")/../crates/riftkettle/out}")
 cd "$(dirname "$0")/.."
 build=target/examples
 library=$folder/libriftkettle.a
 [ -f "$library" ] || library=$folder/libriftkettle.so
-[ -f "$library" ] || { echo "examples/run.sh: no libriftkettle.a in $folder: rt staticlib riftkettle builds it" >&2; exit 1; }
+[ -f "$library" ] || { echo "examples/run.sh: no libriftkettle.a in $folder: make builds it" >&2; exit 1; }
 export RIFTKETTLE_LIB_DIR=$folder LD_LIBRARY_PATH=$folder${LD_LIBRARY_PATH:+:$LD_LIBRARY_PATH}
 mkdir -p "$build"
 run=0

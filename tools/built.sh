@@ -2,7 +2,9 @@
 #
 #     options ARGUMENTS  takes --source DIR (the published Rust) and --library DIR (libriftkettle.a and libtest_probes.a) from the
 #                        arguments; the others are in the array `others` afterwards
-#     archives           the archives of the crates `riftkettle` and `test_probes`, built if need be, or those that --library names
+#     archives           the archives of the crates `riftkettle` and `test_probes`, built by `rt lib` and left in crates/NAME/out, where
+#                        bindings/rust and tools/archive look for them, or those that --library names
+#     program            the program `surface`, built and tried on its own input by `rt run`: crates/surface/out/surface
 #     packages WORDS     cargo over the workspace, offline, for release
 fail() {
   echo "$0: $*" >&2
@@ -23,16 +25,22 @@ options() {
 }
 
 archives() {
+  local name
   if [ -z "$library" ]; then
-    # both at once, several checks at a time: rt staticlib alone proves one crate after the other
-    rt check riftkettle test_probes >&2 || fail "rt check riftkettle test_probes failed"
-    rt staticlib riftkettle >&2 || fail "rt staticlib riftkettle failed"
-    rt staticlib test_probes >&2 || fail "rt staticlib test_probes failed"
-    library=target/staticlib
+    unset RIFTKETTLE_LIB_DIR
+    for name in riftkettle test_probes; do
+      (cd "crates/$name" && rt lib) >&2 || fail "rt lib failed in crates/$name"
+      echo "library: $PWD/crates/$name/out/lib$name.a" >&2
+    done
+  else
+    RIFTKETTLE_LIB_DIR=$(realpath "$library")
+    export RIFTKETTLE_LIB_DIR
+    echo "library: $RIFTKETTLE_LIB_DIR" >&2
   fi
-  RIFTKETTLE_LIB_DIR=$(realpath "$library")
-  export RIFTKETTLE_LIB_DIR
-  echo "library: $RIFTKETTLE_LIB_DIR" >&2
+}
+
+program() {
+  (cd crates/surface && rt run < stdin | cmp - stdout) >&2 || fail "rt run failed in crates/surface"
 }
 
 packages() {

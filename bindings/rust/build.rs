@@ -4,7 +4,7 @@ use std::env;
 use std::path::{Path, PathBuf};
 use std::process::{Command, exit};
 
-const HELP: &str = "build it by `rt staticlib riftkettle` in the checkout of Riftkettle, install it by `make install`, \
+const HELP: &str = "build it by `make` in the checkout of Riftkettle, install it by `make install`, \
                     or name the folder that has it in RIFTKETTLE_LIB_DIR";
 
 fn main() {
@@ -32,7 +32,7 @@ fn find() -> Result<(PathBuf, &'static str), String> {
     }
     let checkout = crate_folder.join("../..");
     if checkout.join("include/riftkettle.h").is_file()
-        && let Some(found) = held(&checkout.join("target/staticlib"))
+        && let Some(found) = held(&checkout.join("crates/riftkettle/out"))
     {
         return Ok(found);
     }

@@ -6,8 +6,8 @@
 #   full       the full form (minutes); without it the short one (seconds)
 #   --source   the folder with the published road.rs, coords.rs and geometry.rs, or with src/ that holds them (default ../shared/docs/src)
 #   --library  the folder of the library to compare and of the functions inside it, libriftkettle.a and libtest_probes.a (default:
-#              target/staticlib, built by `rt staticlib`)
-#   --program  the program `surface` (default: target/bin/surface, built by `rt check surface`)
+#              those of this checkout, built by `rt lib` in crates/riftkettle and crates/test_probes)
+#   --program  the program `surface` (default: crates/surface/out/surface, built by `rt run` in crates/surface)
 #   --seed     another run of random inputs (default 1); --only, comparisons by the start of their name, as often as there are
 #              names; --steps, how many inputs of each
 #
@@ -31,8 +31,8 @@ done
 
 archives
 if [ -z "$surface" ]; then
-  rt check surface >&2 || fail "rt check surface failed"
-  surface=target/bin/surface
+  program
+  surface=crates/surface/out/surface
 fi
 [ -x "$surface" ] || fail "no program $surface"
 packages build -p comparison

@@ -1,20 +1,26 @@
-# Reads logs of must-fail edits, target/must-fail/CRATE/EDIT/.log, and names each edit that shows nothing: the prover missed a Need or a
-# field that the proof names, since the code has another shape, and refused no fact. An error for a part that "was not admitted" only
-# follows from another one. An error may run over several lines, the further ones indented.
-function judge() {
-  if (text ~ /has no `Need-|has no field/) shape++
-  else if (text != "" && text !~ /was not admitted/) fact++
-  text = ""
+# Reads the names of must-fail edits, crates/CRATE/must-fail/NAME.edit, a line each (edits=yes), and then what `rt ci` or `rt must-fail` said
+# (edits=), whose line for an edit has the first fact that was refused. It names each edit that shows nothing: one that was not refused, or
+# refused for its shape alone, since a proof file names what the edit took away, with no fact refused beside it. One that the prover gave no
+# verdict on within its limits is refused too, and says less: it is named, and counted apart.
+function tells(what) { print edit ": " what; }
+edits { if ($0 != "") { split($0, part, "/"); wanted[part[2] "/" part[4]] = $0; count++ } next }
+/: BAD EDIT: / && !/^rt: must-fail / { print; bad = 1; next }
+!/^rt: must-fail / { next }
+{
+  edit = $3
+  sub(/:$/, "", edit)
+  if (!(edit in wanted)) next
+  of_shape = /: refused, as it must be \(only because a proof file names /
+  at_limit = /: refused, as it must be \(only by a limit of the prover/
+  if (/: refused, as it must be/ && !of_shape) { refused++; limits += at_limit; delete wanted[edit] }
+  if (of_shape) { tells("refused for its shape alone, so it shows nothing: " $0); shown[edit] = 1; bad = 1 }
+  if (at_limit) tells("refused only by a limit of the prover")
 }
-function finish() {
-  judge()
-  if (shape && !fact) { print name ": refused for its shape alone, so it shows nothing: " first; bad = 1 }
-  shape = fact = 0
+END {
+  for (edit in wanted) {
+    bad = 1
+    if (!(edit in shown)) tells("not refused")
+  }
+  print count + 0 " must-fail edits, " refused + 0 " refused for a fact" (limits ? ", " limits " of them only by a limit of the prover" : "")
+  exit bad
 }
-FNR == 1 { finish(); n = split(FILENAME, part, "/"); name = part[n - 2] "/" part[n - 1]; first = "" }
-/^  / && text != "" { sub(/^ +/, ""); text = text " " $0; next }
-{ judge() }
-/^[^ ]+: error: / { text = $0; if (first == "") { first = $0; sub(/^.*\/proofs\//, "proofs/", first) } }
-# a function that the prover proves by itself has no proof to err in
-/^note: .*: it is not proved that / { fact++ }
-END { finish(); exit bad }
