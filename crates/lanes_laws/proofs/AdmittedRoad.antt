@@ -16,7 +16,6 @@ use Rattle.records.specs.Roads.{Road, road_of, absent, section_of, section_index
 use Rattle.records.proofs.RoadLaws.{strip-past}
 use Rattle.admission_order.proofs.OrderLaws.{Ordered, ordered-is}
 use Rattle.admission_structure.proofs.StructureLaws.{structured-is}
-use Rattle.arithmetic_ranges.specs.Ranges.{in_range}
 use Rattle.admission.specs.Limits.{greatest_length, limited}
 use Rattle.admission_laws.proofs.Fitting.{Fitting, RoadFits, road-fits}
 use Rattle.admission_laws.proofs.ActiveRecord.{Active, index-active}

@@ -26,7 +26,7 @@ use Rattle.lanes_borders.proofs.BorderLaws.{eighty}
 use Rattle.lanes_heights.specs.declared.across.Across.{Across}
 use Rattle.lanes_heights.specs.Heights.{heights_at, across_at}
 use Rattle.lanes_heights.specs.HeightAcross.{height_within, height_across}
-use Rattle.lanes_laws.specs.HeightSizes.{AcrossKept, OwnKept, LaneHeightsKept, HeightsKept, HeightSizes}
+use Rattle.lanes_laws.specs.HeightSizes.{AcrossKept, OwnKept, LaneHeightsKept, HeightSizes}
 use Rattle.lanes_laws.proofs.BorderHeights.{border-most}
 use Rattle.lanes_laws.proofs.LaneHeights.{across-most}
 use Rattle.lanes_laws.proofs.HeightsKept.{profiles-kept, cross-section-kept, height-kept, own_heights-kept, heights-kept, height_within-kept, height_across-kept, bank_tangent-kept}

@@ -12,7 +12,7 @@ use Rattle.admission_laws.proofs.FractionLaws.{within-at_most}
 use Rattle.admission_laws.proofs.Places.{on_road_lem}
 use Rattle.admission_laws.proofs.RoadBounds.{OnRoad, width-within, border-within, height-inner-within, height-outer-within}
 use Rattle.lanes_borders.specs.Borders.{side_lanes}
-use Rattle.lanes_laws.specs.LaneSizes.{LaneValues, LanesKept, LaneSizes}
+use Rattle.lanes_laws.specs.LaneSizes.{LaneValues, LaneSizes}
 use Rattle.lanes_laws.proofs.AdmittedRoad.{Admits, admits, section-there, into, in-section}
 
 -- ---- the bounds in units of the least f64

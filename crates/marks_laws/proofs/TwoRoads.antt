@@ -2,7 +2,7 @@
 use Prim.Native.Nat.{ℕ}
 use mathlib.Core.Path.{◌≡◌, refl}
 use mathlib.Core.Bool.{true}
-use mathlib.Core.List.{List, [], ◌∷◌, ◌++◌}
+use mathlib.Core.List.{List, ◌∷◌, ◌++◌}
 use lib.ListN.{length, replicate, set}
 use lib.Ieee.{Float, of_bits, add, sub, mul, div, le, lt, eq, neg}
 use Rattle.float_laws.specs.Binary64.{f64, zero64}

@@ -10,7 +10,7 @@ use lib.Ieee.{Float, binary64}
 use lib.Ieee.Bits.{of_bits-fits}
 use borrow.Author.Tests.{le-leb}
 use Rattle.float_laws.specs.Binary64.{f64}
-use Rattle.refusals.specs.Answer.{Answer, value, refused, Row, row, checked}
+use Rattle.refusals.specs.Answer.{Answer, value, refused, checked}
 use Rattle.records.specs.Roads.{Road, road_of}
 use Rattle.line_samples.specs.Samples.{samples_needed, samples_of}
 use Rattle.line_samples.proofs.SpiralLaws.{length-samples_of}
@@ -28,13 +28,13 @@ use Rattle.surface_laws.proofs.OwnSamples.{own-surface-kept}
 use Rattle.reader_calls.specs.Reading.{Outcome, done, stop, verdict_of, zeros, reading_of}
 use Rattle.reader_laws.specs.Lines.{lines_of}
 use Rattle.reader_laws.proofs.ReadTables.{accepted}
-use Rattle.reader_text_laws.specs.Said.{road_said, patterns, wants_said}
+use Rattle.reader_text_laws.specs.Said.{road_said, patterns}
 use Rattle.reader_text_laws.specs.TextSays.{AsSaid}
 use Rattle.reader_text_laws.proofs.TextSays.{read-says}
 use Rattle.reader_hex.specs.Digits.{bytes_of, hex_of, decimal_of}
 use Rattle.program_output.specs.Lines.{space, names_line, number_line, point_line, output_line}
 use Rattle.program_output.specs.Output.{want_line, want_lines, wants_text, written_for, output_of}
-use Rattle.program_laws.specs.Written.{Job, point_at, want_said, lines_said, WrittenSays, WrittenKept}
+use Rattle.program_laws.specs.Written.{point_at, want_said, lines_said, WrittenSays, WrittenKept}
 use Rattle.program_laws.proofs.NumbersFit.{read_fits}
 
 -- ---- the wants' lines from the first on

@@ -1,6 +1,6 @@
 -- No point that is written has a NaN or an infinity: by demand 3 on the surface call, of an admitted road with its own samples.
 use Prim.Native.Nat.{ℕ}
-use mathlib.Core.Path.{◌≡◌, sym, ◌∙◌, ap, subst}
+use mathlib.Core.Path.{◌≡◌, sym, ◌∙◌, ap}
 use mathlib.Core.Bool.{true, not}
 use mathlib.Core.List.{List}
 use lib.Dec.{T}

@@ -1,6 +1,6 @@
 -- Document 01, "The job text": a line kept, with its cells at their places and the line under its parent. Read `kept_words` and `kept_progress` first, at the end.
 -- "At most 6 a side", "0..16 a lane" and the like are not tested here: admission tests them on the road that is kept.
-use Rattle.std.specs.Prelude.{ℕ, ◌+◌, ◌-◌, ◌*◌, ◌%◌, Bool, ◌&&◌, cond, List, get_or, set, eqb, leb}
+use Rattle.std.specs.Prelude.{ℕ, ◌+◌, ◌-◌, ◌*◌, Bool, ◌&&◌, cond, List, get_or, set, eqb, leb}
 use Rattle.records.specs.Layout.{strip_words as strip_base, strip_stride, mark_words, mark_stride}
 use Rattle.reader_schema.specs.Tables.{columns_most}
 use Rattle.reader_cells.specs.Cells.{whole_bias}

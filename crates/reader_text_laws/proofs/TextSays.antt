@@ -1,11 +1,10 @@
 -- The two statements of specs/TextSays hold. The progress is sound exactly where references and order are right (FamilySays); a sound text leaves what it says (RoadSays, WantLines), and reading's last step asks the progress, then admission, which judges the road that is said (CountsSay).
-use Prim.Native.Nat.{ℕ, ◌<◌, ◌≤◌}
+use Prim.Native.Nat.{ℕ, ◌≤◌}
 use native.Mathlib.Omega.{arith}
-use mathlib.Core.Path.{◌≡◌, refl, sym, ◌∙◌, ap}
+use mathlib.Core.Path.{◌≡◌, refl, ◌∙◌, ap}
 use mathlib.Core.Bool.{Bool, true, false, cond}
 use mathlib.Core.List.{List}
-use lib.ListN.{length, replicate, length-replicate}
-use lib.Dec.{leb, ltb}
+use lib.ListN.{length, length-replicate}
 use lib.Ieee.{Float, binary64, of_bits}
 use borrow.Author.Tests.{le-leb, le-ltb}
 use Rattle.refusals.specs.Answer.{Answer, value, checked}

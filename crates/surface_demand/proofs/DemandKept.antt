@@ -22,11 +22,10 @@ use Rattle.lanes_borders.specs.Borders.{side_lanes, borders_of as lane_borders, 
 use Rattle.lanes_borders.proofs.BorderSteps.{three, left-written, right-written, list_length}
 use Rattle.lanes_border_list.specs.BorderList.{listed_by}
 use Rattle.lanes_naming.specs.declared.lane_names.LaneAt.{LaneAt}
-use Rattle.lanes_naming.specs.declared.lane_names.LaneAt.TheVariants.{Left, Right, Nothing}
+use Rattle.lanes_naming.specs.declared.lane_names.LaneAt.TheVariants.{Left, Right}
 use Rattle.lanes_calls.specs.LaneCalls.{lanes_at, borders_call, borders_list}
 use Rattle.lanes_laws.specs.BorderSizes.{lanes_on, first_on, inner_at, outer_at, BordersKept}
 use Rattle.lanes_laws.proofs.BorderSizes.{answered-list, border-sizes}
-use Rattle.surface_station.specs.declared.axis.Axes.{Axes}
 use Rattle.surface_station.specs.declared.axis.Axis.{Axis}
 use Rattle.surface_laws.specs.Squares.{UnitLong}
 use Rattle.surface_points.specs.declared.points.SurfacePoint32.{SurfacePoint32}

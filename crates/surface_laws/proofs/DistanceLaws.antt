@@ -11,7 +11,6 @@ use Rattle.float_laws.proofs.Value.{pl, mi, Real}
 use Rattle.arithmetic_distance.proofs.MissLaws.{gap}
 use Rattle.admission_laws.specs.Fractions.{positive_part, negative_part}
 use Rattle.admission_laws.proofs.FractionLaws.{joined, left-side, right_side}
-use Rattle.surface_laws.specs.Squares.{Ratio, ◌plus◌}
 use Rattle.surface_laws.specs.Distances.{difference, distance_squared, UnderOneIn}
 
 abbrev one : ℕ

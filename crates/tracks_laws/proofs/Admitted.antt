@@ -6,7 +6,7 @@ use mathlib.Core.Path.{◌≡◌}
 use mathlib.Core.Bool.{true, ◌&&◌}
 use mathlib.Core.List.{List}
 use lib.ListN.{length, get_or}
-use lib.Dec.{T, leb, eqb}
+use lib.Dec.{leb, eqb}
 use borrow.Author.Tests.{leb-true, eqb-true}
 use lib.Ieee.{Float, nan, binary32, of_bits, fits, neg, le}
 use Rattle.float_laws.proofs.Value.{Real}
@@ -15,7 +15,7 @@ use Rattle.float_laws.proofs.Checker.{good-real}
 use Rattle.records_lent.proofs.TestLaws.{true-T, and-fst, and-snd, all-at}
 use Rattle.records.specs.declared.points.Point.{Point}
 use Rattle.coordinates.specs.Points.{point_at}
-use Rattle.tracks_calls.specs.TrackCalls.{most_points, greatest_coordinate, track_counted, inside_size, all_inside, point_inside}
+use Rattle.tracks_calls.specs.TrackCalls.{greatest_coordinate, track_counted, inside_size, all_inside, point_inside}
 use Rattle.tracks_laws.specs.TrackLaws.{IsF32, AllF32, PointIsF32}
 
 -- finite, and at most 2,000,000 in size

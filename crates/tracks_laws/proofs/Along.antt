@@ -2,13 +2,13 @@
 use Prim.Native.Nat.{ℕ, zero, suc, ◌+◌, ◌-◌, ◌*◌, ◌^◌, ◌≤◌, ◌<◌}
 use native.Mathlib.Nat.{mul-le-mul_left}
 use native.Mathlib.Omega.{arith}
-use mathlib.Core.Path.{◌≡◌, refl, ap, ◌∙◌, subst}
+use mathlib.Core.Path.{◌≡◌, ap, ◌∙◌, subst}
 use mathlib.Core.Bool.{Bool, true, false, cond}
 use lib.Dec.{T}
 use lib.Pow.{pow_pos}
-use lib.Ieee.{Float, nan, inf, fin, binary32, low, of_bits, le, lt, eq, add, sub, div}
+use lib.Ieee.{Float, binary32, low, of_bits, le, lt}
 use lib.Ieee.Scale.{finite}
-use Rattle.float_laws.specs.Binary32.{◌⊕◌, ◌⊖◌, ◌⊗◌, f32, zero32, one32}
+use Rattle.float_laws.specs.Binary32.{◌⊕◌, ◌⊗◌, one32}
 use Rattle.float_laws.proofs.Units.{rnd, rnd-zero}
 use Rattle.float_laws.proofs.Value.{pl, mi, Real, le_refl, le_trans'}
 use Rattle.float_laws.proofs.Operation.{mul-Is}
@@ -19,9 +19,7 @@ use Rattle.float_laws.proofs.Interval.{In, nil, nil-real, from_zero, le→parts}
 use Rattle.records.specs.declared.points.Point.{Point}
 use Rattle.coordinates.specs.Vectors.{from_to}
 use Rattle.tracks.specs.Lengths.{distance_of, length_to}
-use Rattle.tracks.specs.Poses.{least_span, spot_of}
 use Rattle.tracks.specs.Projections.{Nearest, foot_of, candidate_of, closest_of, square_to, nearer_of, nearest_of, project_of}
-use Rattle.tracks.proofs.PoseSteps.{segment-off}
 use Rattle.tracks_laws.proofs.Admitted.{Placed}
 use Rattle.tracks_laws.proofs.ArcLengths.{distance-in, lengths, lengths_rise}
 use Rattle.tracks_laws.proofs.Fractions.{one-pl, length-in, whole_length}

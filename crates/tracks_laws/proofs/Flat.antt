@@ -1,17 +1,17 @@
 -- Tangents and headings lie in plan: their z is 0, of either sign. At most 0 in size is `Within` 0, and each operation on the way keeps that: the bounds are computed.
-use Prim.Native.Nat.{ℕ, zero, suc, zero-le, ◌+◌, ◌*◌, ◌^◌, ◌≤◌, ◌<◌}
+use Prim.Native.Nat.{ℕ, zero, suc, zero-le, ◌+◌, ◌*◌, ◌^◌, ◌<◌}
 use native.Mathlib.Nat.{le_antisymm, le_trans, le_of_eq, zero-mul, mul-pos}
 use native.Mathlib.Omega.{arith}
 use mathlib.Core.Path.{◌≡◌, refl, ap, ◌∙◌}
 use mathlib.Core.Bool.{Bool, true, false, cond, ◌&&◌}
 use lib.Dec.{T, ltb}
 use lib.Pow.{pow_pos}
-use lib.Ieee.{Float, binary32, low, of_bits, fits, le, lt, eq, add, mul, div}
+use lib.Ieee.{Float, binary32, low, of_bits, le, lt, eq, add, mul, div}
 use lib.Ieee.Scale.{finite}
 use lib.Ieee.Positive.{num, den}
 use borrow.Author.Tests.{ltb-true}
 use Rattle.float_laws.specs.Binary32.{◌⊕◌, ◌⊗◌, ◌⊘◌, zero32, one32, largest32}
-use Rattle.float_laws.proofs.Value.{mag, Real, units_of}
+use Rattle.float_laws.proofs.Value.{mag, units_of}
 use Rattle.float_laws.proofs.Size.{Within, within-mono, within-self, add-within, mul-within}
 use Rattle.float_laws.proofs.Interval.{In, nil, nil-real, nil-pl, nil-mi}
 use Rattle.records_lent.proofs.TestLaws.{and-fst, and-snd, true-T}

@@ -2,7 +2,7 @@
 use Prim.Native.Nat.{ℕ, ◌-◌}
 use mathlib.Core.Path.{◌≡◌, refl, sym, ap, ◌∙◌, subst}
 use mathlib.Core.Bool.{Bool, true, false, cond}
-use lib.Ieee.{Float, nan, inf, fin, binary32, of_bits, le, lt, eq, add, sub, mul, div}
+use lib.Ieee.{Float, nan, inf, fin, of_bits, le, lt, eq, add, sub, mul, div}
 use Rattle.float_laws.specs.Binary32.{◌⊕◌, ◌⊖◌, ◌⊗◌, zero32}
 use Rattle.arithmetic.specs.Root.{root_of}
 use Rattle.records.specs.declared.points.Point.{Point}

@@ -2,17 +2,16 @@
 use Prim.Native.Nat.{ℕ, zero, suc, ◌-◌, ◌≤◌, ◌<◌}
 use native.Mathlib.Nat.{eq-or-lt_of_le, le_of_suc-le-suc}
 use native.Mathlib.Omega.{arith}
-use mathlib.Core.Path.{◌≡◌, refl, sym, ap, ◌∙◌, subst}
-use mathlib.Core.Bool.{Bool, true, false, not, cond}
+use mathlib.Core.Path.{◌≡◌, refl, sym, subst}
+use mathlib.Core.Bool.{Bool, true, false, cond}
 use mathlib.Core.Logic.{⊎_elim}
 use lib.Dec.{T}
 use lib.Ieee.{Float, binary32, le, lt}
-use Rattle.float_laws.proofs.Value.{pl, mi, Real, le→units, units→le, lt→units, units→lt, nlt→units, le_refl}
+use Rattle.float_laws.proofs.Value.{Real, le→units, units→le, lt→units, units→lt, nlt→units, le_refl}
 use Rattle.records_lent.proofs.TestLaws.{true-T}
 use Rattle.records.specs.declared.points.Point.{Point}
-use Rattle.tracks.specs.declared.projections.Projection.{Projection}
 use Rattle.tracks.specs.Lengths.{length_to}
-use Rattle.tracks.specs.Projections.{Nearest, nearer_of, nearest_of, project_of}
+use Rattle.tracks.specs.Projections.{Nearest, nearer_of, nearest_of}
 use Rattle.tracks_laws.specs.TrackLaws.{square_at, candidate_at}
 use Rattle.tracks_laws.proofs.Admitted.{Placed}
 use Rattle.tracks_laws.proofs.Fractions.{not_T}

@@ -5,9 +5,9 @@ use mathlib.Core.Path.{◌≡◌, refl, sym, ap, ◌∙◌, subst}
 use mathlib.Core.Bool.{Bool, true, false, cond, ◌&&◌}
 use mathlib.Core.List.{List, ◌++◌}
 use lib.ListN.{length, get_or, drop}
-use lib.Dec.{T, leb, ltb}
+use lib.Dec.{leb}
 use borrow.Author.Tests.{le-leb}
-use lib.Ieee.{Float, nan, binary32, of_bits, is_nan, le, lt}
+use lib.Ieee.{Float, nan, of_bits, is_nan, lt}
 use lib.Ieee.Positive.{num}
 use Rattle.float_laws.specs.Binary32.{◌⊖◌, zero32, clamp_of}
 use Rattle.refusals.specs.Answer.{Answer, value, refused, Answers}
@@ -17,11 +17,11 @@ use Rattle.coordinates.specs.declared.vectors.Vector.{Vector}
 use Rattle.coordinates.specs.Points.{point_at}
 use Rattle.tracks.specs.Lengths.{length_to}
 use Rattle.tracks.specs.Tangents.{tangent_of, tangent_numbers}
-use Rattle.tracks.specs.Poses.{leading_from, least_span, spot_of, position_at, heading_at, track_pose_of}
-use Rattle.tracks.specs.Projections.{nearest_of, project_of}
+use Rattle.tracks.specs.Poses.{least_span, spot_of, position_at, heading_at, track_pose_of}
+use Rattle.tracks.specs.Projections.{project_of}
 use Rattle.tracks_calls.specs.TrackCalls.{track_counted, all_inside, point_inside, tangents_call, tangents_list, track_pose_call, project_call}
 use Rattle.tracks_calls.proofs.CallSteps.{list-by}
-use Rattle.tracks_laws.specs.TrackLaws.{IsF32, AllF32, PointIsF32, is_track, FinitePoint, Direction, TangentKept, TrackPoseKept, SpotKept, NanPose, foot_at, ProjectionKept, TrackKept, TrackLaws}
+use Rattle.tracks_laws.specs.TrackLaws.{IsF32, AllF32, PointIsF32, is_track, FinitePoint, Direction, TangentKept, TrackPoseKept, SpotKept, NanPose, ProjectionKept, TrackKept, TrackLaws}
 use Rattle.tracks_laws.proofs.Admitted.{Placed, placed, point-placed, counted_is}
 use Rattle.tracks_laws.proofs.ArcLengths.{lengths, lengths_rise}
 use Rattle.tracks_laws.proofs.Leading.{parts_at-lead}

@@ -5,7 +5,7 @@ use native.Mathlib.Omega.{arith}
 use mathlib.Core.Path.{◌≡◌, refl, sym, ap, ◌∙◌}
 use mathlib.Core.Logic.{⊎_elim}
 use mathlib.Core.List.{List, [], ◌∷◌, ◌++◌}
-use lib.ListN.{length, get_or, drop, get_or-append}
+use lib.ListN.{length, get_or, get_or-append}
 use lib.Seq.{get_or-append-add}
 use lib.Ieee.{Float, nan}
 use Rattle.records.specs.declared.points.Point.{Point}

@@ -18,7 +18,7 @@ returns c =
     let sign = sign_of a.right in
     let e : m.width ≡ width_of (lane_of (road_of a.words.now a.numbers.now) a.section a.right a.k) sign a.inner a.s =
     elim m.branch [
-      in-At w ↦ width-by sign a.inner a.s (lane_at_lem a.words.now a.numbers.now a.section a.right a.k c.lane_line.ensures.value w.in-At.is) (w.width-is ∙ w.lane_width-width.ensures)
-    | in-Nothing w ↦ width-by sign a.inner a.s (lane_at_lem a.words.now a.numbers.now a.section a.right a.k c.lane_line.ensures.value w.in-Nothing.is) (w.width-is ∙ width-none sign a.inner a.s)
+      | in-At w ↦ width-by sign a.inner a.s (lane_at_lem a.words.now a.numbers.now a.section a.right a.k c.lane_line.ensures.value w.in-At.is) (w.width-is ∙ w.lane_width-width.ensures)
+      | in-Nothing w ↦ width-by sign a.inner a.s (lane_at_lem a.words.now a.numbers.now a.section a.right a.k c.lane_line.ensures.value w.in-Nothing.is) (w.width-is ∙ width-none sign a.inner a.s)
     ] in
     rw (c.sign_of.ensures, e)
