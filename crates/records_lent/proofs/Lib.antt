@@ -1,3 +1,4 @@
 pub mod TableLaws
 pub mod TestLaws
 pub mod StoreLaws
+pub mod RangeLaws

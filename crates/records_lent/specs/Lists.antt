@@ -1,5 +1,5 @@
 -- Lists as the tables of a road hold them.
-use Rattle.std.specs.Prelude.{ℕ, zero, suc, Bool, true, false, ◌&&◌, ◌||◌, List, [], ◌∷◌, take, drop}
+use Rattle.std.specs.Prelude.{ℕ, zero, suc, Bool, true, false, cond, ◌&&◌, ◌||◌, List, [], ◌∷◌, take, drop, Option, Some, None}
 
 -- the first n values of a function
 unfoldable pub tabulate : {A : Type 0} → (ℕ → A) → ℕ → List A
@@ -19,3 +19,8 @@ all_below p (suc n) = all_below p n && p n
 unfoldable pub any_below : (ℕ → Bool) → ℕ → Bool
 any_below p zero = false
 any_below p (suc n) = any_below p n || p n
+
+-- the last index below n at which the test passes
+unfoldable pub last_that : (ℕ → Bool) → ℕ → Option ℕ
+last_that p zero = None
+last_that p (suc n) = cond (p n) (Some n) (last_that p n)

@@ -1,11 +1,16 @@
 -- Document 01, "What a call gives back": its values, or the number of one refusal and nothing else. A call checks its rows in order, and the first that fails decides.
-use Rattle.std.specs.Prelude.{ℕ, Bool, cond, List, [], ◌∷◌}
+use Rattle.std.specs.Prelude.{ℕ, Bool, cond, List, [], ◌∷◌, Result, Ok, Err}
 use Rattle.refusals.specs.declared.refusals.Refusal.{Refusal}
 use Rattle.refusals.specs.Refusal.{number_of}
 
 pub data Answer (A : Type 0) : Type 0 where
   value : A → Answer A
   refused : ℕ → Answer A
+
+-- what a call gives back in the program, as the document counts it: a value, or the number of its refusal
+abbrev pub answered : {A : Type 0} → Result A Refusal → Answer A
+answered (Ok a) = value a
+answered (Err r) = refused (number_of r)
 
 -- the call refuses not, and of what it answers P holds
 abbrev pub Answers : {A : Type 0} → Answer A → (A → Type 0) → Type 0

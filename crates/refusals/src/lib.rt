@@ -3,4 +3,4 @@
 
 mod refusals;
 
-pub use refusals::{Refusal, number};
+pub use refusals::Refusal;
