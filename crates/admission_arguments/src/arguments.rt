@@ -1,17 +1,18 @@
 // The tests of a call's place. NaN is outside every range.
 ghost use Rattle.std.specs.Prelude.{◌≡◌};
-ghost use Rattle.records.specs.Roads.{lent_road};
 ghost use Rattle.admission.specs.Limits.{on_road};
 ghost use Rattle.admission_arguments.specs.Arguments.{across_road};
+
+use records::LentRoad;
 
 // Half of the road's width.
 const HALF_WIDTH: f64 = 80.0;
 
 // Row 7: s in 0..length.
-pub fn on_road(words: &[u16], numbers: &[f64], s: f64) -> bool
-    ensures { result ≡ on_road (lent_road words numbers) s }
+pub fn on_road(road: &LentRoad, s: f64) -> bool
+    ensures { result ≡ on_road road.now s }
 {
-    (0.0 <= s) & (s <= records::road_length(words, numbers))
+    (0.0 <= s) & (s <= road.length())
 }
 
 // Row 8: t in -80..80.

@@ -1,13 +1,12 @@
 // Row 4 of geometries and elevations.
 ghost use Rattle.std.specs.Prelude.{◌≡◌, ◌&&◌, length};
 ghost use Rattle.records_lent.specs.Lists.{all_below};
-ghost use Rattle.records.specs.Roads.{lent_road};
 ghost use Rattle.admission_bounds.specs.Bounds.{slopes_within};
 ghost use Rattle.admission.specs.Limits.{greatest_elevation, greatest_grade, road_cubics_within, shape_limited, geom_limited};
 
 use admission_bounds::{cubics_within, slopes_within};
 use arithmetic_ranges::{abs, in_range, sized};
-use records::{GeomShape, STRAIGHT_CURVATURE};
+use records::{GeomShape, LentRoad, STRAIGHT_CURVATURE};
 
 // ---- geometries
 const GREATEST_PLACE: f64 = 1000000.0;
@@ -39,11 +38,11 @@ fn shape_limited(shape: GeomShape) -> bool
     }
 }
 
-fn geom_limited(words: &[u16], numbers: &[f64], i: usize) -> bool
-    ensures { result ≡ geom_limited (lent_road words numbers) i }
+fn geom_limited(road: &LentRoad, i: usize) -> bool
+    ensures { result ≡ geom_limited road.now i }
 {
-    let g = records_geometry::geom(words, numbers, i);
-    let start = in_range(0.0, records::road_length(words, numbers), g.s);
+    let g = records_geometry::geom(road, i);
+    let start = in_range(0.0, road.length(), g.s);
     let place = start
         & sized(GREATEST_PLACE, g.x)
         & sized(GREATEST_PLACE, g.y)
@@ -52,17 +51,17 @@ fn geom_limited(words: &[u16], numbers: &[f64], i: usize) -> bool
     place
         & in_range(LEAST_GEOM_LENGTH, GREATEST_GEOM_LENGTH, g.length)
         & shape_limited(shape)
-        & records_geometry::unused_zero(words, numbers, i)
+        & records_geometry::unused_zero(road, i)
 }
 
-pub fn geoms_limited(words: &[u16], numbers: &[f64]) -> bool
-    ensures { result ≡ all_below (geom_limited (lent_road words numbers)) (length (lent_road words numbers).geoms) }
+pub fn geoms_limited(road: &LentRoad) -> bool
+    ensures { result ≡ all_below (geom_limited road.now) (length road.now.geoms) }
 {
-    let n = records::geom_count(words, numbers);
+    let n = road.geom_count();
     let mut ok = true;
     let mut i = 0;
     while i < n {
-        ok = ok & geom_limited(words, numbers, i);
+        ok = ok & geom_limited(road, i);
         i += 1;
     }
     ok
@@ -73,11 +72,11 @@ const GREATEST_ELEVATION: f64 = 10000.0;
 
 const GREATEST_GRADE: f64 = 1.0;
 
-pub fn elevations_limited(words: &[u16], numbers: &[f64]) -> bool
-    ensures { result ≡ (road_cubics_within (lent_road words numbers) (lent_road words numbers).elevations greatest_elevation && slopes_within (lent_road words numbers).elevations (lent_road words numbers).length greatest_grade) }
+pub fn elevations_limited(road: &LentRoad) -> bool
+    ensures { result ≡ (road_cubics_within road.now road.now.elevations greatest_elevation && slopes_within road.now.elevations road.now.length greatest_grade) }
 {
-    let length = records::road_length(words, numbers);
-    let elevations = records::elevations(words, numbers);
+    let length = road.length();
+    let elevations = road.elevations();
     cubics_within(elevations, 0.0, length, length, GREATEST_ELEVATION)
         & slopes_within(elevations, length, GREATEST_GRADE)
 }

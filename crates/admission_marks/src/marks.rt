@@ -1,11 +1,11 @@
 // Row 4 of mark spans.
 ghost use Rattle.std.specs.Prelude.{◌≡◌, ℕ, length};
 ghost use Rattle.records_lent.specs.Lists.{all_below};
-ghost use Rattle.records.specs.Roads.{lent_road, mark_at};
+ghost use Rattle.records.specs.Roads.{mark_at};
 ghost use Rattle.admission.specs.Limits.{mark_limited, marks_limited};
 
 use admission_lanes::section_extent;
-use records::Mark;
+use records::{LentRoad, Mark};
 use records_marks::{mark, mark_count};
 
 const LEAST_KIND: usize = 1;
@@ -25,40 +25,39 @@ fn mark_limited(extent: f64, mark: Mark) -> bool
 
 // The first n marks of a section.
 fn first_marks_limited(
-    words: &[u16],
-    numbers: &[f64],
+    road: &LentRoad,
     extent: f64,
     section: usize,
     n: usize,
 ) -> bool
-    ensures { result ≡ all_below (λ (j : ℕ). mark_limited extent (mark_at (lent_road words numbers) section j)) n }
+    ensures { result ≡ all_below (λ (j : ℕ). mark_limited extent (mark_at road.now section j)) n }
 {
     let mut ok = true;
     let mut j = 0;
     while j < n {
-        ok = ok & mark_limited(extent, mark(words, numbers, section, j));
+        ok = ok & mark_limited(extent, mark(road, section, j));
         j += 1;
     }
     ok
 }
 
-fn section_marks_limited(words: &[u16], numbers: &[f64], section: usize) -> bool
-    ensures { result ≡ marks_limited (lent_road words numbers) section }
+fn section_marks_limited(road: &LentRoad, section: usize) -> bool
+    ensures { result ≡ marks_limited road.now section }
 {
-    let extent = section_extent(words, numbers, section);
-    let n = mark_count(words, numbers, section);
-    first_marks_limited(words, numbers, extent, section, n)
+    let extent = section_extent(road, section);
+    let n = mark_count(road, section);
+    first_marks_limited(road, extent, section, n)
 }
 
 // The marks of every section.
-pub fn marks_limited(words: &[u16], numbers: &[f64]) -> bool
-    ensures { result ≡ all_below (marks_limited (lent_road words numbers)) (length (lent_road words numbers).sections) }
+pub fn marks_limited(road: &LentRoad) -> bool
+    ensures { result ≡ all_below (marks_limited road.now) (length road.now.sections) }
 {
-    let n = records_sections::section_count(words, numbers);
+    let n = records_sections::section_count(road);
     let mut ok = true;
     let mut i = 0;
     while i < n {
-        ok = ok & section_marks_limited(words, numbers, i);
+        ok = ok & section_marks_limited(road, i);
         i += 1;
     }
     ok

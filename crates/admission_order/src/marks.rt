@@ -1,10 +1,10 @@
 // The order of a section's marks. Lines of other lanes may stand between two of one lane, so each is held against all before it.
 ghost use Rattle.std.specs.Prelude.{◌≡◌, ℕ, length};
 ghost use Rattle.records_lent.specs.Lists.{all_below};
-ghost use Rattle.records.specs.Roads.{lent_road, mark_at};
+ghost use Rattle.records.specs.Roads.{mark_at};
 ghost use Rattle.admission_order.specs.Order.{starts_in_order, marks_in_order};
 
-use records::Mark;
+use records::{LentRoad, Mark};
 use records_marks::{mark, mark_count};
 
 // Of two marks on one lane the later starts no earlier.
@@ -15,42 +15,42 @@ fn starts_in_order(a: Mark, b: Mark) -> bool
 }
 
 // The j-th mark of a section against each before it.
-fn mark_in_order(words: &[u16], numbers: &[f64], section: usize, j: usize) -> bool
-    ensures { result ≡ all_below (λ (h : ℕ). starts_in_order (mark_at (lent_road words numbers) section h) (mark_at (lent_road words numbers) section j)) j }
+fn mark_in_order(road: &LentRoad, section: usize, j: usize) -> bool
+    ensures { result ≡ all_below (λ (h : ℕ). starts_in_order (mark_at road.now section h) (mark_at road.now section j)) j }
 {
-    let later = mark(words, numbers, section, j);
+    let later = mark(road, section, j);
     let mut ok = true;
     let mut h = 0;
     while h < j {
-        let earlier = mark(words, numbers, section, h);
+        let earlier = mark(road, section, h);
         ok = ok & starts_in_order(earlier, later);
         h += 1;
     }
     ok
 }
 
-fn section_marks_in_order(words: &[u16], numbers: &[f64], section: usize) -> bool
-    ensures { result ≡ marks_in_order (lent_road words numbers) section }
+fn section_marks_in_order(road: &LentRoad, section: usize) -> bool
+    ensures { result ≡ marks_in_order road.now section }
 {
-    let n = mark_count(words, numbers, section);
+    let n = mark_count(road, section);
     let mut ok = true;
     let mut j = 0;
     while j < n {
-        ok = ok & mark_in_order(words, numbers, section, j);
+        ok = ok & mark_in_order(road, section, j);
         j += 1;
     }
     ok
 }
 
 // The marks of every section.
-pub(crate) fn marks_in_order(words: &[u16], numbers: &[f64]) -> bool
-    ensures { result ≡ all_below (marks_in_order (lent_road words numbers)) (length (lent_road words numbers).sections) }
+pub(crate) fn marks_in_order(road: &LentRoad) -> bool
+    ensures { result ≡ all_below (marks_in_order road.now) (length road.now.sections) }
 {
-    let n = records_sections::section_count(words, numbers);
+    let n = records_sections::section_count(road);
     let mut ok = true;
     let mut i = 0;
     while i < n {
-        ok = ok & section_marks_in_order(words, numbers, i);
+        ok = ok & section_marks_in_order(road, i);
         i += 1;
     }
     ok

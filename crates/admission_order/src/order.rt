@@ -4,9 +4,10 @@ ghost use Rattle.std.specs.Float.Ieee.{eq};
 ghost use Rattle.float_laws.specs.Binary64.{zero64};
 ghost use Rattle.records_lent.specs.Lists.{all_below};
 ghost use Rattle.records_cubic.specs.Cubics.{cubics_of};
-ghost use Rattle.records.specs.Roads.{lent_road, heights_of, height_def_at, geom_at, section_of, lane_of, profile_at, strip_at};
+ghost use Rattle.records.specs.Roads.{heights_of, height_def_at, geom_at, section_of, lane_of, profile_at, strip_at};
 ghost use Rattle.admission_order.specs.Order.{never_fall, rise_strictly, apart, cubics_in_order, lane_in_order, section_in_order, strip_in_order, ordered};
 
+use records::LentRoad;
 use crate::marks::marks_in_order;
 
 // Profiles, and heights of a lane, are at least so far apart.
@@ -50,159 +51,159 @@ fn heights_apart(part: &[f64]) -> bool
     ok
 }
 
-fn geoms_in_order(words: &[u16], numbers: &[f64]) -> bool
-    ensures { result ≡ never_fall (λ i. (geom_at (lent_road words numbers) i).s) (length (lent_road words numbers).geoms) }
+fn geoms_in_order(road: &LentRoad) -> bool
+    ensures { result ≡ never_fall (λ i. (geom_at road.now i).s) (length road.now.geoms) }
 {
-    let n = less_one(records::geom_count(words, numbers));
+    let n = less_one(road.geom_count());
     let mut ok = true;
     let mut i = 0;
     while i < n {
-        let a = records_geometry::geom(words, numbers, i);
-        let b = records_geometry::geom(words, numbers, i + 1);
+        let a = records_geometry::geom(road, i);
+        let b = records_geometry::geom(road, i + 1);
         ok = ok & (a.s <= b.s);
         i += 1;
     }
     ok
 }
 
-fn sections_rise(words: &[u16], numbers: &[f64]) -> bool
-    ensures { result ≡ rise_strictly (λ i. (section_of (lent_road words numbers) i).start) (length (lent_road words numbers).sections) }
+fn sections_rise(road: &LentRoad) -> bool
+    ensures { result ≡ rise_strictly (λ i. (section_of road.now i).start) (length road.now.sections) }
 {
-    let n = less_one(records_sections::section_count(words, numbers));
+    let n = less_one(records_sections::section_count(road));
     let mut ok = true;
     let mut i = 0;
     while i < n {
-        let a = records_sections::section_start(words, numbers, i);
-        let b = records_sections::section_start(words, numbers, i + 1);
+        let a = records_sections::section_start(road, i);
+        let b = records_sections::section_start(road, i + 1);
         ok = ok & (a < b);
         i += 1;
     }
     ok
 }
 
-fn lane_in_order(words: &[u16], numbers: &[f64], section: usize, right: bool, k: usize) -> bool
-    ensures { result ≡ lane_in_order (lane_of (lent_road words numbers) section right k) }
+fn lane_in_order(road: &LentRoad, section: usize, right: bool, k: usize) -> bool
+    ensures { result ≡ lane_in_order (lane_of road.now section right k) }
 {
-    let extents = cubics_in_order(records_lanes::extents(words, numbers, section, right, k));
-    let heights = heights_apart(records_lanes::heights(words, numbers, section, right, k));
+    let extents = cubics_in_order(records_lanes::extents(road, section, right, k));
+    let heights = heights_apart(records_lanes::heights(road, section, right, k));
     extents & heights
 }
 
 // The first n lanes of a side.
-fn side_in_order(words: &[u16], numbers: &[f64], section: usize, right: bool, n: usize) -> bool
-    ensures { result ≡ all_below (λ k. lane_in_order (lane_of (lent_road words numbers) section right k)) n }
+fn side_in_order(road: &LentRoad, section: usize, right: bool, n: usize) -> bool
+    ensures { result ≡ all_below (λ k. lane_in_order (lane_of road.now section right k)) n }
 {
     let mut ok = true;
     let mut k = 0;
     while k < n {
-        ok = ok & lane_in_order(words, numbers, section, right, k);
+        ok = ok & lane_in_order(road, section, right, k);
         k += 1;
     }
     ok
 }
 
-fn section_in_order(words: &[u16], numbers: &[f64], i: usize) -> bool
-    ensures { result ≡ section_in_order (lent_road words numbers) i }
+fn section_in_order(road: &LentRoad, i: usize) -> bool
+    ensures { result ≡ section_in_order road.now i }
 {
-    let left_lanes = records_sections::left_count(words, numbers, i);
-    let left = side_in_order(words, numbers, i, false, left_lanes);
-    let right_lanes = records_sections::right_count(words, numbers, i);
-    let right = side_in_order(words, numbers, i, true, right_lanes);
+    let left_lanes = records_sections::left_count(road, i);
+    let left = side_in_order(road, i, false, left_lanes);
+    let right_lanes = records_sections::right_count(road, i);
+    let right = side_in_order(road, i, true, right_lanes);
     left & right
 }
 
-fn sections_in_order(words: &[u16], numbers: &[f64]) -> bool
-    ensures { result ≡ all_below (section_in_order (lent_road words numbers)) (length (lent_road words numbers).sections) }
+fn sections_in_order(road: &LentRoad) -> bool
+    ensures { result ≡ all_below (section_in_order road.now) (length road.now.sections) }
 {
-    let n = records_sections::section_count(words, numbers);
+    let n = records_sections::section_count(road);
     let mut ok = true;
     let mut i = 0;
     while i < n {
-        ok = ok & section_in_order(words, numbers, i);
+        ok = ok & section_in_order(road, i);
         i += 1;
     }
     ok
 }
 
-fn profiles_apart(words: &[u16], numbers: &[f64]) -> bool
-    ensures { result ≡ apart (λ i. (profile_at (lent_road words numbers) i).s) (length (lent_road words numbers).profiles) }
+fn profiles_apart(road: &LentRoad) -> bool
+    ensures { result ≡ apart (λ i. (profile_at road.now i).s) (length road.now.profiles) }
 {
-    let n = less_one(records_shapes::profile_count(words, numbers));
+    let n = less_one(records_shapes::profile_count(road));
     let mut ok = true;
     let mut i = 0;
     while i < n {
-        let a = records_shapes::profile_start(words, numbers, i);
-        let b = records_shapes::profile_start(words, numbers, i + 1);
+        let a = records_shapes::profile_start(road, i);
+        let b = records_shapes::profile_start(road, i + 1);
         ok = ok & (LEAST_GAP <= b - a);
         i += 1;
     }
     ok
 }
 
-fn shapes_in_order(words: &[u16], numbers: &[f64]) -> bool
-    ensures { result ≡ all_below (λ i. cubics_in_order (profile_at (lent_road words numbers) i).shapes) (length (lent_road words numbers).profiles) }
+fn shapes_in_order(road: &LentRoad) -> bool
+    ensures { result ≡ all_below (λ i. cubics_in_order (profile_at road.now i).shapes) (length road.now.profiles) }
 {
-    let n = records_shapes::profile_count(words, numbers);
+    let n = records_shapes::profile_count(road);
     let mut ok = true;
     let mut i = 0;
     while i < n {
-        ok = ok & cubics_in_order(records_shapes::shapes(words, numbers, i));
+        ok = ok & cubics_in_order(records_shapes::shapes(road, i));
         i += 1;
     }
     ok
 }
 
-fn strip_in_order(words: &[u16], numbers: &[f64], i: usize) -> bool
-    ensures { result ≡ strip_in_order (strip_at (lent_road words numbers) i) }
+fn strip_in_order(road: &LentRoad, i: usize) -> bool
+    ensures { result ≡ strip_in_order (strip_at road.now i) }
 {
     let mut ok = true;
     let mut column = 0;
     while column < 5 {
-        ok = ok & cubics_in_order(records_shapes::strip_column(words, numbers, i, column));
+        ok = ok & cubics_in_order(records_shapes::strip_column(road, i, column));
         column += 1;
     }
     ok
 }
 
-fn strips_in_order(words: &[u16], numbers: &[f64]) -> bool
-    ensures { result ≡ all_below (λ i. strip_in_order (strip_at (lent_road words numbers) i)) 4 }
+fn strips_in_order(road: &LentRoad) -> bool
+    ensures { result ≡ all_below (λ i. strip_in_order (strip_at road.now i)) 4 }
 {
     let mut ok = true;
     let mut i = 0;
     while i < 4 {
-        ok = ok & strip_in_order(words, numbers, i);
+        ok = ok & strip_in_order(road, i);
         i += 1;
     }
     ok
 }
 
-fn first_at_zero(words: &[u16], numbers: &[f64]) -> bool
-    ensures { result ≡ eq (geom_at (lent_road words numbers) 0).s zero64 && eq (section_of (lent_road words numbers) 0).start zero64 }
+fn first_at_zero(road: &LentRoad) -> bool
+    ensures { result ≡ eq (geom_at road.now 0).s zero64 && eq (section_of road.now 0).start zero64 }
 {
-    let g = records_geometry::geom(words, numbers, 0);
-    (g.s == 0.0) & (records_sections::section_start(words, numbers, 0) == 0.0)
+    let g = records_geometry::geom(road, 0);
+    (g.s == 0.0) & (records_sections::section_start(road, 0) == 0.0)
 }
 
 // The flat tables of cubics.
-fn flat_in_order(words: &[u16], numbers: &[f64]) -> bool
-    ensures { result ≡ cubics_in_order (lent_road words numbers).elevations && cubics_in_order (lent_road words numbers).superelevations && cubics_in_order (lent_road words numbers).offsets && cubics_in_order (lent_road words numbers).tshifts }
+fn flat_in_order(road: &LentRoad) -> bool
+    ensures { result ≡ cubics_in_order road.now.elevations && cubics_in_order road.now.superelevations && cubics_in_order road.now.offsets && cubics_in_order road.now.tshifts }
 {
-    let elevations = cubics_in_order(records::elevations(words, numbers));
-    let banks = cubics_in_order(records::superelevations(words, numbers));
-    let offsets = cubics_in_order(records::offsets(words, numbers));
-    let tshifts = cubics_in_order(records::tshifts(words, numbers));
+    let elevations = cubics_in_order(road.elevations());
+    let banks = cubics_in_order(road.superelevations());
+    let offsets = cubics_in_order(road.offsets());
+    let tshifts = cubics_in_order(road.tshifts());
     elevations & banks & offsets & tshifts
 }
 
 // Whether the starts of a road's lists are in the order that row 3 asks for.
-pub fn ordered(words: &[u16], numbers: &[f64]) -> bool
-    ensures { result ≡ ordered (lent_road words numbers) }
+pub fn ordered(road: &LentRoad) -> bool
+    ensures { result ≡ ordered road.now }
 {
-    let first = first_at_zero(words, numbers);
-    let along = first & geoms_in_order(words, numbers) & sections_rise(words, numbers);
-    let flat = flat_in_order(words, numbers);
-    let sections = sections_in_order(words, numbers);
-    let profiles = profiles_apart(words, numbers) & shapes_in_order(words, numbers);
-    let strips = strips_in_order(words, numbers);
-    along & flat & sections & profiles & strips & marks_in_order(words, numbers)
+    let first = first_at_zero(road);
+    let along = first & geoms_in_order(road) & sections_rise(road);
+    let flat = flat_in_order(road);
+    let sections = sections_in_order(road);
+    let profiles = profiles_apart(road) & shapes_in_order(road);
+    let strips = strips_in_order(road);
+    along & flat & sections & profiles & strips & marks_in_order(road)
 }

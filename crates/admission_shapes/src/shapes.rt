@@ -1,11 +1,12 @@
 // Row 4 of profiles and strips.
 ghost use Rattle.std.specs.Prelude.{◌≡◌, ℕ, ◌+◌, length};
 ghost use Rattle.records_lent.specs.Lists.{all_below};
-ghost use Rattle.records.specs.Roads.{lent_road, strip_at, column_of};
+ghost use Rattle.records.specs.Roads.{strip_at, column_of};
 ghost use Rattle.arithmetic_ranges.specs.Ranges.{largest};
 ghost use Rattle.admission_bounds.specs.Bounds.{greatest_bound};
 ghost use Rattle.admission.specs.Limits.{road_cubics_within, profile_limited, terms_bound, strip_limited};
 
+use records::LentRoad;
 use admission_bounds::{cubics_within, greatest_bound};
 use arithmetic_ranges::{LARGEST, in_range};
 
@@ -22,17 +23,17 @@ const FARTHEST_ACROSS: f64 = 88.0;
 const GREATEST_STRIP_HEIGHT: f64 = 40.0;
 
 // ---- profiles and strips
-fn profile_limited(words: &[u16], numbers: &[f64], i: usize) -> bool
-    ensures { result ≡ profile_limited (lent_road words numbers) i }
+fn profile_limited(road: &LentRoad, i: usize) -> bool
+    ensures { result ≡ profile_limited road.now i }
 {
     let start = in_range(
         0.0,
-        records::road_length(words, numbers),
-        records_shapes::profile_start(words, numbers, i),
+        road.length(),
+        records_shapes::profile_start(road, i),
     );
     start
         & cubics_within(
-            records_shapes::shapes(words, numbers, i),
+            records_shapes::shapes(road, i),
             -GREATEST_SHAPE_START,
             GREATEST_SHAPE_START,
             SHAPES_END,
@@ -40,47 +41,47 @@ fn profile_limited(words: &[u16], numbers: &[f64], i: usize) -> bool
         )
 }
 
-pub fn profiles_limited(words: &[u16], numbers: &[f64]) -> bool
-    ensures { result ≡ all_below (profile_limited (lent_road words numbers)) (length (lent_road words numbers).profiles) }
+pub fn profiles_limited(road: &LentRoad) -> bool
+    ensures { result ≡ all_below (profile_limited road.now) (length road.now.profiles) }
 {
-    let n = records_shapes::profile_count(words, numbers);
+    let n = records_shapes::profile_count(road);
     let mut ok = true;
     let mut i = 0;
     while i < n {
-        ok = ok & profile_limited(words, numbers, i);
+        ok = ok & profile_limited(road, i);
         i += 1;
     }
     ok
 }
 
 // The greatest B of a strip's column.
-fn column_bound(words: &[u16], numbers: &[f64], i: usize, column: usize) -> f64
-    ensures { result ≡ greatest_bound (column_of (strip_at (lent_road words numbers) i) column) (lent_road words numbers).length }
+fn column_bound(road: &LentRoad, i: usize, column: usize) -> f64
+    ensures { result ≡ greatest_bound (column_of (strip_at road.now i) column) road.now.length }
 {
     greatest_bound(
-        records_shapes::strip_column(words, numbers, i, column),
-        records::road_length(words, numbers),
+        records_shapes::strip_column(road, i, column),
+        road.length(),
     )
 }
 
 // The four terms at their greatest, by Horner at 88.
-fn terms_bound(words: &[u16], numbers: &[f64], i: usize) -> f64
-    ensures { result ≡ terms_bound (lent_road words numbers) (strip_at (lent_road words numbers) i) }
+fn terms_bound(road: &LentRoad, i: usize) -> f64
+    ensures { result ≡ terms_bound road.now (strip_at road.now i) }
 {
-    let cubic = column_bound(words, numbers, i, 4);
-    let square = column_bound(words, numbers, i, 3);
-    let linear = column_bound(words, numbers, i, 2);
+    let cubic = column_bound(road, i, 4);
+    let square = column_bound(road, i, 3);
+    let linear = column_bound(road, i, 2);
     ((cubic * FARTHEST_ACROSS + square) * FARTHEST_ACROSS + linear) * FARTHEST_ACROSS
-        + column_bound(words, numbers, i, 1)
+        + column_bound(road, i, 1)
 }
 
 // A strip's column: starts on the road, and B at most the limit.
-fn column_within(words: &[u16], numbers: &[f64], i: usize, column: usize, limit: f64) -> bool
-    ensures { result ≡ road_cubics_within (lent_road words numbers) (column_of (strip_at (lent_road words numbers) i) column) limit }
+fn column_within(road: &LentRoad, i: usize, column: usize, limit: f64) -> bool
+    ensures { result ≡ road_cubics_within road.now (column_of (strip_at road.now i) column) limit }
 {
-    let length = records::road_length(words, numbers);
+    let length = road.length();
     cubics_within(
-        records_shapes::strip_column(words, numbers, i, column),
+        records_shapes::strip_column(road, i, column),
         0.0,
         length,
         length,
@@ -88,34 +89,34 @@ fn column_within(words: &[u16], numbers: &[f64], i: usize, column: usize, limit:
     )
 }
 
-fn terms_within(words: &[u16], numbers: &[f64], i: usize) -> bool
-    ensures { result ≡ all_below (λ (term : ℕ). road_cubics_within (lent_road words numbers) (column_of (strip_at (lent_road words numbers) i) (term + 1)) largest) 4 }
+fn terms_within(road: &LentRoad, i: usize) -> bool
+    ensures { result ≡ all_below (λ (term : ℕ). road_cubics_within road.now (column_of (strip_at road.now i) (term + 1)) largest) 4 }
 {
     let mut ok = true;
     let mut term = 0;
     while term < 4 {
-        ok = ok & column_within(words, numbers, i, term + 1, LARGEST);
+        ok = ok & column_within(road, i, term + 1, LARGEST);
         term += 1;
     }
     ok
 }
 
-fn strip_limited(words: &[u16], numbers: &[f64], i: usize) -> bool
-    ensures { result ≡ strip_limited (lent_road words numbers) (strip_at (lent_road words numbers) i) }
+fn strip_limited(road: &LentRoad, i: usize) -> bool
+    ensures { result ≡ strip_limited road.now (strip_at road.now i) }
 {
-    let width = column_within(words, numbers, i, 0, GREATEST_STRIP_WIDTH);
+    let width = column_within(road, i, 0, GREATEST_STRIP_WIDTH);
     width
-        & terms_within(words, numbers, i)
-        & (terms_bound(words, numbers, i) <= GREATEST_STRIP_HEIGHT)
+        & terms_within(road, i)
+        & (terms_bound(road, i) <= GREATEST_STRIP_HEIGHT)
 }
 
-pub fn strips_limited(words: &[u16], numbers: &[f64]) -> bool
-    ensures { result ≡ all_below (λ (i : ℕ). strip_limited (lent_road words numbers) (strip_at (lent_road words numbers) i)) 4 }
+pub fn strips_limited(road: &LentRoad) -> bool
+    ensures { result ≡ all_below (λ (i : ℕ). strip_limited road.now (strip_at road.now i)) 4 }
 {
     let mut ok = true;
     let mut i = 0;
     while i < 4 {
-        ok = ok & strip_limited(words, numbers, i);
+        ok = ok & strip_limited(road, i);
         i += 1;
     }
     ok

@@ -1,17 +1,16 @@
 // A section's borders into a lent list.
 ghost use Rattle.std.specs.Prelude.{◌≡◌, true, false, ◌++◌, ◌+◌, ◌*◌, ◌/◌, ◌≤◌, ◌<◌, leb, length, take, drop};
-ghost use Rattle.records.specs.Roads.{road_of, lent_road};
 ghost use Rattle.lanes_borders.specs.Borders.{sign_of, borders_at, side_lanes, lanes_of, side_list, border_list};
 ghost use Rattle.lanes_border_list.specs.BorderList.{listed_by};
 
+use records::LentRoad;
 use lanes_borders::{base_at, lane_count, lane_width, sign_of};
 use records_lanes::side_line;
 use records_sections::section_start;
 
 // Writes a side's n lanes into the list from a place on, three numbers a lane.
 fn write_side(
-    words: &[u16],
-    numbers: &[f64],
+    road: &LentRoad,
     section: usize,
     s: f64,
     right: bool,
@@ -21,15 +20,15 @@ fn write_side(
     first: usize,
     n: usize,
 )
-    requires n_in_bounds { (first + n * 3 ≤ length list.old) × (n ≤ length (side_lanes (road_of words.now numbers.now) section right)) × (n < 65536) }
+    requires n_in_bounds { (first + n * 3 ≤ length list.old) × (n ≤ length (side_lanes road.now section right)) × (n < 65536) }
     requires sign_value { sign ≡ sign_of right }
-    ensures { list.new ≡ (take first list.old ++ side_list (borders_at (side_lanes (lent_road words numbers) section right) (sign_of right) base s) n) ++ drop (first + n * 3) list.old }
+    ensures { list.new ≡ (take first list.old ++ side_list (borders_at (side_lanes road.now section right) (sign_of right) base s) n) ++ drop (first + n * 3) list.old }
 {
     let line = side_line(words, section, right);
     let mut inner = base;
     let mut k = 0;
     while k < n {
-        let width = lane_width(words, numbers, (line + k) as u32, s, right, inner);
+        let width = lane_width(road, (line + k) as u32, s, right, inner);
         let outer = inner + sign * width;
         let at = first + k * 3;
         list[at] = inner;
@@ -42,23 +41,21 @@ fn write_side(
 
 // Writes the borders of a section's lanes at s, left outward, then right, and leaves the rest of the list.
 fn write_borders(
-    words: &[u16],
-    numbers: &[f64],
+    road: &LentRoad,
     section: usize,
     s: f64,
     list: &mut [f64],
     left: usize,
     right: usize,
 )
-    requires left_value { (left ≡ length (side_lanes (road_of words.now numbers.now) section false)) × (right ≡ length (side_lanes (road_of words.now numbers.now) section true)) }
+    requires left_value { (left ≡ length (side_lanes road.now section false)) × (right ≡ length (side_lanes road.now section true)) }
     requires right_in_bounds { ((left + right) * 3 ≤ length list.old) × (left < 65536) × (right < 65536) }
-    ensures { list.new ≡ border_list (lent_road words numbers) section s ++ drop (length (border_list (lent_road words numbers) section s)) list.old }
+    ensures { list.new ≡ border_list road.now section s ++ drop (length (border_list road.now section s)) list.old }
 {
-    let into = s - section_start(words, numbers, section);
-    let base = base_at(words, numbers, s);
+    let into = s - section_start(road, section);
+    let base = base_at(road, s);
     write_side(
-        words,
-        numbers,
+        road,
         section,
         into,
         false,
@@ -69,8 +66,7 @@ fn write_borders(
         left,
     );
     write_side(
-        words,
-        numbers,
+        road,
         section,
         into,
         true,
@@ -84,21 +80,20 @@ fn write_borders(
 
 // Writes the borders where the list holds three numbers for each lane of the section, and tells whether it does; else it stays as it was.
 pub fn list_borders(
-    words: &[u16],
-    numbers: &[f64],
+    road: &LentRoad,
     section: usize,
     s: f64,
     list: &mut [f64],
 ) -> bool
-    ensures value { result ≡ leb (lanes_of (lent_road words numbers) section) (length list.old / 3) }
-    ensures list_after { list.new ≡ listed_by result (lent_road words numbers) section s list.old }
+    ensures value { result ≡ leb (lanes_of road.now section) (length list.old / 3) }
+    ensures list_after { list.new ≡ listed_by result road.now section s list.old }
 {
-    let left = lane_count(words, numbers, section, false);
-    let right = lane_count(words, numbers, section, true);
+    let left = lane_count(road, section, false);
+    let right = lane_count(road, section, true);
     let n = left + right;
     if list.len() / 3 < n {
         return false;
     }
-    write_borders(words, numbers, section, s, list, left, right);
+    write_borders(road, section, s, list, left, right);
     true
 }

@@ -2,12 +2,12 @@
 ghost use Rattle.std.specs.Prelude.{◌≡◌, ◌<◌, length};
 ghost use Rattle.records_cubic.specs.Cubics.{cubics_of};
 ghost use Rattle.records.specs.Active.{active_in};
-ghost use Rattle.records.specs.Roads.{Lane, lent_road, lane_in, lane_of};
+ghost use Rattle.records.specs.Roads.{Lane, lane_in, lane_of};
 ghost use Rattle.lanes_borders.specs.Borders.{sign_of, border_width, width_of, outer_after, borders_from, base_at, side_lanes, lanes_of, borders_of};
 
 use crate::across::LaneBorders;
 use arithmetic_ranges::not_below_zero;
-use records::{Found, offsets};
+use records::{LentRoad};
 use records_active::{active, value, value_from};
 use records_cubic::cubic_at;
 use records_lanes::{lane_line, line_extent};
@@ -15,29 +15,29 @@ use records_lent::part;
 use records_sections::{left_count, right_count, section_start};
 
 // The t of the center.
-pub fn base_at(words: &[u16], numbers: &[f64], s: f64) -> f64
-    ensures { result ≡ base_at (lent_road words numbers) s }
+pub fn base_at(road: &LentRoad, s: f64) -> f64
+    ensures { result ≡ base_at road.now s }
 {
-    value(offsets(words, numbers), s)
+    value(road.offsets(), s)
 }
 
 // How many lanes a side has.
-pub fn lane_count(words: &[u16], numbers: &[f64], section: usize, right: bool) -> usize
-    ensures value { result ≡ length (side_lanes (lent_road words numbers) section right) }
+pub fn lane_count(road: &LentRoad, section: usize, right: bool) -> usize
+    ensures value { result ≡ length (side_lanes road.now section right) }
     ensures small { result < 65536 }
 {
     if right {
-        right_count(words, numbers, section)
+        right_count(road, section)
     } else {
-        left_count(words, numbers, section)
+        left_count(road, section)
     }
 }
 
 // How many lanes a section has, both sides.
-pub fn section_lanes(words: &[u16], numbers: &[f64], section: usize) -> usize
-    ensures { result ≡ lanes_of (lent_road words numbers) section }
+pub fn section_lanes(road: &LentRoad, section: usize) -> usize
+    ensures { result ≡ lanes_of road.now section }
 {
-    lane_count(words, numbers, section, false) + lane_count(words, numbers, section, true)
+    lane_count(road, section, false) + lane_count(road, section, true)
 }
 
 // Which way a side's lanes stack.
@@ -52,16 +52,16 @@ fn border_width(part: &[f64], sign: f64, inner: f64, s: f64) -> f64
     ensures { (lane : Lane) → cubics_of part.now ≡ lane.extents → result ≡ border_width lane sign inner s (active_in lane.extents s) }
 {
     match active(part, s) {
-        Found::At(i) => {
+        Some(i) => {
             let c = cubic_at(part, i);
             sign * (c.eval(s) - inner)
         }
-        Found::Nothing => 0.0,
+        None => 0.0,
     }
 }
 
 // The width of the lane that a line of the lane table has, s metres into its section: the one way to a width.
-pub fn lane_width(words: &[u16], numbers: &[f64], line: u32, s: f64, right: bool, inner: f64) -> f64
+pub fn lane_width(road: &LentRoad, line: u32, s: f64, right: bool, inner: f64) -> f64
     ensures { result ≡ width_of (lane_in words.now numbers.now line) (sign_of right) inner s }
 {
     let e = line_extent(words, line);
@@ -75,19 +75,18 @@ pub fn lane_width(words: &[u16], numbers: &[f64], line: u32, s: f64, right: bool
 
 // The k-th lane's borders from its inner one, s metres into its section: one step outward, for callers that go over all lanes of a side.
 pub fn next_border(
-    words: &[u16],
-    numbers: &[f64],
+    road: &LentRoad,
     section: usize,
     s: f64,
     right: bool,
     k: usize,
     inner: f64,
 ) -> LaneBorders
-    ensures { result ≡ borders_from (lane_of (lent_road words numbers) section right k) (sign_of right) inner s }
+    ensures { result ≡ borders_from (lane_of road.now section right k) (sign_of right) inner s }
 {
     let width = match lane_line(words, section, right, k) {
-        Found::At(line) => lane_width(words, numbers, line as u32, s, right, inner),
-        Found::Nothing => 0.0,
+        Some(line) => lane_width(road, line as u32, s, right, inner),
+        None => 0.0,
     };
     LaneBorders {
         inner,
@@ -98,20 +97,19 @@ pub fn next_border(
 
 // The outer border after n lanes of a side, s metres into its section.
 fn outer_after(
-    words: &[u16],
-    numbers: &[f64],
+    road: &LentRoad,
     section: usize,
     s: f64,
     right: bool,
     n: usize,
     base: f64,
 ) -> f64
-    ensures { result ≡ outer_after (side_lanes (lent_road words numbers) section right) (sign_of right) base s n }
+    ensures { result ≡ outer_after (side_lanes road.now section right) (sign_of right) base s n }
 {
     let mut t = base;
     let mut k = 0;
     while k < n {
-        let b = next_border(words, numbers, section, s, right, k, t);
+        let b = next_border(road, section, s, right, k, t);
         t = b.outer;
         k += 1;
     }
@@ -120,17 +118,16 @@ fn outer_after(
 
 // The k-th lane's borders at s: where the lane before it ends, and its width from there.
 pub fn lane_borders(
-    words: &[u16],
-    numbers: &[f64],
+    road: &LentRoad,
     section: usize,
     s: f64,
     right: bool,
     k: usize,
 ) -> LaneBorders
-    ensures { result ≡ borders_of (lent_road words numbers) section s right k }
+    ensures { result ≡ borders_of road.now section s right k }
 {
-    let into = s - section_start(words, numbers, section);
-    let base = base_at(words, numbers, s);
-    let inner = outer_after(words, numbers, section, into, right, k, base);
-    next_border(words, numbers, section, into, right, k, inner)
+    let into = s - section_start(road, section);
+    let base = base_at(road, s);
+    let inner = outer_after(road, section, into, right, k, base);
+    next_border(road, section, into, right, k, inner)
 }

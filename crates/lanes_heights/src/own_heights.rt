@@ -4,7 +4,7 @@ ghost use Rattle.records.specs.Roads.{heights_of};
 ghost use Rattle.lanes.specs.Lateral.{height_of, height_between, height_held};
 
 use lanes::Pair;
-use records::{Found, HeightDef};
+use records::HeightDef;
 use records_active::active_height;
 use records_lanes::height_def;
 
@@ -34,7 +34,7 @@ pub fn height_at(part: &[f64], s: f64) -> Pair
 {
     let count = part.len() / 3;
     match active_height(part, s) {
-        Found::At(i) => {
+        Some(i) => {
             let h = height_def(part, i);
             if i + 1 < count {
                 between(h, height_def(part, i + 1), s)
@@ -42,7 +42,7 @@ pub fn height_at(part: &[f64], s: f64) -> Pair
                 held(h)
             }
         }
-        Found::Nothing => {
+        None => {
             if count == 0 {
                 Pair {
                     inner: 0.0,

@@ -1,24 +1,23 @@
 // The lateral profiles: each a shape across the road at its own s, and linear from one to the next.
 ghost use Rattle.std.specs.Prelude.{◌≡◌, ◌<◌};
-ghost use Rattle.records.specs.Roads.{lent_road};
 ghost use Rattle.lanes.specs.Lateral.{profile_height, shape_between, shape_of};
 
-use records::Found;
+use records::LentRoad;
 use records_active::{active, profile_at};
 use records_cubic::cubic_at;
 use records_shapes::{profile_count, profile_start, shapes};
 
 // The i-th profile at t; before its first shape that shape's a.
-fn profile_height(words: &[u16], numbers: &[f64], i: usize, t: f64) -> f64
-    ensures { result ≡ profile_height (lent_road words numbers) i t }
+fn profile_height(road: &LentRoad, i: usize, t: f64) -> f64
+    ensures { result ≡ profile_height road.now i t }
 {
-    let part = shapes(words, numbers, i);
+    let part = shapes(road, i);
     match active(part, t) {
-        Found::At(k) => {
+        Some(k) => {
             let c = cubic_at(part, k);
             c.eval(t)
         }
-        Found::Nothing => {
+        None => {
             let c = cubic_at(part, 0);
             c.a
         }
@@ -26,35 +25,35 @@ fn profile_height(words: &[u16], numbers: &[f64], i: usize, t: f64) -> f64
 }
 
 // Straight from the i-th profile to the next.
-fn shape_between(words: &[u16], numbers: &[f64], i: usize, s: f64, t: f64) -> f64
+fn shape_between(road: &LentRoad, i: usize, s: f64, t: f64) -> f64
     requires { i < 18446744073709551615 }
-    ensures { result ≡ shape_between (lent_road words numbers) i s t }
+    ensures { result ≡ shape_between road.now i s t }
 {
-    let from = profile_start(words, numbers, i);
-    let f = (s - from) / (profile_start(words, numbers, i + 1) - from);
-    let a = profile_height(words, numbers, i, t);
-    let b = profile_height(words, numbers, i + 1, t);
+    let from = profile_start(road, i);
+    let f = (s - from) / (profile_start(road, i + 1) - from);
+    let a = profile_height(road, i, t);
+    let b = profile_height(road, i + 1, t);
     a + (b - a) * f
 }
 
 // The profiles' height at s and t; 0 where there is none.
-pub fn shape_at(words: &[u16], numbers: &[f64], s: f64, t: f64) -> f64
-    ensures { result ≡ shape_of (lent_road words numbers) s t }
+pub fn shape_at(road: &LentRoad, s: f64, t: f64) -> f64
+    ensures { result ≡ shape_of road.now s t }
 {
-    let count = profile_count(words, numbers);
-    match profile_at(words, numbers, s) {
-        Found::At(i) => {
+    let count = profile_count(road);
+    match profile_at(road, s) {
+        Some(i) => {
             if i + 1 < count {
-                shape_between(words, numbers, i, s, t)
+                shape_between(road, i, s, t)
             } else {
-                profile_height(words, numbers, i, t)
+                profile_height(road, i, t)
             }
         }
-        Found::Nothing => {
+        None => {
             if count == 0 {
                 0.0
             } else {
-                profile_height(words, numbers, 0, t)
+                profile_height(road, 0, t)
             }
         }
     }

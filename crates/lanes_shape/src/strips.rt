@@ -2,11 +2,11 @@
 // Strips are addressed by their place: left inner 0, left outer 1, right inner 2, right outer 3.
 ghost use Rattle.std.specs.Prelude.{◌≡◌, ◌+◌, ◌<◌};
 ghost use Rattle.records.specs.Active.{active_in, value_in};
-ghost use Rattle.records.specs.Roads.{lent_road, strip_at, StripDef, present, column_of};
+ghost use Rattle.records.specs.Roads.{strip_at, StripDef, present, column_of};
 ghost use Rattle.lanes.specs.Lateral.{strip_height, past_width, by_width, by_side, is_left, is_present, cross_height};
 
 use arithmetic_ranges::{abs, not_below_zero};
-use records::{Found, StripKind, tshifts};
+use records::{LentRoad, StripKind};
 use records_active::{active, value};
 use records_cubic::cubic_at;
 use records_shapes::{strip, strip_column};
@@ -14,10 +14,10 @@ use records_shapes::{strip, strip_column};
 // Nearer the ridge than this the side is the one that toward points to.
 const RIDGE_MARGIN: f64 = 1e-9;
 
-pub(crate) fn is_present(words: &[u16], numbers: &[f64], i: usize) -> bool
-    ensures { result ≡ is_present (strip_at (lent_road words numbers) i) }
+pub(crate) fn is_present(road: &LentRoad, i: usize) -> bool
+    ensures { result ≡ is_present (strip_at road.now i) }
 {
-    match strip(words, numbers, i) {
+    match strip(road, i) {
         StripKind::Absent => false,
         StripKind::Absolute => true,
         StripKind::Relative => true,
@@ -25,27 +25,26 @@ pub(crate) fn is_present(words: &[u16], numbers: &[f64], i: usize) -> bool
 }
 
 // A column of the i-th strip at s.
-fn column_value(words: &[u16], numbers: &[f64], i: usize, column: usize, s: f64) -> f64
-    ensures { result ≡ value_in (column_of (strip_at (lent_road words numbers) i) column) s }
+fn column_value(road: &LentRoad, i: usize, column: usize, s: f64) -> f64
+    ensures { result ≡ value_in (column_of (strip_at road.now i) column) s }
 {
-    value(strip_column(words, numbers, i, column), s)
+    value(strip_column(road, i, column), s)
 }
 
 // The height of a strip that is there, dt across it.
-fn strip_height(words: &[u16], numbers: &[f64], i: usize, s: f64, dt: f64) -> f64
-    ensures { (d : StripDef) → strip_at (lent_road words numbers) i ≡ present d → result ≡ strip_height d s dt }
+fn strip_height(road: &LentRoad, i: usize, s: f64, dt: f64) -> f64
+    ensures { (d : StripDef) → strip_at road.now i ≡ present d → result ≡ strip_height d s dt }
 {
-    let c3 = column_value(words, numbers, i, 4, s);
-    let c2 = column_value(words, numbers, i, 3, s);
-    let c1 = column_value(words, numbers, i, 2, s);
-    let c0 = column_value(words, numbers, i, 1, s);
+    let c3 = column_value(road, i, 4, s);
+    let c2 = column_value(road, i, 3, s);
+    let c1 = column_value(road, i, 2, s);
+    let c0 = column_value(road, i, 1, s);
     (((0.0 * dt + c3) * dt + c2) * dt + c1) * dt + c0
 }
 
 // The side whose inner strip is there and w wide: past the width the outer strip, if there is one, from the inner one's edge on.
 fn past_width(
-    words: &[u16],
-    numbers: &[f64],
+    road: &LentRoad,
     inner: usize,
     s: f64,
     t: f64,
@@ -53,45 +52,45 @@ fn past_width(
     w: f64,
 ) -> f64
     requires { inner < 4 }
-    ensures { (d : StripDef) → strip_at (lent_road words numbers) inner ≡ present d → result ≡ past_width d (strip_at (lent_road words numbers) (inner + 1)) s t sign w }
+    ensures { (d : StripDef) → strip_at road.now inner ≡ present d → result ≡ past_width d (strip_at road.now (inner + 1)) s t sign w }
 {
     if w < sign * t {
         let edge = sign * w;
-        match strip(words, numbers, inner + 1) {
-            StripKind::Absent => strip_height(words, numbers, inner, s, t),
-            StripKind::Absolute => 0.0 + strip_height(words, numbers, inner + 1, s, t - edge),
+        match strip(road, inner + 1) {
+            StripKind::Absent => strip_height(road, inner, s, t),
+            StripKind::Absolute => 0.0 + strip_height(road, inner + 1, s, t - edge),
             StripKind::Relative => {
-                strip_height(words, numbers, inner, s, edge)
-                    + strip_height(words, numbers, inner + 1, s, t - edge)
+                strip_height(road, inner, s, edge)
+                    + strip_height(road, inner + 1, s, t - edge)
             }
         }
     } else {
-        strip_height(words, numbers, inner, s, t)
+        strip_height(road, inner, s, t)
     }
 }
 
 // The side whose inner strip is there.
-fn by_width(words: &[u16], numbers: &[f64], inner: usize, s: f64, t: f64, sign: f64) -> f64
+fn by_width(road: &LentRoad, inner: usize, s: f64, t: f64, sign: f64) -> f64
     requires { inner < 4 }
-    ensures { (d : StripDef) → strip_at (lent_road words numbers) inner ≡ present d → result ≡ by_width d (strip_at (lent_road words numbers) (inner + 1)) s t sign (active_in d.width s) }
+    ensures { (d : StripDef) → strip_at road.now inner ≡ present d → result ≡ by_width d (strip_at road.now (inner + 1)) s t sign (active_in d.width s) }
 {
-    let widths = strip_column(words, numbers, inner, 0);
+    let widths = strip_column(road, inner, 0);
     match active(widths, s) {
-        Found::At(k) => {
+        Some(k) => {
             let c = cubic_at(widths, k);
-            past_width(words, numbers, inner, s, t, sign, not_below_zero(c.eval(s)))
+            past_width(road, inner, s, t, sign, not_below_zero(c.eval(s)))
         }
-        Found::Nothing => strip_height(words, numbers, inner, s, t),
+        None => strip_height(road, inner, s, t),
     }
 }
 
 // One side of the ridge.
-fn side_height(words: &[u16], numbers: &[f64], inner: usize, s: f64, t: f64, sign: f64) -> f64
+fn side_height(road: &LentRoad, inner: usize, s: f64, t: f64, sign: f64) -> f64
     requires { inner < 4 }
-    ensures { result ≡ by_side (strip_at (lent_road words numbers) inner) (strip_at (lent_road words numbers) (inner + 1)) s t sign }
+    ensures { result ≡ by_side (strip_at road.now inner) (strip_at road.now (inner + 1)) s t sign }
 {
-    if is_present(words, numbers, inner) {
-        by_width(words, numbers, inner, s, t, sign)
+    if is_present(road, inner) {
+        by_width(road, inner, s, t, sign)
     } else {
         0.0
     }
@@ -109,13 +108,13 @@ fn is_left(t: f64, toward: f64) -> bool
 }
 
 // The cross section's height at s and t; 0 on a side with no strip.
-pub fn cross_height(words: &[u16], numbers: &[f64], s: f64, t: f64, toward: f64) -> f64
-    ensures { result ≡ cross_height (lent_road words numbers) s t toward }
+pub fn cross_height(road: &LentRoad, s: f64, t: f64, toward: f64) -> f64
+    ensures { result ≡ cross_height road.now s t toward }
 {
-    let shifted = t - value(tshifts(words, numbers), s);
+    let shifted = t - value(road.tshifts(), s);
     if is_left(shifted, toward) {
-        side_height(words, numbers, 0, s, shifted, 1.0)
+        side_height(road, 0, s, shifted, 1.0)
     } else {
-        side_height(words, numbers, 2, s, shifted, -1.0)
+        side_height(road, 2, s, shifted, -1.0)
     }
 }

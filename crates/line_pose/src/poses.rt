@@ -2,7 +2,7 @@
 ghost use Rattle.std.specs.Prelude.{◌≡◌, ◌<◌, ◌≤◌, cond};
 ghost use Rattle.std.specs.Float.Ieee.{lt};
 ghost use Rattle.float_laws.specs.Binary64.{abs_of};
-ghost use Rattle.records.specs.Roads.{lent_road, straight_curvature};
+ghost use Rattle.records.specs.Roads.{straight_curvature};
 ghost use Rattle.line_pose.specs.Poses.{line_pose, arc_pose, segment, fraction_of, between, spiral_pose, pose_of};
 ghost use Rattle.line_samples.specs.Samples.{sample_at};
 ghost use Rattle.line_pose.specs.Bearings.{bearing_of};
@@ -12,7 +12,7 @@ use crate::leads::leading_at;
 use arithmetic_ranges::{abs, clamp, least, less};
 use arithmetic_sine::sin_cos;
 use line_samples::{Pose, Sample, sample_count, samples_before};
-use records::{GeomRec, GeomShape, STRAIGHT_CURVATURE};
+use records::{GeomRec, GeomShape, LentRoad, STRAIGHT_CURVATURE};
 
 fn line_bearing(g: GeomRec, ds: f64) -> Bearing
     ensures { result ≡ bearing_of (line_pose g ds) }
@@ -108,10 +108,10 @@ fn turned(pose: Pose) -> Bearing
 }
 
 // The pose of the i-th geometry at s, with the lent samples, and the sine and the cosine of its heading.
-pub fn bearing_of(words: &[u16], numbers: &[f64], samples: &[f64], i: usize, s: f64) -> Bearing
-    ensures { result ≡ bearing_of (pose_of (lent_road words numbers) samples.now i s) }
+pub fn bearing_of(road: &LentRoad, samples: &[f64], i: usize, s: f64) -> Bearing
+    ensures { result ≡ bearing_of (pose_of road.now samples.now i s) }
 {
-    let g = records_geometry::geom(words, numbers, i);
+    let g = records_geometry::geom(road, i);
     let ds = s - g.s;
     let shape = g.shape;
     match shape {
@@ -119,7 +119,7 @@ pub fn bearing_of(words: &[u16], numbers: &[f64], samples: &[f64], i: usize, s: 
         GeomShape::Arc(k) => arc_or_line(g, k, ds),
         GeomShape::Spiral(_, _) => turned(spiral_pose(
             samples,
-            samples_before(words, numbers, i),
+            samples_before(road, i),
             sample_count(g),
             ds,
         )),
@@ -127,9 +127,9 @@ pub fn bearing_of(words: &[u16], numbers: &[f64], samples: &[f64], i: usize, s: 
 }
 
 // The pose alone.
-pub fn pose(words: &[u16], numbers: &[f64], samples: &[f64], i: usize, s: f64) -> Pose
-    ensures { result ≡ pose_of (lent_road words numbers) samples.now i s }
+pub fn pose(road: &LentRoad, samples: &[f64], i: usize, s: f64) -> Pose
+    ensures { result ≡ pose_of road.now samples.now i s }
 {
-    let b = bearing_of(words, numbers, samples, i, s);
+    let b = bearing_of(road, samples, i, s);
     b.pose
 }

@@ -1,13 +1,12 @@
 // A spiral has no elementary form, so it is baked to samples by the midpoint rule: its start, then one a step of 0.25 m, the last shorter.
 ghost use Rattle.std.specs.Prelude.{◌≡◌, ◌<◌, ◌≤◌, T, leb};
 ghost use Rattle.std.specs.Float.Ieee.{le};
-ghost use Rattle.records.specs.Roads.{lent_road};
 ghost use Rattle.line_samples.specs.Quarters.{least_estimated, greatest_estimated, QuartersBelow};
 ghost use Rattle.line_samples.specs.Samples.{most_samples, most_steps, step_at, spiral_steps, sample_count, samples_before, samples_needed, first_sample, next_sample, turn_rate, heading_at};
 
 use crate::points::Sample;
 use arithmetic_ranges::least;
-use records::{GeomRec, GeomShape};
+use records::{GeomRec, GeomShape, LentRoad};
 
 // All steps are as long but the last.
 const WHOLE_STEP: f64 = 0.25;
@@ -91,38 +90,38 @@ pub fn sample_count(g: GeomRec) -> usize
 }
 
 // How many samples the geometries before the i-th have, where the first of its own stands.
-pub fn samples_before(words: &[u16], numbers: &[f64], i: usize) -> usize
-    ensures value { result ≡ samples_before (lent_road words numbers) i }
+pub fn samples_before(road: &LentRoad, i: usize) -> usize
+    ensures value { result ≡ samples_before road.now i }
     ensures small { result < 268435456 }
 {
-    let n = least(i, records::geom_count(words, numbers));
+    let n = least(i, road.geom_count());
     let mut sum = 0;
     let mut k = 0;
     while k < n {
-        sum += sample_count(records_geometry::geom(words, numbers, k));
+        sum += sample_count(records_geometry::geom(road, k));
         k += 1;
     }
     sum
 }
 
 // How many samples a road needs.
-pub fn samples_needed(words: &[u16], numbers: &[f64]) -> usize
-    ensures value { result ≡ samples_needed (lent_road words numbers) }
+pub fn samples_needed(road: &LentRoad) -> usize
+    ensures value { result ≡ samples_needed road.now }
     ensures small { result < 268435456 }
 {
-    let all = records::geom_count(words, numbers);
-    samples_before(words, numbers, all)
+    let all = road.geom_count();
+    samples_before(road, all)
 }
 
 // Whether a road needs at most 2,000 samples. It stops counting at the first geometry that passes this.
-pub fn samples_fit(words: &[u16], numbers: &[f64]) -> bool
-    ensures { result ≡ leb (samples_needed (lent_road words numbers)) most_samples }
+pub fn samples_fit(road: &LentRoad) -> bool
+    ensures { result ≡ leb (samples_needed road.now) most_samples }
 {
-    let n = records::geom_count(words, numbers);
+    let n = road.geom_count();
     let mut needed = 0;
     let mut i = 0;
     while i < n {
-        needed += sample_count(records_geometry::geom(words, numbers, i));
+        needed += sample_count(records_geometry::geom(road, i));
         if MOST_SAMPLES < needed {
             return false;
         }

@@ -1,11 +1,13 @@
 // A road in two lent slices: its layout, the nested lists that it stands for, and its lists of cubics.
 #![tactic(auto)]
 
+mod heights;
 pub mod layout;
 mod points;
 mod road;
 
+pub use heights::Heights;
 pub use points::{
-    Found, GeomRec, GeomShape, HeightDef, Mark, Point, RefPoint, STRAIGHT_CURVATURE, StripKind,
+    GeomRec, GeomShape, HeightDef, LanePlace, Mark, Point, RefPoint, STRAIGHT_CURVATURE, StripKind,
 };
-pub use road::{elevations, geom_count, offsets, road_length, superelevations, tshifts};
+pub use road::LentRoad;

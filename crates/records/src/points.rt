@@ -69,8 +69,10 @@ pub enum StripKind {
     Relative,
 }
 
+// A lane by its section, its side (right of the center or left) and its place there, from the center outward.
 #[derive(Clone, Copy)]
-pub enum Found {
-    At(usize),
-    Nothing,
+pub struct LanePlace {
+    pub section: usize,
+    pub right: bool,
+    pub k: usize,
 }

@@ -1,65 +1,81 @@
 // A road in two lent slices: words has the counts, codes and ranges, numbers the f64 columns. Where each stands is said in layout.rt,
 // for the proofs in specs/Layout.antt, and in docs/MEMORY.md for whoever lends a road. Nothing here trusts the slices: what is not there is empty, NaN or 0.
-ghost use Rattle.std.specs.Prelude.{◌≡◌, length};
-ghost use Rattle.records_cubic.specs.Cubics.{cubics_of};
-ghost use Rattle.records.specs.Roads.{lent_road};
+ghost use Rattle.std.specs.Prelude.{◌≡◌, ◌*◌, get_or, length};
+ghost use Rattle.records.specs.Roads.{cubics_in, road_of};
 
 use crate::layout::{
     BANK_BASE, BANK_COUNT_AT, CUBIC_STRIDE, ELEV_BASE, ELEV_COUNT_AT, GEOM_COUNT_AT, LENGTH_PLACE,
     OFFSET_BASE, OFFSET_COUNT_AT, TSHIFT_BASE, TSHIFT_COUNT_AT,
 };
+use records_cubic::Cubics;
 use records_lent::{number, part, word};
+use std::marker::Model;
 
-// ---- the road and its flat tables
-pub fn road_length(words: &[u16], numbers: &[f64]) -> f64
-    ensures { result ≡ (lent_road words numbers).length }
-{
-    number(numbers, LENGTH_PLACE)
+// A contract sees the road that the slices stand for.
+pub struct LentRoad<'a> {
+    pub words: &'a [u16],
+    pub numbers: &'a [f64],
 }
 
-pub fn elevations<'a>(words: &[u16], numbers: &'a [f64]) -> &'a [f64]
-    ensures { cubics_of result.now ≡ (lent_road words numbers).elevations }
-{
-    part(
-        numbers,
-        ELEV_BASE,
-        word(words, ELEV_COUNT_AT) * CUBIC_STRIDE,
-    )
+impl<'a> Model for LentRoad<'a> {
+    ghost use Rattle.records.specs.Roads.{Road, road_of};
+
+    ghost Value = { Road };
+
+    ghost view = { λ lent. road_of lent.words.now lent.numbers.now };
 }
 
-pub fn superelevations<'a>(words: &[u16], numbers: &'a [f64]) -> &'a [f64]
-    ensures { cubics_of result.now ≡ (lent_road words numbers).superelevations }
+// A flat table of cubics, from its base on.
+fn flat<'a>(words: &[u16], numbers: &'a [f64], base: usize, count_at: usize) -> Cubics<'a>
+    requires { base < 65536 }
+    ensures { result ≡ cubics_in words.now numbers.now base 0 (get_or words.now count_at 0) }
 {
-    part(
-        numbers,
-        BANK_BASE,
-        word(words, BANK_COUNT_AT) * CUBIC_STRIDE,
-    )
+    Cubics {
+        numbers: part(numbers, base, word(words, count_at) * CUBIC_STRIDE),
+    }
 }
 
-pub fn offsets<'a>(words: &[u16], numbers: &'a [f64]) -> &'a [f64]
-    ensures { cubics_of result.now ≡ (lent_road words numbers).offsets }
-{
-    part(
-        numbers,
-        OFFSET_BASE,
-        word(words, OFFSET_COUNT_AT) * CUBIC_STRIDE,
-    )
-}
+impl<'a> LentRoad<'a> {
+    pub fn new(words: &'a [u16], numbers: &'a [f64]) -> LentRoad<'a>
+        ensures { result ≡ road_of words.now numbers.now }
+    {
+        LentRoad { words, numbers }
+    }
 
-pub fn tshifts<'a>(words: &[u16], numbers: &'a [f64]) -> &'a [f64]
-    ensures { cubics_of result.now ≡ (lent_road words numbers).tshifts }
-{
-    part(
-        numbers,
-        TSHIFT_BASE,
-        word(words, TSHIFT_COUNT_AT) * CUBIC_STRIDE,
-    )
-}
+    pub fn length(&self) -> f64
+        ensures { result ≡ self.now.length }
+    {
+        number(self.numbers, LENGTH_PLACE)
+    }
 
-// ---- geometries
-pub fn geom_count(words: &[u16], numbers: &[f64]) -> usize
-    ensures { result ≡ length (lent_road words numbers).geoms }
-{
-    word(words, GEOM_COUNT_AT)
+    pub fn geom_count(&self) -> usize
+        ensures { result ≡ length self.now.geoms }
+    {
+        word(self.words, GEOM_COUNT_AT)
+    }
+
+    // ---- the flat tables
+    pub fn elevations(&self) -> Cubics<'a>
+        ensures { result ≡ self.now.elevations }
+    {
+        flat(self.words, self.numbers, ELEV_BASE, ELEV_COUNT_AT)
+    }
+
+    pub fn superelevations(&self) -> Cubics<'a>
+        ensures { result ≡ self.now.superelevations }
+    {
+        flat(self.words, self.numbers, BANK_BASE, BANK_COUNT_AT)
+    }
+
+    pub fn offsets(&self) -> Cubics<'a>
+        ensures { result ≡ self.now.offsets }
+    {
+        flat(self.words, self.numbers, OFFSET_BASE, OFFSET_COUNT_AT)
+    }
+
+    pub fn tshifts(&self) -> Cubics<'a>
+        ensures { result ≡ self.now.tshifts }
+    {
+        flat(self.words, self.numbers, TSHIFT_BASE, TSHIFT_COUNT_AT)
+    }
 }

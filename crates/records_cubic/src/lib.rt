@@ -3,4 +3,4 @@
 
 mod cubics;
 
-pub use cubics::{Cubic, cubic_at};
+pub use cubics::{Cubic, Cubics};

@@ -1,9 +1,9 @@
 // A geometry by value, and whether the columns that its kind does not use are zero.
 ghost use Rattle.std.specs.Prelude.{◌≡◌, true, cond, ◌&&◌, eqb};
-ghost use Rattle.records.specs.Roads.{lent_road, geom_at, geom_shape_of, geom_from, unused_zero};
+ghost use Rattle.records.specs.Roads.{geom_at, geom_shape_of, geom_from, unused_zero};
 
 use records::layout::{GEOM_BASE, GEOM_COUNT_AT, GEOM_STRIDE, KIND_WORDS};
-use records::{GeomRec, GeomShape};
+use records::{GeomRec, GeomShape, LentRoad};
 use records_lent::{number, part, word};
 
 // The columns k0 and k1, the sixth and the seventh of a geometry's numbers.
@@ -37,27 +37,27 @@ fn geom_from(part: &[f64], kind: usize) -> GeomRec
 }
 
 // The i-th geometry; a line of NaNs where there is none.
-pub fn geom(words: &[u16], numbers: &[f64], i: usize) -> GeomRec
-    ensures { result ≡ geom_at (lent_road words numbers) i }
+pub fn geom(road: &LentRoad, i: usize) -> GeomRec
+    ensures { result ≡ geom_at road.now i }
 {
-    if i < word(words, GEOM_COUNT_AT) {
+    if i < word(road.words, GEOM_COUNT_AT) {
         geom_from(
-            part(numbers, GEOM_BASE + i * GEOM_STRIDE, GEOM_STRIDE),
-            word(words, KIND_WORDS + i),
+            part(road.numbers, GEOM_BASE + i * GEOM_STRIDE, GEOM_STRIDE),
+            word(road.words, KIND_WORDS + i),
         )
     } else {
-        geom_from(part(numbers, 0, 0), 0)
+        geom_from(part(road.numbers, 0, 0), 0)
     }
 }
 
 // Whether the curvature columns that the i-th geometry's kind does not use are zero.
-pub fn unused_zero(words: &[u16], numbers: &[f64], i: usize) -> bool
-    ensures { result ≡ unused_zero (lent_road words numbers) i }
+pub fn unused_zero(road: &LentRoad, i: usize) -> bool
+    ensures { result ≡ unused_zero road.now i }
 {
-    if i < word(words, GEOM_COUNT_AT) {
-        let kind = word(words, KIND_WORDS + i);
-        let k0 = number(numbers, K0_BASE + i * GEOM_STRIDE) == 0.0;
-        let k1 = number(numbers, K1_BASE + i * GEOM_STRIDE) == 0.0;
+    if i < word(road.words, GEOM_COUNT_AT) {
+        let kind = word(road.words, KIND_WORDS + i);
+        let k0 = number(road.numbers, K0_BASE + i * GEOM_STRIDE) == 0.0;
+        let k1 = number(road.numbers, K1_BASE + i * GEOM_STRIDE) == 0.0;
         unused_of(kind, k0, k1)
     } else {
         true

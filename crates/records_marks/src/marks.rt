@@ -1,23 +1,23 @@
 // The mark spans of a road's sections: what is painted where along a lane.
 ghost use Rattle.std.specs.Prelude.{◌≡◌, ◌<◌, length};
-ghost use Rattle.records.specs.Roads.{lent_road, section_of, mark_in, no_mark, mark_at};
+ghost use Rattle.records.specs.Roads.{section_of, mark_in, no_mark, mark_at};
 ghost use Rattle.records_marks.specs.Covers.{covers, paints, covered};
 
-use records::Mark;
 use records::layout::{
     MARK_STRIDE, MARK_WORDS, SECTION_COUNT_AT, SECTION_MARK_STRIDE, SECTION_MARK_WORDS, SPAN_BASE,
     SPAN_STRIDE,
 };
+use records::{LentRoad, Mark};
 use records_lent::{number, word};
 
 // How many marks each section has stands beside its first mark.
 const MARK_COUNT_WORDS: usize = SECTION_MARK_WORDS + 1;
 
-pub fn mark_count(words: &[u16], numbers: &[f64], section: usize) -> usize
-    ensures { result ≡ length (section_of (lent_road words numbers) section).marks }
+pub fn mark_count(road: &LentRoad, section: usize) -> usize
+    ensures { result ≡ length (section_of road.now section).marks }
 {
-    if section < word(words, SECTION_COUNT_AT) {
-        word(words, MARK_COUNT_WORDS + section * SECTION_MARK_STRIDE)
+    if section < word(road.words, SECTION_COUNT_AT) {
+        word(road.words, MARK_COUNT_WORDS + section * SECTION_MARK_STRIDE)
     } else {
         0
     }
@@ -44,19 +44,23 @@ fn no_mark() -> Mark
     Mark {
         lane: 0,
         kind: 0,
-        start: 0.0 / 0.0,
-        end: 0.0 / 0.0,
+        start: f64::NAN,
+        end: f64::NAN,
     }
 }
 
 // The j-th mark of a section; one of no kind, whose span is NaN, where there is none.
-pub fn mark(words: &[u16], numbers: &[f64], section: usize, j: usize) -> Mark
-    ensures { result ≡ mark_at (lent_road words numbers) section j }
+pub fn mark(road: &LentRoad, section: usize, j: usize) -> Mark
+    ensures { result ≡ mark_at road.now section j }
 {
-    if section < word(words, SECTION_COUNT_AT) {
+    if section < word(road.words, SECTION_COUNT_AT) {
         let i = section * SECTION_MARK_STRIDE;
-        if j < word(words, MARK_COUNT_WORDS + i) {
-            mark_in(words, numbers, word(words, SECTION_MARK_WORDS + i) + j)
+        if j < word(road.words, MARK_COUNT_WORDS + i) {
+            mark_in(
+                road.words,
+                road.numbers,
+                word(road.words, SECTION_MARK_WORDS + i) + j,
+            )
         } else {
             no_mark()
         }
@@ -80,23 +84,10 @@ fn paints(mark: Mark, lane: usize, kind: usize, d: f64) -> bool
 }
 
 // Whether a span of a kind covers a lane of a section at s; the lane by its place in the section, left ones outward, then right ones.
-pub fn covered(
-    words: &[u16],
-    numbers: &[f64],
-    section: usize,
-    lane: usize,
-    kind: usize,
-    s: f64,
-) -> bool
-    ensures { result ≡ covered (lent_road words numbers) section lane kind s }
+pub fn covered(road: &LentRoad, section: usize, lane: usize, kind: usize, s: f64) -> bool
+    ensures { result ≡ covered road.now section lane kind s }
 {
-    let n = mark_count(words, numbers, section);
-    let d = s - records_sections::section_start(words, numbers, section);
-    let mut found = false;
-    let mut j = 0;
-    while j < n {
-        found = found | paints(mark(words, numbers, section, j), lane, kind, d);
-        j += 1;
-    }
-    found
+    let n = mark_count(road, section);
+    let d = s - records_sections::section_start(road, section);
+    (0..n).any(|j| paints(mark(road, section, j), lane, kind, d))
 }

@@ -3,4 +3,4 @@
 
 mod sections;
 
-pub use sections::{left_count, right_count, section_count, section_start};
+pub use sections::{lane_count, section_count, section_start};

@@ -1,43 +1,36 @@
 // The sections of a road: starts, and lanes on either side.
-ghost use Rattle.std.specs.Prelude.{◌≡◌, length};
-ghost use Rattle.records.specs.Roads.{lent_road, section_of};
+ghost use Rattle.std.specs.Prelude.{◌≡◌, ◌<◌, cond, length};
+ghost use Rattle.records.specs.Roads.{section_of};
 
+use records::LentRoad;
 use records::layout::{LEFT_WORDS, RIGHT_WORDS, SECTION_BASE, SECTION_COUNT_AT, SECTION_STRIDE};
 use records_lent::{number, word};
 
-// ---- sections and lanes. A side is left or right of the center; lanes count from the center outward
-pub fn section_count(words: &[u16], numbers: &[f64]) -> usize
-    ensures { result ≡ length (lent_road words numbers).sections }
+pub fn section_count(road: &LentRoad) -> usize
+    ensures { result ≡ length road.now.sections }
 {
-    word(words, SECTION_COUNT_AT)
+    word(road.words, SECTION_COUNT_AT)
 }
 
 // Where the i-th section starts, NaN where there is none.
-pub fn section_start(words: &[u16], numbers: &[f64], i: usize) -> f64
-    ensures { result ≡ (section_of (lent_road words numbers) i).start }
+pub fn section_start(road: &LentRoad, i: usize) -> f64
+    ensures { result ≡ (section_of road.now i).start }
 {
-    if i < word(words, SECTION_COUNT_AT) {
-        number(numbers, SECTION_BASE + i)
+    if i < word(road.words, SECTION_COUNT_AT) {
+        number(road.numbers, SECTION_BASE + i)
     } else {
-        0.0 / 0.0
+        f64::NAN
     }
 }
 
-pub fn left_count(words: &[u16], numbers: &[f64], section: usize) -> usize
-    ensures { result ≡ length (section_of (lent_road words numbers) section).left }
+// How many lanes a section has right of the center, or left of it.
+pub fn lane_count(road: &LentRoad, section: usize, right: bool) -> usize
+    ensures value { result ≡ length (cond right (section_of road.now section).right (section_of road.now section).left) }
+    ensures small { result < 65536 }
 {
-    if section < word(words, SECTION_COUNT_AT) {
-        word(words, LEFT_WORDS + section * SECTION_STRIDE)
-    } else {
-        0
-    }
-}
-
-pub fn right_count(words: &[u16], numbers: &[f64], section: usize) -> usize
-    ensures { result ≡ length (section_of (lent_road words numbers) section).right }
-{
-    if section < word(words, SECTION_COUNT_AT) {
-        word(words, RIGHT_WORDS + section * SECTION_STRIDE)
+    if section < word(road.words, SECTION_COUNT_AT) {
+        let first = if right { RIGHT_WORDS } else { LEFT_WORDS };
+        word(road.words, first + section * SECTION_STRIDE)
     } else {
         0
     }

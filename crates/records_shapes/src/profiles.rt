@@ -1,46 +1,59 @@
 // Profiles with their shapes, and the strips of a cross section.
-ghost use Rattle.std.specs.Prelude.{◌≡◌, cond, length, eqb};
+ghost use Rattle.std.specs.Prelude.{◌≡◌, ◌+◌, ◌<◌, [], cond, get_or, length, eqb};
 ghost use Rattle.records.specs.declared.points.StripKind.TheVariants.{Absent, Absolute, Relative};
-ghost use Rattle.records_cubic.specs.Cubics.{cubics_of};
-ghost use Rattle.records.specs.Roads.{lent_road, profile_at, strip_at, strip_kind_of, column_of};
+ghost use Rattle.records.specs.Roads.{cubics_in, profile_at, strip_at, strip_kind_of, column_of};
 
-use records::StripKind;
 use records::layout::{
     CUBIC_BASE, CUBIC_STRIDE, PROFILE_BASE, PROFILE_COUNT_AT, PROFILE_STRIDE, PROFILE_WORDS,
     SHAPE_BASE, STRIP_STRIDE, STRIP_WORDS,
 };
+use records::{LentRoad, StripKind};
+use records_cubic::Cubics;
 use records_lent::{number, part, word};
 
 // ---- profiles and strips
-pub fn profile_count(words: &[u16], numbers: &[f64]) -> usize
-    ensures { result ≡ length (lent_road words numbers).profiles }
+pub fn profile_count(road: &LentRoad) -> usize
+    ensures { result ≡ length road.now.profiles }
 {
-    word(words, PROFILE_COUNT_AT)
+    word(road.words, PROFILE_COUNT_AT)
 }
 
 // Where the i-th profile stands, NaN where there is none.
-pub fn profile_start(words: &[u16], numbers: &[f64], i: usize) -> f64
-    ensures { result ≡ (profile_at (lent_road words numbers) i).s }
+pub fn profile_start(road: &LentRoad, i: usize) -> f64
+    ensures { result ≡ (profile_at road.now i).s }
 {
-    if i < word(words, PROFILE_COUNT_AT) {
-        number(numbers, PROFILE_BASE + i)
+    if i < word(road.words, PROFILE_COUNT_AT) {
+        number(road.numbers, PROFILE_BASE + i)
     } else {
-        0.0 / 0.0
+        f64::NAN
     }
 }
 
-pub fn shapes<'a>(words: &[u16], numbers: &'a [f64], i: usize) -> &'a [f64]
-    ensures { cubics_of result.now ≡ (profile_at (lent_road words numbers) i).shapes }
+// The cubics of a table whose base is given: from the first on as many as the two words at a place say.
+fn cubics_at<'a>(words: &[u16], numbers: &'a [f64], base: usize, at: usize) -> Cubics<'a>
+    requires { (base < 65536) × (at < 65536) }
+    ensures { result ≡ cubics_in words.now numbers.now base (get_or words.now at 0) (get_or words.now (at + 1) 0) }
 {
-    if i < word(words, PROFILE_COUNT_AT) {
+    let first = base + word(words, at) * CUBIC_STRIDE;
+    Cubics {
+        numbers: part(numbers, first, word(words, at + 1) * CUBIC_STRIDE),
+    }
+}
+
+fn no_cubics<'a>() -> Cubics<'a>
+    ensures { result ≡ [] }
+{
+    Cubics { numbers: &[] }
+}
+
+pub fn shapes<'a>(road: &LentRoad<'a>, i: usize) -> Cubics<'a>
+    ensures { result ≡ (profile_at road.now i).shapes }
+{
+    if i < word(road.words, PROFILE_COUNT_AT) {
         let at = PROFILE_WORDS + i * PROFILE_STRIDE;
-        part(
-            numbers,
-            SHAPE_BASE + word(words, at) * CUBIC_STRIDE,
-            word(words, at + 1) * CUBIC_STRIDE,
-        )
+        cubics_at(road.words, road.numbers, SHAPE_BASE, at)
     } else {
-        part(numbers, 0, 0)
+        no_cubics()
     }
 }
 
@@ -55,34 +68,26 @@ fn kind_of(code: usize) -> StripKind
 }
 
 // Whether the i-th strip (left inner, left outer, right inner, right outer) is there, and stands on the inner one's edge.
-pub fn strip(words: &[u16], numbers: &[f64], i: usize) -> StripKind
-    ensures { result ≡ strip_kind_of (strip_at (lent_road words numbers) i) }
+pub fn strip(road: &LentRoad, i: usize) -> StripKind
+    ensures { result ≡ strip_kind_of (strip_at road.now i) }
 {
     if i < 4 {
-        kind_of(word(words, STRIP_WORDS + i * STRIP_STRIDE))
+        kind_of(word(road.words, STRIP_WORDS + i * STRIP_STRIDE))
     } else {
         StripKind::Absent
     }
 }
 
 // The cubics of a strip's width (column 0) or of its term (column term + 1); none of a strip that is not there.
-pub fn strip_column<'a>(words: &[u16], numbers: &'a [f64], i: usize, column: usize) -> &'a [f64]
-    ensures { cubics_of result.now ≡ column_of (strip_at (lent_road words numbers) i) column }
+pub fn strip_column<'a>(road: &LentRoad<'a>, i: usize, column: usize) -> Cubics<'a>
+    ensures { result ≡ column_of (strip_at road.now i) column }
 {
-    if 4 <= i {
-        return part(numbers, 0, 0);
-    }
-    if 5 <= column {
-        return part(numbers, 0, 0);
+    if 4 <= i || 5 <= column {
+        return no_cubics();
     }
     let at = STRIP_WORDS + i * STRIP_STRIDE;
-    if word(words, at) == 0 {
-        return part(numbers, 0, 0);
+    if word(road.words, at) == 0 {
+        return no_cubics();
     }
-    let k = at + 1 + column * 2;
-    part(
-        numbers,
-        CUBIC_BASE + word(words, k) * CUBIC_STRIDE,
-        word(words, k + 1) * CUBIC_STRIDE,
-    )
+    cubics_at(road.words, road.numbers, CUBIC_BASE, at + 1 + column * 2)
 }

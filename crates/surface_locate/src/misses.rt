@@ -1,12 +1,12 @@
 // By how much the surface at a place misses the target.
 ghost use Rattle.std.specs.Prelude.{◌≡◌, true};
 ghost use Rattle.std.specs.Float.Ieee.{lt};
-ghost use Rattle.records.specs.Roads.{lent_road};
 ghost use Rattle.surface_points.specs.Plan.{plan_on};
 ghost use Rattle.arithmetic_distance.specs.Brackets.{brackets};
 ghost use Rattle.surface_locate.specs.Meeting.{meeting};
 ghost use Rattle.surface_locate.specs.Locating.{tolerance, miss_on, miss_at, size_of, rate_of};
 
+use records::LentRoad;
 use crate::points::{Place, Vector};
 use surface_points::{Footing, footing_at, plan_on};
 
@@ -18,15 +18,14 @@ const MEETING: f64 = 0.0000009;
 
 // At t of a station.
 pub(crate) fn miss_on(
-    words: &[u16],
-    numbers: &[f64],
+    road: &LentRoad,
     here: Footing,
     target: Vector,
     t: f64,
 ) -> Vector
-    ensures { result ≡ miss_on target (plan_on (lent_road words numbers) here t) }
+    ensures { result ≡ miss_on target (plan_on road.now here t) }
 {
-    let p = plan_on(words, numbers, here, t);
+    let p = plan_on(road, here, t);
     Vector {
         x: p.x - target.x,
         y: p.y - target.y,
@@ -34,16 +33,15 @@ pub(crate) fn miss_on(
 }
 
 pub(crate) fn miss(
-    words: &[u16],
-    numbers: &[f64],
+    road: &LentRoad,
     samples: &[f64],
     target: Vector,
     at: Place,
 ) -> Vector
-    ensures { result ≡ miss_at (lent_road words numbers) samples.now target at }
+    ensures { result ≡ miss_at road.now samples.now target at }
 {
-    let here = footing_at(words, numbers, samples, at.s);
-    miss_on(words, numbers, here, target, at.t)
+    let here = footing_at(road, samples, at.s);
+    miss_on(road, here, target, at.t)
 }
 
 // Whether the size of r is under a bound. Its root is worked out only where the sum of the squares lies between the two brackets of the bound's square.

@@ -1,10 +1,10 @@
 // One move by Newton's rule, with the rates measured over a step of 0.0001 m along the road and across it.
 ghost use Rattle.std.specs.Prelude.{◌≡◌, false};
 ghost use Rattle.std.specs.Float.Ieee.{lt};
-ghost use Rattle.records.specs.Roads.{road_of, lent_road};
 ghost use Rattle.surface_points.specs.Plan.{footing_of};
 ghost use Rattle.surface_locate.specs.Locating.{tolerance, miss_at, size_of, ahead_of, newton_move, move_at};
 
+use records::LentRoad;
 use crate::misses::{TOLERANCE, miss, miss_on, rate};
 use crate::points::{Move, Place, Vector};
 use arithmetic_ranges::{abs, clamp};
@@ -49,26 +49,25 @@ fn newton(length: f64, at: Place, r: Vector, along: Vector, across: Vector) -> M
 
 // The move from a place whose miss r isn't small; here is its station.
 pub(crate) fn move_from(
-    words: &[u16],
-    numbers: &[f64],
+    road: &LentRoad,
     samples: &[f64],
     target: Vector,
     here: Footing,
     at: Place,
     r: Vector,
 ) -> Move
-    requires { (here ≡ footing_of (road_of words.now numbers.now) samples.now at.s) × (r ≡ miss_at (road_of words.now numbers.now) samples.now target at) × (lt (size_of r) tolerance ≡ false) }
-    ensures { result ≡ move_at (lent_road words numbers) samples.now target at }
+    requires { (here ≡ footing_of road.now samples.now at.s) × (r ≡ miss_at road.now samples.now target at) × (lt (size_of r) tolerance ≡ false) }
+    ensures { result ≡ move_at road.now samples.now target at }
 {
-    let length = records::road_length(words, numbers);
+    let length = road.length();
     let h = ahead(length, at.s);
     let on = Place {
         s: at.s + h,
         t: at.t,
     };
-    let along = rate(miss(words, numbers, samples, target, on), r, h);
+    let along = rate(miss(road, samples, target, on), r, h);
     let across = rate(
-        miss_on(words, numbers, here, target, at.t + STRIDE),
+        miss_on(road, here, target, at.t + STRIDE),
         r,
         STRIDE,
     );

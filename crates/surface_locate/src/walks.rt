@@ -1,13 +1,13 @@
 // The moves, at most 24, and the answer. A station is worked out once: the first serves the first t and the first move, and the miss at the end the mark.
 ghost use Rattle.std.specs.Prelude.{◌≡◌, ◌&&◌};
 ghost use Rattle.std.specs.Float.Ieee.{lt};
-ghost use Rattle.records.specs.Roads.{road_of, lent_road};
 ghost use Rattle.admission.specs.Limits.{on_road};
 ghost use Rattle.admission_arguments.specs.Arguments.{across_road};
 ghost use Rattle.surface_points.specs.Plan.{footing_of};
 ghost use Rattle.surface_locate.specs.Meeting.{meeting};
 ghost use Rattle.surface_locate.specs.Locating.{most_moves, miss_at, size_of, walk_from, locate_of};
 
+use records::LentRoad;
 use crate::misses::{miss, miss_on, near, small};
 use crate::moves::move_from;
 use crate::points::{Move, Place, Position, Vector, Walk};
@@ -26,40 +26,39 @@ struct Arrival {
 
 // The moves from a place, until one is none or the last; first is that place's station.
 fn walk(
-    words: &[u16],
-    numbers: &[f64],
+    road: &LentRoad,
     samples: &[f64],
     target: Vector,
     from: Place,
     first: Footing,
 ) -> Arrival
-    requires { first ≡ footing_of (road_of words.now numbers.now) samples.now from.s }
-    ensures walk_value { result.walk ≡ walk_from (lent_road words numbers) samples.now target most_moves from 0 }
-    ensures seen { result.miss ≡ miss_at (lent_road words numbers) samples.now target result.walk.place }
+    requires { first ≡ footing_of road.now samples.now from.s }
+    ensures walk_value { result.walk ≡ walk_from road.now samples.now target most_moves from 0 }
+    ensures seen { result.miss ≡ miss_at road.now samples.now target result.walk.place }
 {
     let mut at = from;
     let mut here = first;
     let mut moves: u32 = 0;
     while moves < MOST_MOVES {
-        let r = miss_on(words, numbers, here, target, at.t);
+        let r = miss_on(road, here, target, at.t);
         if small(r) {
             return arrived(at, moves, r);
         }
-        match move_from(words, numbers, samples, target, here, at, r) {
+        match move_from(road, samples, target, here, at, r) {
             Move::Stay => {
                 return arrived(at, moves, r);
             }
             Move::Last(p) => {
-                return arrived(p, moves + 1, miss(words, numbers, samples, target, p));
+                return arrived(p, moves + 1, miss(road, samples, target, p));
             }
             Move::On(p) => {
                 at = p;
-                here = footing_at(words, numbers, samples, p.s);
+                here = footing_at(road, samples, p.s);
                 moves += 1;
             }
         }
     }
-    arrived(at, moves, miss_on(words, numbers, here, target, at.t))
+    arrived(at, moves, miss_on(road, here, target, at.t))
 }
 
 fn arrived(place: Place, moves: u32, miss: Vector) -> Arrival
@@ -70,34 +69,33 @@ fn arrived(place: Place, moves: u32, miss: Vector) -> Arrival
 }
 
 // Whether a place lies on the road with a miss under 0.0000009 m.
-fn met(words: &[u16], numbers: &[f64], at: Place, miss: Vector) -> bool
-    ensures { result ≡ (on_road (lent_road words numbers) at.s && across_road at.t && lt (size_of miss) meeting) }
+fn met(road: &LentRoad, at: Place, miss: Vector) -> bool
+    ensures { result ≡ (on_road road.now at.s && across_road at.t && lt (size_of miss) meeting) }
 {
-    admission_arguments::on_road(words, numbers, at.s)
+    admission_arguments::on_road(road, at.s)
         & admission_arguments::across(at.t)
         & near(miss)
 }
 
 // The place that the moves find from a guess of s, the count of moves, and the mark.
 pub fn locate_from(
-    words: &[u16],
-    numbers: &[f64],
+    road: &LentRoad,
     samples: &[f64],
     target: Vector,
     guess: f64,
 ) -> Position
-    ensures { result ≡ locate_of (lent_road words numbers) samples.now target guess }
+    ensures { result ≡ locate_of road.now samples.now target guess }
 {
-    let s = clamp(records::road_length(words, numbers), guess);
-    let here = footing_at(words, numbers, samples, s);
+    let s = clamp(road.length(), guess);
+    let here = footing_at(road, samples, s);
     let from = Place {
         s,
         t: first_t(here, target),
     };
-    let e = walk(words, numbers, samples, target, from, here);
+    let e = walk(road, samples, target, from, here);
     let w = e.walk;
     let at = w.place;
-    let converged = met(words, numbers, at, e.miss);
+    let converged = met(road, at, e.miss);
     Position {
         s: at.s,
         t: at.t,

@@ -2,13 +2,12 @@
 ghost use Rattle.std.specs.Prelude.{◌≡◌};
 ghost use Rattle.arithmetic_sine.specs.Sine.{sine_of, cosine_of};
 ghost use Rattle.records.specs.Active.{value_in};
-ghost use Rattle.records.specs.Roads.{road_of, lent_road};
 ghost use Rattle.surface_points.specs.Raised.{plain_by, lifted, raised_at};
 
 use crate::points::SurfacePoint;
 use arithmetic_sine::SinCos;
 use line_samples::Pose;
-use records::elevations;
+use records::LentRoad;
 use records_active::{slope, value};
 use surface_station::{Axis, bearing_at, up_by};
 
@@ -38,25 +37,24 @@ fn lift(p: SurfacePoint, up: Axis, height: f64) -> SurfacePoint
 
 // The point at s and t, with the lent samples, stood off by height; at a height of 0 the axes are not asked for. bank is of the road at s.
 pub(crate) fn raised_xyz(
-    words: &[u16],
-    numbers: &[f64],
+    road: &LentRoad,
     samples: &[f64],
     s: f64,
     bank: SinCos,
     t: f64,
     height: f64,
 ) -> SurfacePoint
-    requires { (bank.sin ≡ sine_of (value_in (road_of words.now numbers.now).superelevations s)) × (bank.cos ≡ cosine_of (value_in (road_of words.now numbers.now).superelevations s)) }
-    ensures { result ≡ raised_at (lent_road words numbers) samples.now s t height }
+    requires { (bank.sin ≡ sine_of (value_in road.now.superelevations s)) × (bank.cos ≡ cosine_of (value_in road.now.superelevations s)) }
+    ensures { result ≡ raised_at road.now samples.now s t height }
 {
-    let at = bearing_at(words, numbers, samples, s);
+    let at = bearing_at(road, samples, s);
     let p = at.pose;
     let h = at.turn;
-    let elevation = value(elevations(words, numbers), s);
+    let elevation = value(road.elevations(), s);
     let plain = plain_by(p, h, bank, elevation, t);
     if height == 0.0 {
         return plain;
     }
-    let grade = slope(elevations(words, numbers), s);
+    let grade = slope(road.elevations(), s);
     lift(plain, up_by(h, grade, bank), height)
 }

@@ -1,13 +1,12 @@
 // The road's own axes. The sines and cosines of the heading and of the bank are worked out once and handed on.
 ghost use Rattle.std.specs.Prelude.{◌≡◌};
-ghost use Rattle.records.specs.Roads.{lent_road};
 ghost use Rattle.surface_station.specs.Axes.{along_by, up_by, axes_by, axes_at};
 
 use crate::axis::{Axes, Axis};
 use crate::station::{bank_at, bearing_at};
 use crate::vectors::{cross, unit};
 use arithmetic_sine::SinCos;
-use records::elevations;
+use records::LentRoad;
 use records_active::slope;
 
 // Along the reference line, up its grade; h is of the heading.
@@ -44,11 +43,11 @@ fn axes_by(h: SinCos, grade: f64, p: SinCos) -> Axes
 }
 
 // The axes at s, with the lent samples.
-pub fn axes_at(words: &[u16], numbers: &[f64], samples: &[f64], s: f64) -> Axes
-    ensures { result ≡ axes_at (lent_road words numbers) samples.now s }
+pub fn axes_at(road: &LentRoad, samples: &[f64], s: f64) -> Axes
+    ensures { result ≡ axes_at road.now samples.now s }
 {
-    let b = bearing_at(words, numbers, samples, s);
+    let b = bearing_at(road, samples, s);
     let h = b.turn;
-    let grade = slope(elevations(words, numbers), s);
-    axes_by(h, grade, bank_at(words, numbers, s))
+    let grade = slope(road.elevations(), s);
+    axes_by(h, grade, bank_at(road, s))
 }

@@ -1,6 +1,5 @@
 // The reference line at a station.
 ghost use Rattle.std.specs.Prelude.{◌≡◌};
-ghost use Rattle.records.specs.Roads.{lent_road};
 ghost use Rattle.arithmetic_sine.specs.Sine.{sine_of, cosine_of};
 ghost use Rattle.records.specs.Active.{value_in};
 ghost use Rattle.line_pose.specs.Bearings.{bearing_of};
@@ -9,28 +8,28 @@ ghost use Rattle.surface_station.specs.Station.{pose_at, station_of};
 use arithmetic_sine::{SinCos, sin_cos};
 use line_pose::{Bearing, bearing_of};
 use line_samples::Pose;
-use records::{RefPoint, elevations, superelevations};
+use records::{LentRoad, RefPoint};
 use records_active::{geom_at, slope, value};
 
 // The pose at s of the geometry in use there, with the lent samples.
-pub fn pose_at(words: &[u16], numbers: &[f64], samples: &[f64], s: f64) -> Pose
-    ensures { result ≡ pose_at (lent_road words numbers) samples.now s }
+pub fn pose_at(road: &LentRoad, samples: &[f64], s: f64) -> Pose
+    ensures { result ≡ pose_at road.now samples.now s }
 {
-    line_pose::pose(words, numbers, samples, geom_at(words, numbers, s), s)
+    line_pose::pose(road, samples, geom_at(road, s), s)
 }
 
 // The same with the sine and the cosine of its heading.
-pub fn bearing_at(words: &[u16], numbers: &[f64], samples: &[f64], s: f64) -> Bearing
-    ensures { result ≡ bearing_of (pose_at (lent_road words numbers) samples.now s) }
+pub fn bearing_at(road: &LentRoad, samples: &[f64], s: f64) -> Bearing
+    ensures { result ≡ bearing_of (pose_at road.now samples.now s) }
 {
-    bearing_of(words, numbers, samples, geom_at(words, numbers, s), s)
+    bearing_of(road, samples, geom_at(road, s), s)
 }
 
 // The sine and the cosine of the bank at s, which needn't be worked out for a road without banks.
-pub fn bank_at(words: &[u16], numbers: &[f64], s: f64) -> SinCos
-    ensures { (result.sin ≡ sine_of (value_in (lent_road words numbers).superelevations s)) × (result.cos ≡ cosine_of (value_in (lent_road words numbers).superelevations s)) }
+pub fn bank_at(road: &LentRoad, s: f64) -> SinCos
+    ensures { (result.sin ≡ sine_of (value_in road.now.superelevations s)) × (result.cos ≡ cosine_of (value_in road.now.superelevations s)) }
 {
-    let banks = superelevations(words, numbers);
+    let banks = road.superelevations();
     if banks.len() < 5 {
         return SinCos { sin: 0.0, cos: 1.0 };
     }
@@ -38,12 +37,12 @@ pub fn bank_at(words: &[u16], numbers: &[f64], s: f64) -> SinCos
 }
 
 // The eight numbers of the reference line at s: elevation and bank are 0, and so are their rates, where no record is active.
-pub fn station_at(words: &[u16], numbers: &[f64], samples: &[f64], s: f64) -> RefPoint
-    ensures { result ≡ station_of (lent_road words numbers) samples.now s }
+pub fn station_at(road: &LentRoad, samples: &[f64], s: f64) -> RefPoint
+    ensures { result ≡ station_of road.now samples.now s }
 {
-    let p = pose_at(words, numbers, samples, s);
-    let elev = elevations(words, numbers);
-    let bank = superelevations(words, numbers);
+    let p = pose_at(road, samples, s);
+    let elev = road.elevations();
+    let bank = road.superelevations();
     RefPoint {
         s,
         x: p.x,
