@@ -1,15 +1,12 @@
 -- Document 01: "A road is admitted when it passes rows 3 to 5", "the road whole and anew", row by row. Every call that takes a road, reading, and the statement on sizes cite this one definition.
 use Rattle.std.specs.Prelude.{Bool, true, ◌&&◌, List, [], ◌∷◌, ℕ, leb, Float}
-use Rattle.refusals.specs.Answer.{Answer, value, refused, Row, row, checked}
-use Rattle.refusals.specs.Refusal.{number_of}
+use Rattle.refusals.specs.Answer.{Answer, value, Row, row, checked}
 use Rattle.refusals.specs.declared.refusals.Refusal.TheVariants.{Structure, Range, SampleBudget}
 use Rattle.records.specs.Roads.{road_of}
 use Rattle.admission_structure.specs.Structure.{structured}
 use Rattle.admission_order.specs.Order.{ordered}
 use Rattle.admission.specs.Limits.{limited}
 use Rattle.line_samples.specs.Samples.{samples_needed, most_samples}
-use Rattle.admission.specs.declared.verdicts.Verdict.{Verdict}
-use Rattle.admission.specs.declared.verdicts.Verdict.TheVariants.{Admitted, Refused}
 
 -- 3 counts, references, order; 4 numbers; 5 samples: each over the whole road
 abbrev pub road_rows : List ℕ → List Float → List Row
@@ -31,8 +28,3 @@ admit_call words numbers = checked (road_rows words numbers) (value tt)
 -- "A road is admitted when it passes rows 3 to 5"
 unfoldable pub admitted : List ℕ → List Float → Bool
 admitted words numbers = pass (road_rows words numbers)
-
--- the number of a refusal
-abbrev pub admit_answer : Verdict → Answer (Unit {0})
-admit_answer Admitted = value tt
-admit_answer (Refused r) = refused (number_of r)

@@ -1,6 +1,6 @@
-// Admission, the definitions: rows 3, 4 and 5 of document 01, the whole road for each row in turn; and what a verdict is.
+// Admission, the definitions: rows 3, 4 and 5 of document 01, the whole road for each row in turn; and the test of the road's own tables of cubics.
 #![tactic(auto)]
 
-mod verdicts;
+mod tables;
 
-pub use verdicts::Verdict;
+pub use tables::road_cubics_within;

@@ -1,25 +1,28 @@
 // Whether a lent road is admitted.
 ghost use Rattle.std.specs.Prelude.{◌≡◌};
-ghost use Rattle.admission.specs.Admission.{admit_call, admit_answer};
+ghost use Rattle.refusals.specs.Answer.{answered, checked, value};
+ghost use Rattle.records.specs.Roads.{road_of};
+ghost use Rattle.admission.specs.Admission.{road_rows};
 
-use admission::Verdict;
+use records::LentRoad;
 use refusals::Refusal;
 
-// Rows 3, 4 and 5, in this order. Every call that takes a road begins with it.
-pub fn admit(words: &[u16], numbers: &[f64]) -> Verdict
-    ensures { admit_answer result ≡ admit_call words.now numbers.now }
+// The road that the slices hold; rows 3, 4 and 5, in this order. Every call that takes a road begins with it.
+pub fn admit<'a>(words: &'a [u16], numbers: &'a [f64]) -> Result<LentRoad<'a>, Refusal>
+    ensures { answered result ≡ checked (road_rows words.now numbers.now) (value (road_of words.now numbers.now)) }
 {
+    let road = LentRoad::new(words, numbers);
     if !admission_structure::structured(words, numbers) {
-        return Verdict::Refused(Refusal::Structure);
+        return Err(Refusal::Structure);
     }
-    if !admission_order::ordered(words, numbers) {
-        return Verdict::Refused(Refusal::Structure);
+    if !admission_order::ordered(&road) {
+        return Err(Refusal::Structure);
     }
-    if !admission_limits::limited(words, numbers) {
-        return Verdict::Refused(Refusal::Range);
+    if !admission_limits::limited(&road) {
+        return Err(Refusal::Range);
     }
-    if !line_samples::samples_fit(words, numbers) {
-        return Verdict::Refused(Refusal::SampleBudget);
+    if !line_samples::samples_fit(&road) {
+        return Err(Refusal::SampleBudget);
     }
-    Verdict::Admitted
+    Ok(road)
 }

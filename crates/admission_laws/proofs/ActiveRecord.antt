@@ -10,8 +10,8 @@ use lib.ListN.{length}
 use lib.Dec.{T}
 use lib.Ieee.{Float, le}
 use Rattle.records_cubic.specs.declared.cubics.Cubic.{Cubic}
-use Rattle.records.specs.declared.points.Found.{Found}
-use Rattle.records.specs.declared.points.Found.TheVariants.{At, Nothing}
+use Rattle.std.specs.declared.option.Option.{Option}
+use Rattle.std.specs.declared.option.Option.TheVariants.{Some, None}
 use Rattle.records_cubic.specs.Cubics.{cubic_at}
 use Rattle.records.specs.Active.{pick_found, last_start, active_in, or_first, active_up_to}
 
@@ -28,7 +28,7 @@ pub record Active (start : ℕ → Float) (limit : Float) (n i : ℕ) : Type 0 w
   pub miss : i + 1 < n → T (not (le (start (i + 1)) limit))
 
 module _ (start : ℕ → Float) (limit : Float) where
-  here : (n i : ℕ) → At n ≡ At i → T (le (start n) limit) → Active start limit (suc n) i
+  here : (n i : ℕ) → Some n ≡ Some i → T (le (start n) limit) → Active start limit (suc n) i
   here n i e h =
       let g : n ≡ i = cc in
       record { below = omega arith; hit = subst (λ (k : ℕ). T (le (start k) limit)) g h; miss = λ l. absurd (omega arith) }
@@ -43,25 +43,25 @@ module _ (start : ℕ → Float) (limit : Float) where
       record { below = omega arith; hit = a.hit; miss = λ l. last n i b l a.miss h }
 
   -- the last start that is at most the limit
-  pub found_at : (n i : ℕ) → last_start start limit n ≡ At i → Active start limit n i
+  pub found_at : (n i : ℕ) → last_start start limit n ≡ Some i → Active start limit n i
   unfolding last_start
   found_at zero i e = absurd (no e)
     where
-      no : Nothing ≡ At i → ⊥
+      no : None ≡ Some i → ⊥
       no e = let z : ◌≡◌ {A = ℕ} 0 1 = cc in omega arith
   found_at (suc n) i e = go (le (start n) limit) refl e (λ q. found_at n i q)
     where
-      go : (b : Bool) → le (start n) limit ≡ b → pick_found b (At n) (last_start start limit n) ≡ At i → (last_start start limit n ≡ At i → Active start limit n i) → Active start limit (suc n) i
+      go : (b : Bool) → le (start n) limit ≡ b → pick_found b (Some n) (last_start start limit n) ≡ Some i → (last_start start limit n ≡ Some i → Active start limit n i) → Active start limit (suc n) i
       go true q e r = here n i e (subst T (sym q) tt)
       go false q e r = earlier n i (r e) (subst (λ (b : Bool). T (not b)) (sym q) tt)
 
 module _ (start : ℕ → Float) (limit : Float) where
-  none-reached : (n : ℕ) → last_start start limit n ≡ Nothing → (k : ℕ) → k < n → T (not (le (start k) limit))
+  none-reached : (n : ℕ) → last_start start limit n ≡ None → (k : ℕ) → k < n → T (not (le (start k) limit))
   unfolding last_start
   none-reached zero e k h = absurd (not-suc-le-zero h)
   none-reached (suc n) e k h = go (le (start n) limit) refl e (λ q. none-reached n q k)
     where
-      go : (b : Bool) → le (start n) limit ≡ b → pick_found b (At n) (last_start start limit n) ≡ Nothing → (last_start start limit n ≡ Nothing → k < n → T (not (le (start k) limit))) → T (not (le (start k) limit))
+      go : (b : Bool) → le (start n) limit ≡ b → pick_found b (Some n) (last_start start limit n) ≡ None → (last_start start limit n ≡ None → k < n → T (not (le (start k) limit))) → T (not (le (start k) limit))
       go true q e r = absurd (let z : ◌≡◌ {A = ℕ} 0 1 = cc in never z)
       go false q e r =
           ⊎_elim (λ (s : k ≡ n). subst (λ (b : Bool). T (not b)) (sym (ap (λ (j : ℕ). le (start j) limit) s ∙ q)) tt) (r e) (eq-or-lt_of_le (le_of_suc-le-suc h))
@@ -70,10 +70,10 @@ module _ (start : ℕ → Float) (limit : Float) where
   pub index-active : (n : ℕ) → 0 < n → T (le (start 0) limit) → Active start limit n (or_first (last_start start limit n))
   index-active n h l = go (last_start start limit n) refl
     where
-      go : (x : Found) → last_start start limit n ≡ x → Active start limit n (or_first x)
-      go (At i) e = found_at start limit n i e
-      go Nothing e = absurd (both (le (start 0) limit) l (none-reached n e 0 h))
+      go : (x : Option ℕ) → last_start start limit n ≡ x → Active start limit n (or_first x)
+      go (Some i) e = found_at start limit n i e
+      go None e = absurd (both (le (start 0) limit) l (none-reached n e 0 h))
 
-pub active-at : (cs : List Cubic) (s : Float) (i : ℕ) → active_in cs s ≡ At i → Active (λ k. (cubic_at cs k).start) (active_up_to s) (length cs) i
+pub active-at : (cs : List Cubic) (s : Float) (i : ℕ) → active_in cs s ≡ Some i → Active (λ k. (cubic_at cs k).start) (active_up_to s) (length cs) i
 unfolding active_in
 active-at cs s i e = found_at (λ k. (cubic_at cs k).start) (active_up_to s) (length cs) i e

@@ -23,8 +23,8 @@ use Rattle.float_laws.proofs.Exact.{fixed, self-Is, add-grow-l, add-grow-r}
 use Rattle.float_laws.proofs.Error.{Near, add-near}
 use Rattle.float_laws.proofs.Whole.{unit}
 use Rattle.records_cubic.specs.declared.cubics.Cubic.{Cubic}
-use Rattle.records.specs.declared.points.Found.{Found}
-use Rattle.records.specs.declared.points.Found.TheVariants.{At, Nothing}
+use Rattle.std.specs.declared.option.Option.{Option}
+use Rattle.std.specs.declared.option.Option.TheVariants.{Some, None}
 use Rattle.records_cubic.specs.Cubics.{cubic_at, eval_by, slope_by}
 use Rattle.records.specs.Active.{active_margin, active_in, value_in, slope_in, active_up_to}
 use Rattle.records.proofs.CubicLaws.{value-at, value_none, slope_at_lem, slope-none}
@@ -379,7 +379,7 @@ module _ (cs : List Cubic) (lo hi end limit s : Float) (r : Ready cs lo hi end l
       (first-within (cubic_at cs i) (reach_at cs end i) (r.fitting i) (reach-nn i) (bound_real i h).bound.finite) r.bound.bound (bound-passes i h)
 
   -- the station lies within the reach of the active cubic
-  pub reach-covers : (i : ℕ) → active_in cs s ≡ At i → Covers (s ⊖ (cubic_at cs i).start) (reach_at cs end i)
+  pub reach-covers : (i : ℕ) → active_in cs s ≡ Some i → Covers (s ⊖ (cubic_at cs i).start) (reach_at cs end i)
   unfolding reach_at
   reach-covers i e =
       let a = active-at cs s i e in
@@ -389,7 +389,7 @@ module _ (cs : List Cubic) (lo hi end limit s : Float) (r : Ready cs lo hi end l
       (reach-fin (cubic_at cs i) (reach_at cs end i) (r.fitting i) (reach-nn i) (bound_real i a.below).bound.finite)
 
   -- its value is at most its bound B in size
-  pub active-within : (i : ℕ) → active_in cs s ≡ At i → Within binary64 (value_in cs s) (bound_at cs end i)
+  pub active-within : (i : ℕ) → active_in cs s ≡ Some i → Within binary64 (value_in cs s) (bound_at cs end i)
   active-within i e =
       subst (λ (v : Float). Within binary64 v (bound_at cs end i)) (sym (value-at cs s i e))
       (eval-within (cubic_at cs i) (s ⊖ (cubic_at cs i).start) (reach_at cs end i) limit (r.fitting i) (reach-covers i e) r.bound.bound.finite (bound-passes i (active-at cs s i e).below))
@@ -398,19 +398,19 @@ module _ (cs : List Cubic) (lo hi end limit s : Float) (r : Ready cs lo hi end l
   pub value-within : Within binary64 (value_in cs s) limit
   value-within = go (active_in cs s) refl
     where
-      go : (x : Found) → active_in cs s ≡ x → Within binary64 (value_in cs s) limit
-      go (At i) e = within-mono binary64 (value_in cs s) (bound_at cs end i) limit (active-within i e) r.bound.bound (bound-passes i (active-at cs s i e).below)
-      go Nothing e = subst (λ (v : Float). Within binary64 v limit) (sym (value_none cs s e)) r.bound
+      go : (x : Option ℕ) → active_in cs s ≡ x → Within binary64 (value_in cs s) limit
+      go (Some i) e = within-mono binary64 (value_in cs s) (bound_at cs end i) limit (active-within i e) r.bound.bound (bound-passes i (active-at cs s i e).below)
+      go None e = subst (λ (v : Float). Within binary64 v limit) (sym (value_none cs s e)) r.bound
 
   -- and so is the slope, of a list whose slopes pass theirs
   pub slope_within_lem : (m : Float) → Within binary64 zero64 m → slopes_within cs end m ≡ true → Within binary64 (slope_in cs s) m
   slope_within_lem m w p = go (active_in cs s) refl
     where
-      go : (x : Found) → active_in cs s ≡ x → Within binary64 (slope_in cs s) m
-      go (At i) e =
+      go : (x : Option ℕ) → active_in cs s ≡ x → Within binary64 (slope_in cs s) m
+      go (Some i) e =
           let D = reach_at cs end i in
           let q = slope-passes cs end m p i (active-at cs s i e).below in
           subst (λ (v : Float). Within binary64 v m) (sym (slope_at_lem cs s i e))
           (within-mono binary64 (slope_by (cubic_at cs i) (s ⊖ (cubic_at cs i).start)) (slope_bound_of (cubic_at cs i) D) m
           (rate-within (cubic_at cs i) (s ⊖ (cubic_at cs i).start) D m (r.fitting i) (reach-covers i e) w.bound.finite q) w.bound q)
-      go Nothing e = subst (λ (v : Float). Within binary64 v m) (sym (slope-none cs s e)) w
+      go None e = subst (λ (v : Float). Within binary64 v m) (sym (slope-none cs s e)) w

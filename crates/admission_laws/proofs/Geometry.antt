@@ -21,8 +21,8 @@ use Rattle.arithmetic_sine.specs.Sine.{sine_range, one, sine_of, cosine_of}
 use Rattle.arithmetic_laws.proofs.SineLaws.{sine-within, cosine-within}
 use Rattle.records.specs.declared.points.GeomRec.{GeomRec}
 use Rattle.records.specs.declared.points.GeomShape.TheVariants.{Arc}
-use Rattle.records.specs.declared.points.Found.{Found}
-use Rattle.records.specs.declared.points.Found.TheVariants.{At, Nothing}
+use Rattle.std.specs.declared.option.Option.{Option}
+use Rattle.std.specs.declared.option.Option.TheVariants.{Some, None}
 use Rattle.records.specs.Active.{last_start, or_first}
 use Rattle.records.specs.Roads.{Road, straight_curvature, geom_at, geom_index}
 use Rattle.line_samples.specs.declared.points.Pose.{Pose}
@@ -79,9 +79,9 @@ sum-within x a b X A B C v w z t =
 index_in : (start : ℕ → Float) (limit : Float) (n : ℕ) → 0 < n → or_first (last_start start limit n) < n
 index_in start limit n h = go (last_start start limit n) refl
   where
-    go : (x : Found) → last_start start limit n ≡ x → or_first x < n
-    go (At i) e = (found_at start limit n i e).below
-    go Nothing e = h
+    go : (x : Option ℕ) → last_start start limit n ≡ x → or_first x < n
+    go (Some i) e = (found_at start limit n i e).below
+    go None e = h
 
 -- the geometry in use is one of the road's
 pub index_below : (road : Road) (s : Float) → 0 < length road.geoms → geom_index road s < length road.geoms

@@ -18,8 +18,8 @@ use Rattle.float_laws.proofs.Operation.{add-Is}
 use Rattle.float_laws.proofs.Size.{Within, within-mono, within-const, add-within, mul-within, is-bounded, add-nn, mul-nn, add-fin, mul-fin, fin-of_le}
 use Rattle.float_laws.proofs.Exact.{fixed}
 use Rattle.records_cubic.specs.declared.cubics.Cubic.{Cubic}
-use Rattle.records.specs.declared.points.Found.{Found}
-use Rattle.records.specs.declared.points.Found.TheVariants.{At, Nothing}
+use Rattle.std.specs.declared.option.Option.{Option}
+use Rattle.std.specs.declared.option.Option.TheVariants.{Some, None}
 use Rattle.records.specs.Active.{active_in, value_in}
 use Rattle.records.proofs.CubicLaws.{value_none}
 use Rattle.admission_bounds.specs.Bounds.{bound_at, greatest, greatest_bound}
@@ -92,9 +92,9 @@ module _ (cs : List Cubic) (lo hi end limit s : Float) (r : Ready cs lo hi end l
   pub greatest-within : Within binary64 (value_in cs s) (greatest_bound cs end)
   greatest-within = go (active_in cs s) refl
     where
-      go : (x : Found) → active_in cs s ≡ x → Within binary64 (value_in cs s) (greatest_bound cs end)
-      go (At i) e = within-mono binary64 (value_in cs s) (bound_at cs end i) (greatest_bound cs end) (active-within cs lo hi end limit s r i e) greatest-real.bound (bound-under i (active-at cs s i e).below)
-      go Nothing e = subst (λ (v : Float). Within binary64 v (greatest_bound cs end)) (sym (value_none cs s e)) (zero-within (greatest_bound cs end) greatest-real)
+      go : (x : Option ℕ) → active_in cs s ≡ x → Within binary64 (value_in cs s) (greatest_bound cs end)
+      go (Some i) e = within-mono binary64 (value_in cs s) (bound_at cs end i) (greatest_bound cs end) (active-within cs lo hi end limit s r i e) greatest-real.bound (bound-under i (active-at cs s i e).below)
+      go None e = subst (λ (v : Float). Within binary64 v (greatest_bound cs end)) (sym (value_none cs s e)) (zero-within (greatest_bound cs end) greatest-real)
 
 -- ---- Horner
 

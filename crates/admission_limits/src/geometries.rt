@@ -4,9 +4,11 @@ ghost use Rattle.records_lent.specs.Lists.{all_below};
 ghost use Rattle.admission_bounds.specs.Bounds.{slopes_within};
 ghost use Rattle.admission.specs.Limits.{greatest_elevation, greatest_grade, road_cubics_within, shape_limited, geom_limited};
 
-use admission_bounds::{cubics_within, slopes_within};
+use admission::road_cubics_within;
+use admission_bounds::slopes_within;
 use arithmetic_ranges::{abs, in_range, sized};
 use records::{GeomShape, LentRoad, STRAIGHT_CURVATURE};
+use records_geometry::{geom, unused_zero};
 
 // ---- geometries
 const GREATEST_PLACE: f64 = 1000000.0;
@@ -41,30 +43,20 @@ fn shape_limited(shape: GeomShape) -> bool
 fn geom_limited(road: &LentRoad, i: usize) -> bool
     ensures { result ≡ geom_limited road.now i }
 {
-    let g = records_geometry::geom(road, i);
-    let start = in_range(0.0, road.length(), g.s);
-    let place = start
+    let g = geom(road, i);
+    in_range(0.0, road.length(), g.s)
         & sized(GREATEST_PLACE, g.x)
         & sized(GREATEST_PLACE, g.y)
-        & sized(GREATEST_HEADING, g.hdg);
-    let shape = g.shape;
-    place
+        & sized(GREATEST_HEADING, g.hdg)
         & in_range(LEAST_GEOM_LENGTH, GREATEST_GEOM_LENGTH, g.length)
-        & shape_limited(shape)
-        & records_geometry::unused_zero(road, i)
+        & shape_limited(g.shape)
+        & unused_zero(road, i)
 }
 
 pub fn geoms_limited(road: &LentRoad) -> bool
     ensures { result ≡ all_below (geom_limited road.now) (length road.now.geoms) }
 {
-    let n = road.geom_count();
-    let mut ok = true;
-    let mut i = 0;
-    while i < n {
-        ok = ok & geom_limited(road, i);
-        i += 1;
-    }
-    ok
+    (0..road.geom_count()).all(|i| geom_limited(road, i))
 }
 
 // ---- the road
@@ -75,8 +67,7 @@ const GREATEST_GRADE: f64 = 1.0;
 pub fn elevations_limited(road: &LentRoad) -> bool
     ensures { result ≡ (road_cubics_within road.now road.now.elevations greatest_elevation && slopes_within road.now.elevations road.now.length greatest_grade) }
 {
-    let length = road.length();
     let elevations = road.elevations();
-    cubics_within(elevations, 0.0, length, length, GREATEST_ELEVATION)
-        & slopes_within(elevations, length, GREATEST_GRADE)
+    road_cubics_within(road, &elevations, GREATEST_ELEVATION)
+        & slopes_within(&elevations, road.length(), GREATEST_GRADE)
 }

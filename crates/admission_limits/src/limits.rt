@@ -2,13 +2,13 @@
 ghost use Rattle.std.specs.Prelude.{◌≡◌, ◌&&◌};
 ghost use Rattle.admission.specs.Limits.{greatest_bank, greatest_offset, greatest_shift, road_cubics_within, limited};
 
-use records::LentRoad;
 use crate::geometries::{elevations_limited, geoms_limited};
-use admission_bounds::cubics_within;
+use admission::road_cubics_within;
 use admission_lanes::sections_limited;
 use admission_marks::marks_limited;
 use admission_shapes::{profiles_limited, strips_limited};
 use arithmetic_ranges::in_range;
+use records::LentRoad;
 
 const LEAST_LENGTH: f64 = 0.01;
 
@@ -24,42 +24,21 @@ const GREATEST_SHIFT: f64 = 8.0;
 fn tables_limited(road: &LentRoad) -> bool
     ensures { result ≡ (road_cubics_within road.now road.now.superelevations greatest_bank && road_cubics_within road.now road.now.offsets greatest_offset && road_cubics_within road.now road.now.tshifts greatest_shift) }
 {
-    let length = road.length();
-    let bank = cubics_within(
-        road.superelevations(),
-        0.0,
-        length,
-        length,
-        GREATEST_BANK,
-    );
-    let offset = cubics_within(
-        road.offsets(),
-        0.0,
-        length,
-        length,
-        GREATEST_OFFSET,
-    );
-    let shift = cubics_within(
-        road.tshifts(),
-        0.0,
-        length,
-        length,
-        GREATEST_SHIFT,
-    );
-    bank & offset & shift
+    road_cubics_within(road, &road.superelevations(), GREATEST_BANK)
+        & road_cubics_within(road, &road.offsets(), GREATEST_OFFSET)
+        & road_cubics_within(road, &road.tshifts(), GREATEST_SHIFT)
 }
 
 // Whether every number of a road is finite and within its limit.
 pub fn limited(road: &LentRoad) -> bool
     ensures { result ≡ limited road.now }
 {
-    let length = in_range(
-        LEAST_LENGTH,
-        GREATEST_LENGTH,
-        road.length(),
-    );
-    let along = length & geoms_limited(road) & elevations_limited(road);
-    let lanes = along & tables_limited(road) & sections_limited(road);
-    let across = lanes & profiles_limited(road) & strips_limited(road);
-    across & marks_limited(road)
+    in_range(LEAST_LENGTH, GREATEST_LENGTH, road.length())
+        & geoms_limited(road)
+        & elevations_limited(road)
+        & tables_limited(road)
+        & sections_limited(road)
+        & profiles_limited(road)
+        & strips_limited(road)
+        & marks_limited(road)
 }

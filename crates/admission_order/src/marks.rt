@@ -19,27 +19,14 @@ fn mark_in_order(road: &LentRoad, section: usize, j: usize) -> bool
     ensures { result ≡ all_below (λ (h : ℕ). starts_in_order (mark_at road.now section h) (mark_at road.now section j)) j }
 {
     let later = mark(road, section, j);
-    let mut ok = true;
-    let mut h = 0;
-    while h < j {
-        let earlier = mark(road, section, h);
-        ok = ok & starts_in_order(earlier, later);
-        h += 1;
-    }
-    ok
+    (0..j).all(|h| starts_in_order(mark(road, section, h), later))
 }
 
 fn section_marks_in_order(road: &LentRoad, section: usize) -> bool
     ensures { result ≡ marks_in_order road.now section }
 {
     let n = mark_count(road, section);
-    let mut ok = true;
-    let mut j = 0;
-    while j < n {
-        ok = ok & mark_in_order(road, section, j);
-        j += 1;
-    }
-    ok
+    (0..n).all(|j| mark_in_order(road, section, j))
 }
 
 // The marks of every section.
@@ -47,11 +34,5 @@ pub(crate) fn marks_in_order(road: &LentRoad) -> bool
     ensures { result ≡ all_below (marks_in_order road.now) (length road.now.sections) }
 {
     let n = records_sections::section_count(road);
-    let mut ok = true;
-    let mut i = 0;
-    while i < n {
-        ok = ok & section_marks_in_order(road, i);
-        i += 1;
-    }
-    ok
+    (0..n).all(|i| section_marks_in_order(road, i))
 }

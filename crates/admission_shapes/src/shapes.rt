@@ -6,9 +6,11 @@ ghost use Rattle.arithmetic_ranges.specs.Ranges.{largest};
 ghost use Rattle.admission_bounds.specs.Bounds.{greatest_bound};
 ghost use Rattle.admission.specs.Limits.{road_cubics_within, profile_limited, terms_bound, strip_limited};
 
-use records::LentRoad;
+use admission::road_cubics_within;
 use admission_bounds::{cubics_within, greatest_bound};
 use arithmetic_ranges::{LARGEST, in_range};
+use records::LentRoad;
+use records_shapes::{profile_count, profile_start, shapes, strip_column};
 
 const GREATEST_SHAPE_START: f64 = 80.0;
 
@@ -26,14 +28,9 @@ const GREATEST_STRIP_HEIGHT: f64 = 40.0;
 fn profile_limited(road: &LentRoad, i: usize) -> bool
     ensures { result ≡ profile_limited road.now i }
 {
-    let start = in_range(
-        0.0,
-        road.length(),
-        records_shapes::profile_start(road, i),
-    );
-    start
+    in_range(0.0, road.length(), profile_start(road, i))
         & cubics_within(
-            records_shapes::shapes(road, i),
+            &shapes(road, i),
             -GREATEST_SHAPE_START,
             GREATEST_SHAPE_START,
             SHAPES_END,
@@ -44,24 +41,14 @@ fn profile_limited(road: &LentRoad, i: usize) -> bool
 pub fn profiles_limited(road: &LentRoad) -> bool
     ensures { result ≡ all_below (profile_limited road.now) (length road.now.profiles) }
 {
-    let n = records_shapes::profile_count(road);
-    let mut ok = true;
-    let mut i = 0;
-    while i < n {
-        ok = ok & profile_limited(road, i);
-        i += 1;
-    }
-    ok
+    (0..profile_count(road)).all(|i| profile_limited(road, i))
 }
 
 // The greatest B of a strip's column.
 fn column_bound(road: &LentRoad, i: usize, column: usize) -> f64
     ensures { result ≡ greatest_bound (column_of (strip_at road.now i) column) road.now.length }
 {
-    greatest_bound(
-        records_shapes::strip_column(road, i, column),
-        road.length(),
-    )
+    greatest_bound(&strip_column(road, i, column), road.length())
 }
 
 // The four terms at their greatest, by Horner at 88.
@@ -79,33 +66,19 @@ fn terms_bound(road: &LentRoad, i: usize) -> f64
 fn column_within(road: &LentRoad, i: usize, column: usize, limit: f64) -> bool
     ensures { result ≡ road_cubics_within road.now (column_of (strip_at road.now i) column) limit }
 {
-    let length = road.length();
-    cubics_within(
-        records_shapes::strip_column(road, i, column),
-        0.0,
-        length,
-        length,
-        limit,
-    )
+    road_cubics_within(road, &strip_column(road, i, column), limit)
 }
 
 fn terms_within(road: &LentRoad, i: usize) -> bool
     ensures { result ≡ all_below (λ (term : ℕ). road_cubics_within road.now (column_of (strip_at road.now i) (term + 1)) largest) 4 }
 {
-    let mut ok = true;
-    let mut term = 0;
-    while term < 4 {
-        ok = ok & column_within(road, i, term + 1, LARGEST);
-        term += 1;
-    }
-    ok
+    (0..4).all(|term| column_within(road, i, term + 1, LARGEST))
 }
 
 fn strip_limited(road: &LentRoad, i: usize) -> bool
     ensures { result ≡ strip_limited road.now (strip_at road.now i) }
 {
-    let width = column_within(road, i, 0, GREATEST_STRIP_WIDTH);
-    width
+    column_within(road, i, 0, GREATEST_STRIP_WIDTH)
         & terms_within(road, i)
         & (terms_bound(road, i) <= GREATEST_STRIP_HEIGHT)
 }
@@ -113,11 +86,5 @@ fn strip_limited(road: &LentRoad, i: usize) -> bool
 pub fn strips_limited(road: &LentRoad) -> bool
     ensures { result ≡ all_below (λ (i : ℕ). strip_limited road.now (strip_at road.now i)) 4 }
 {
-    let mut ok = true;
-    let mut i = 0;
-    while i < 4 {
-        ok = ok & strip_limited(road, i);
-        i += 1;
-    }
-    ok
+    (0..4).all(|i| strip_limited(road, i))
 }

@@ -16,13 +16,7 @@ fn on_lanes(words: &[u16], first: usize, n: usize, lanes: usize) -> bool
     requires { (first < 65536) × (n < 65536) }
     ensures { result ≡ all_below (λ j. ltb (get_or words.now (mark_words + (first + j) * mark_stride) 0) lanes) n }
 {
-    let mut ok = true;
-    let mut j = 0;
-    while j < n {
-        ok = ok & (word(words, MARK_WORDS + (first + j) * MARK_STRIDE) < lanes);
-        j += 1;
-    }
-    ok
+    (0..n).all(|j| word(words, MARK_WORDS + (first + j) * MARK_STRIDE) < lanes)
 }
 
 // A section's marks: their number first, then the lane of each.
@@ -46,11 +40,5 @@ pub(crate) fn marks_ok(words: &[u16], numbers: &[f64]) -> bool
     ensures { result ≡ all_below (marks_ok words.now numbers.now) (get_or words.now section_count_at 0) }
 {
     let n = word(words, SECTION_COUNT_AT);
-    let mut ok = true;
-    let mut i = 0;
-    while i < n {
-        ok = ok & section_marks_ok(words, numbers, i);
-        i += 1;
-    }
-    ok
+    (0..n).all(|i| section_marks_ok(words, numbers, i))
 }

@@ -43,13 +43,7 @@ fn kinds_ok(words: &[u16], numbers: &[f64]) -> bool
     ensures { result ≡ kinds_ok words.now numbers.now }
 {
     let n = word(words, GEOM_COUNT_AT);
-    let mut ok = true;
-    let mut i = 0;
-    while i < n {
-        ok = ok & (word(words, KIND_WORDS + i) < 3);
-        i += 1;
-    }
-    ok
+    (0..n).all(|i| word(words, KIND_WORDS + i) < 3)
 }
 
 // The j-th lane's codes and ranges.
@@ -80,13 +74,7 @@ fn lanes_ok(words: &[u16], numbers: &[f64], first: usize, n: usize) -> bool
     requires { (first < 65536) × (n < 131072) }
     ensures { result ≡ all_below (λ j. lane_ok words.now numbers.now (first + j)) n }
 {
-    let mut ok = true;
-    let mut j = 0;
-    while j < n {
-        ok = ok & lane_ok(words, numbers, first + j);
-        j += 1;
-    }
-    ok
+    (0..n).all(|j| lane_ok(words, numbers, first + j))
 }
 
 // A section's lanes: their number first, then each.
@@ -112,13 +100,7 @@ fn sections_ok(words: &[u16], numbers: &[f64]) -> bool
     ensures { result ≡ all_below (section_ok words.now numbers.now) (get_or words.now section_count_at 0) }
 {
     let n = word(words, SECTION_COUNT_AT);
-    let mut ok = true;
-    let mut i = 0;
-    while i < n {
-        ok = ok & section_ok(words, numbers, i);
-        i += 1;
-    }
-    ok
+    (0..n).all(|i| section_ok(words, numbers, i))
 }
 
 fn profile_ok(words: &[u16], numbers: &[f64], i: usize) -> bool
@@ -139,13 +121,7 @@ fn profiles_ok(words: &[u16], numbers: &[f64]) -> bool
     ensures { result ≡ all_below (profile_ok words.now numbers.now) (get_or words.now profile_count_at 0) }
 {
     let n = word(words, PROFILE_COUNT_AT);
-    let mut ok = true;
-    let mut i = 0;
-    while i < n {
-        ok = ok & profile_ok(words, numbers, i);
-        i += 1;
-    }
-    ok
+    (0..n).all(|i| profile_ok(words, numbers, i))
 }
 
 fn column_ok(words: &[u16], numbers: &[f64], i: usize, column: usize) -> bool
@@ -179,13 +155,7 @@ fn strip_ok(words: &[u16], numbers: &[f64], i: usize) -> bool
 fn strips_ok(words: &[u16], numbers: &[f64]) -> bool
     ensures { result ≡ all_below (strip_ok words.now numbers.now) 4 }
 {
-    let mut ok = true;
-    let mut i = 0;
-    while i < 4 {
-        ok = ok & strip_ok(words, numbers, i);
-        i += 1;
-    }
-    ok
+    (0..4).all(|i| strip_ok(words, numbers, i))
 }
 
 // Whether the lent slices hold a road at all: long enough, counts within their limits, codes listed, ranges inside their tables.

@@ -12,8 +12,8 @@ use Rattle.float_laws.specs.Binary64.{◌⊕◌, ◌⊖◌, ◌⊗◌, ◌⊘◌
 use Rattle.records_cubic.specs.declared.cubics.Cubic.{Cubic}
 use Rattle.records.specs.declared.points.HeightDef.{HeightDef}
 use Rattle.records.specs.declared.points.StripKind.TheVariants.{Absent, Absolute, Relative}
-use Rattle.records.specs.declared.points.Found.{Found}
-use Rattle.records.specs.declared.points.Found.TheVariants.{At, Nothing}
+use Rattle.std.specs.declared.option.Option.{Option}
+use Rattle.std.specs.declared.option.Option.TheVariants.{Some, None}
 use Rattle.records_cubic.specs.Cubics.{cubics_of, cubic_at, eval_at}
 use Rattle.records.specs.Active.{active_in, value_in, last_start, active_up_to}
 use Rattle.records.specs.Roads.{Road, Strip, StripDef, absent, present, profile_at, strip_at, heights_of, height_def_at, strip_kind_of, column_of}
@@ -27,77 +27,77 @@ use Rattle.arithmetic_ranges.specs.Ranges.{not_below_zero}
 -- ---- a lane's heights
 
 -- the last height at or before s + 1e-9
-abbrev pub height_place : List HeightDef → Float → Found
+abbrev pub height_place : List HeightDef → Float → Option ℕ
 height_place hs s = last_start (λ (i : ℕ). (height_def_at hs i).s_offset) (active_up_to s) (length hs)
 
 module _ (hs : List HeightDef) (s : Float) where
-  pub height-next : (i : ℕ) → height_place hs s ≡ At i → i + 1 < length hs → height_of hs s ≡ height_between (height_def_at hs i) (height_def_at hs (i + 1)) s
+  pub height-next : (i : ℕ) → height_place hs s ≡ Some i → i + 1 < length hs → height_of hs s ≡ height_between (height_def_at hs i) (height_def_at hs (i + 1)) s
   unfolding height_of
   height-next i e h =
       ap (height_from hs s) e
       ∙ ap (λ (b : Bool). cond b (height_between (height_def_at hs i) (height_def_at hs (i + 1)) s) (height_held (height_def_at hs i))) (lt-ltb (i + 1) (length hs) h)
 
-  pub height-last : (i : ℕ) → height_place hs s ≡ At i → length hs ≤ i + 1 → height_of hs s ≡ height_held (height_def_at hs i)
+  pub height-last : (i : ℕ) → height_place hs s ≡ Some i → length hs ≤ i + 1 → height_of hs s ≡ height_held (height_def_at hs i)
   unfolding height_of
   height-last i e h =
       ap (height_from hs s) e
       ∙ ap (λ (b : Bool). cond b (height_between (height_def_at hs i) (height_def_at hs (i + 1)) s) (height_held (height_def_at hs i))) (le-ltb (i + 1) (length hs) h)
 
-  pub height-none : height_place hs s ≡ Nothing → length hs ≡ 0 → height_of hs s ≡ no_heights
+  pub height-none : height_place hs s ≡ None → length hs ≡ 0 → height_of hs s ≡ no_heights
   unfolding height_of
   height-none e h = ap (height_from hs s) e ∙ ap (λ (b : Bool). cond b no_heights (height_held (height_def_at hs 0))) (eq-eqb (length hs) 0 h)
 
-  pub height-first : height_place hs s ≡ Nothing → (length hs ≡ 0 → ⊥) → height_of hs s ≡ height_held (height_def_at hs 0)
+  pub height-first : height_place hs s ≡ None → (length hs ≡ 0 → ⊥) → height_of hs s ≡ height_held (height_def_at hs 0)
   unfolding height_of
   height-first e h = ap (height_from hs s) e ∙ ap (λ (b : Bool). cond b no_heights (height_held (height_def_at hs 0))) (ne_eqb (length hs) 0 h)
 
 -- the same, of a part of the lent numbers
-module _ (xs : List Float) (s : Float) {r : Found} (place : r ≡ height_place (heights_of xs) s) where
-  pub height-below : (i : ℕ) → r ≡ At i → i < length xs / 3
+module _ (xs : List Float) (s : Float) {r : Option ℕ} (place : r ≡ height_place (heights_of xs) s) where
+  pub height-below : (i : ℕ) → r ≡ Some i → i < length xs / 3
   height-below i e =
       let n = height-count xs in
       let h = last_start-below (λ (k : ℕ). (height_def_at (heights_of xs) k).s_offset) (active_up_to s) (length (heights_of xs)) i (sym place ∙ e) in
       omega arith
 
   pub height_by-next :
-      (i : ℕ) {a b : HeightDef} {p : Pair} → r ≡ At i → i + 1 < length xs / 3 → a ≡ height_def_at (heights_of xs) i → b ≡ height_def_at (heights_of xs) (i + 1)
+      (i : ℕ) {a b : HeightDef} {p : Pair} → r ≡ Some i → i + 1 < length xs / 3 → a ≡ height_def_at (heights_of xs) i → b ≡ height_def_at (heights_of xs) (i + 1)
       → p ≡ height_between a b s → p ≡ height_of (heights_of xs) s
   height_by-next i e h ea eb ep = rw (ep, ea, eb) (sym (height-next (heights_of xs) s i (sym place ∙ e) (rw (height-count xs) h)))
 
-  pub height_by-last : (i : ℕ) {a : HeightDef} {p : Pair} → r ≡ At i → length xs / 3 ≤ i + 1 → a ≡ height_def_at (heights_of xs) i → p ≡ height_held a → p ≡ height_of (heights_of xs) s
+  pub height_by-last : (i : ℕ) {a : HeightDef} {p : Pair} → r ≡ Some i → length xs / 3 ≤ i + 1 → a ≡ height_def_at (heights_of xs) i → p ≡ height_held a → p ≡ height_of (heights_of xs) s
   height_by-last i e h ea ep = rw (ep, ea) (sym (height-last (heights_of xs) s i (sym place ∙ e) (rw (height-count xs) h)))
 
-  pub height_by-none : r ≡ Nothing → length xs / 3 ≡ 0 → no_heights ≡ height_of (heights_of xs) s
+  pub height_by-none : r ≡ None → length xs / 3 ≡ 0 → no_heights ≡ height_of (heights_of xs) s
   height_by-none e h = sym (height-none (heights_of xs) s (sym place ∙ e) (height-count xs ∙ h))
 
-  pub height_by-first : {a : HeightDef} {p : Pair} → r ≡ Nothing → (length xs / 3 ≡ 0 → ⊥) → a ≡ height_def_at (heights_of xs) 0 → p ≡ height_held a → p ≡ height_of (heights_of xs) s
+  pub height_by-first : {a : HeightDef} {p : Pair} → r ≡ None → (length xs / 3 ≡ 0 → ⊥) → a ≡ height_def_at (heights_of xs) 0 → p ≡ height_held a → p ≡ height_of (heights_of xs) s
   height_by-first e h ea ep = rw (ep, ea) (sym (height-first (heights_of xs) s (sym place ∙ e) (λ z. h (sym (height-count xs) ∙ z))))
 
 -- ---- profiles
 
 -- the last profile at or before s + 1e-9
-abbrev pub profile_place : Road → Float → Found
+abbrev pub profile_place : Road → Float → Option ℕ
 profile_place road s = last_start (λ (i : ℕ). (profile_at road i).s) (active_up_to s) (length road.profiles)
 
-module _ (road : Road) (s t : Float) (n : ℕ) (count : n ≡ length road.profiles) {r : Found} (place : r ≡ profile_place road s) where
-  pub profile-below : (i : ℕ) → r ≡ At i → i < n
+module _ (road : Road) (s t : Float) (n : ℕ) (count : n ≡ length road.profiles) {r : Option ℕ} (place : r ≡ profile_place road s) where
+  pub profile-below : (i : ℕ) → r ≡ Some i → i < n
   profile-below i e = rw count (last_start-below (λ (k : ℕ). (profile_at road k).s) (active_up_to s) (length road.profiles) i (sym place ∙ e))
 
-  pub shape-next : (i : ℕ) → r ≡ At i → i + 1 < n → shape_between road i s t ≡ shape_of road s t
+  pub shape-next : (i : ℕ) → r ≡ Some i → i + 1 < n → shape_between road i s t ≡ shape_of road s t
   unfolding shape_of
   shape-next i e h =
       sym (ap (shape_from road s t) (sym place ∙ e) ∙ ap (λ (b : Bool). cond b (shape_between road i s t) (profile_height road i t)) (lt-ltb (i + 1) (length road.profiles) (rw count at h)))
 
-  pub shape-last : (i : ℕ) → r ≡ At i → n ≤ i + 1 → profile_height road i t ≡ shape_of road s t
+  pub shape-last : (i : ℕ) → r ≡ Some i → n ≤ i + 1 → profile_height road i t ≡ shape_of road s t
   unfolding shape_of
   shape-last i e h =
       sym (ap (shape_from road s t) (sym place ∙ e) ∙ ap (λ (b : Bool). cond b (shape_between road i s t) (profile_height road i t)) (le-ltb (i + 1) (length road.profiles) (rw count at h)))
 
-  pub shape-none : r ≡ Nothing → n ≡ 0 → zero64 ≡ shape_of road s t
+  pub shape-none : r ≡ None → n ≡ 0 → zero64 ≡ shape_of road s t
   unfolding shape_of
   shape-none e h = sym (ap (shape_from road s t) (sym place ∙ e) ∙ ap (λ (b : Bool). cond b zero64 (profile_height road 0 t)) (eq-eqb (length road.profiles) 0 (sym count ∙ h)))
 
-  pub shape-first : r ≡ Nothing → (n ≡ 0 → ⊥) → profile_height road 0 t ≡ shape_of road s t
+  pub shape-first : r ≡ None → (n ≡ 0 → ⊥) → profile_height road 0 t ≡ shape_of road s t
   unfolding shape_of
   shape-first e h =
       sym (ap (shape_from road s t) (sym place ∙ e) ∙ ap (λ (b : Bool). cond b zero64 (profile_height road 0 t)) (ne_eqb (length road.profiles) 0 (λ z. h (count ∙ z))))
@@ -109,16 +109,16 @@ pub shape-straight :
 unfolding shape_between
 shape-straight road i s t e f g h = rw (e, f, g, h)
 
-module _ (road : Road) (i : ℕ) (t : Float) {cs : List Cubic} {r : Found} (shapes : cs ≡ (profile_at road i).shapes) (active : r ≡ active_in cs t) where
+module _ (road : Road) (i : ℕ) (t : Float) {cs : List Cubic} {r : Option ℕ} (shapes : cs ≡ (profile_at road i).shapes) (active : r ≡ active_in cs t) where
   -- the profile's height by its cubics and the place that was found among them
-  by_place : {f : Found} → r ≡ f → shape_by cs t f ≡ profile_height road i t
+  by_place : {f : Option ℕ} → r ≡ f → shape_by cs t f ≡ profile_height road i t
   unfolding profile_height
   by_place e = ap (shape_by cs t) (sym e ∙ active) ∙ ap (λ (xs : List Cubic). shape_by xs t (active_in xs t)) shapes
 
-  pub profile-on : (k : ℕ) {c : Cubic} {x : Float} → r ≡ At k → c ≡ cubic_at cs k → x ≡ eval_at c t → x ≡ profile_height road i t
+  pub profile-on : (k : ℕ) {c : Cubic} {x : Float} → r ≡ Some k → c ≡ cubic_at cs k → x ≡ eval_at c t → x ≡ profile_height road i t
   profile-on k e ec ex = ex ∙ ap (λ (c : Cubic). eval_at c t) ec ∙ by_place e
 
-  pub profile-before : {c : Cubic} → r ≡ Nothing → c ≡ cubic_at cs 0 → c.a ≡ profile_height road i t
+  pub profile-before : {c : Cubic} → r ≡ None → c ≡ cubic_at cs 0 → c.a ≡ profile_height road i t
   profile-before e ec = ap (λ (c : Cubic). c.a) ec ∙ by_place e
 
 -- ---- strips
@@ -155,18 +155,18 @@ module _ (outer : Strip) (s t sign : Float) where
 
 module _ (inner : StripDef) (outer : Strip) (s t sign : Float) where
   pub width-at :
-      {cs : List Cubic} {f : Found} (k : ℕ) {c : Cubic} {v w x : Float} → cs ≡ inner.width → f ≡ active_in cs s → f ≡ At k → c ≡ cubic_at cs k → v ≡ eval_at c s → w ≡ not_below_zero v
+      {cs : List Cubic} {f : Option ℕ} (k : ℕ) {c : Cubic} {v w x : Float} → cs ≡ inner.width → f ≡ active_in cs s → f ≡ Some k → c ≡ cubic_at cs k → v ≡ eval_at c s → w ≡ not_below_zero v
       → x ≡ past_width inner outer s t sign w → x ≡ by_width inner outer s t sign (active_in inner.width s)
   width-at {cs} {f} k {c} {v} {w} {x} es ef ek ec ev ew ex =
-      let a : active_in inner.width s ≡ At k = ap (λ (ys : List Cubic). active_in ys s) (sym es) ∙ sym ef ∙ ek in
+      let a : active_in inner.width s ≡ Some k = ap (λ (ys : List Cubic). active_in ys s) (sym es) ∙ sym ef ∙ ek in
       let b : w ≡ not_below_zero (eval_at (cubic_at inner.width k) s) = ew ∙ ap not_below_zero (ev ∙ ap (λ (y : Cubic). eval_at y s) (ec ∙ ap (λ (ys : List Cubic). cubic_at ys k) es)) in
       ex ∙ ap (past_width inner outer s t sign) b ∙ sym (ap (by_width inner outer s t sign) a)
 
   pub width-none :
-      {cs : List Cubic} {f : Found} {x : Float} → cs ≡ inner.width → f ≡ active_in cs s → f ≡ Nothing → x ≡ strip_height inner s t
+      {cs : List Cubic} {f : Option ℕ} {x : Float} → cs ≡ inner.width → f ≡ active_in cs s → f ≡ None → x ≡ strip_height inner s t
       → x ≡ by_width inner outer s t sign (active_in inner.width s)
   width-none es ef ek ex =
-      let a : active_in inner.width s ≡ Nothing = ap (λ (ys : List Cubic). active_in ys s) (sym es) ∙ sym ef ∙ ek in
+      let a : active_in inner.width s ≡ None = ap (λ (ys : List Cubic). active_in ys s) (sym es) ∙ sym ef ∙ ek in
       ex ∙ sym (ap (by_width inner outer s t sign) a)
 
 -- past the inner strip's width, and up to it

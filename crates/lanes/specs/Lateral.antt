@@ -5,8 +5,8 @@ use Rattle.float_laws.specs.Binary64.{◌⊕◌, ◌⊖◌, ◌⊗◌, ◌⊘◌
 use Rattle.records_cubic.specs.declared.cubics.Cubic.{Cubic}
 use Rattle.arithmetic_ranges.specs.Ranges.{not_below_zero}
 use Rattle.records.specs.declared.points.HeightDef.{HeightDef}
-use Rattle.records.specs.declared.points.Found.{Found}
-use Rattle.records.specs.declared.points.Found.TheVariants.{At, Nothing}
+use Rattle.std.specs.Prelude.{Option}
+use Rattle.std.specs.Prelude.{Some, None}
 use Rattle.records_cubic.specs.Cubics.{cubic_at, eval_at}
 use Rattle.records.specs.Active.{active_in, value_in, last_start, active_up_to}
 use Rattle.records.specs.Roads.{Road, Strip, StripDef, absent, present, profile_at, strip_at, height_def_at, column_by}
@@ -19,9 +19,9 @@ blend a b f = a ⊕ (b ⊖ a) ⊗ f
 -- ---- profiles
 
 -- one profile at t: its active shape; "before a profile's first shape its a counts"
-abbrev pub shape_by : List Cubic → Float → Found → Float
-shape_by cs t (At i) = eval_at (cubic_at cs i) t
-shape_by cs t Nothing = (cubic_at cs 0).a
+abbrev pub shape_by : List Cubic → Float → Option ℕ → Float
+shape_by cs t (Some i) = eval_at (cubic_at cs i) t
+shape_by cs t None = (cubic_at cs 0).a
 
 unfoldable pub profile_height : Road → ℕ → Float → Float
 unfolding active_in
@@ -34,9 +34,9 @@ shape_between road i s t =
     blend (profile_height road i t) (profile_height road (i + 1) t) ((s ⊖ (profile_at road i).s) ⊘ ((profile_at road (i + 1)).s ⊖ (profile_at road i).s))
 
 -- i is the last profile at or before s + 1e-9; "constant outside"; 0 without profiles
-abbrev pub shape_from : Road → Float → Float → Found → Float
-shape_from road s t (At i) = cond (ltb (i + 1) (length road.profiles)) (shape_between road i s t) (profile_height road i t)
-shape_from road s t Nothing = cond (eqb (length road.profiles) 0) zero64 (profile_height road 0 t)
+abbrev pub shape_from : Road → Float → Float → Option ℕ → Float
+shape_from road s t (Some i) = cond (ltb (i + 1) (length road.profiles)) (shape_between road i s t) (profile_height road i t)
+shape_from road s t None = cond (eqb (length road.profiles) 0) zero64 (profile_height road 0 t)
 
 -- `shape_at`
 unfoldable pub shape_of : Road → Float → Float → Float
@@ -58,9 +58,9 @@ height_held h = record { inner = h.inner; outer = h.outer }
 abbrev pub no_heights : Pair
 no_heights = record { inner = zero64; outer = zero64 }
 
-abbrev pub height_from : List HeightDef → Float → Found → Pair
-height_from hs s (At i) = cond (ltb (i + 1) (length hs)) (height_between (height_def_at hs i) (height_def_at hs (i + 1)) s) (height_held (height_def_at hs i))
-height_from hs s Nothing = cond (eqb (length hs) 0) no_heights (height_held (height_def_at hs 0))
+abbrev pub height_from : List HeightDef → Float → Option ℕ → Pair
+height_from hs s (Some i) = cond (ltb (i + 1) (length hs)) (height_between (height_def_at hs i) (height_def_at hs (i + 1)) s) (height_held (height_def_at hs i))
+height_from hs s None = cond (eqb (length hs) 0) no_heights (height_held (height_def_at hs 0))
 
 unfoldable pub height_of : List HeightDef → Float → Pair
 unfolding last_start
@@ -87,9 +87,9 @@ past_width inner absent s t sign w = strip_height inner s t
 past_width inner (present outer) s t sign w = cond (lt w (sign ⊗ t)) (outer_height inner outer s t sign w) (strip_height inner s t)
 
 -- "where no inner width is active at s there is no outer"
-abbrev pub by_width : StripDef → Strip → Float → Float → Float → Found → Float
-by_width inner outer s t sign (At i) = past_width inner outer s t sign (not_below_zero (eval_at (cubic_at inner.width i) s))
-by_width inner outer s t sign Nothing = strip_height inner s t
+abbrev pub by_width : StripDef → Strip → Float → Float → Float → Option ℕ → Float
+by_width inner outer s t sign (Some i) = past_width inner outer s t sign (not_below_zero (eval_at (cubic_at inner.width i) s))
+by_width inner outer s t sign None = strip_height inner s t
 
 -- "No inner strip: 0"
 abbrev pub by_side : Strip → Strip → Float → Float → Float → Float

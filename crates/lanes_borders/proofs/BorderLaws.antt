@@ -13,8 +13,8 @@ use Rattle.float_laws.specs.Binary64.{f64, zero64}
 use Rattle.float_laws.proofs.Value.{mag, pl, mi, Real, parts→le}
 use Rattle.float_laws.proofs.Size.{Within}
 use Rattle.float_laws.proofs.Whole.{Whole}
-use Rattle.records.specs.declared.points.Found.{Found}
-use Rattle.records.specs.declared.points.Found.TheVariants.{At, Nothing}
+use Rattle.std.specs.declared.option.Option.{Option}
+use Rattle.std.specs.declared.option.Option.TheVariants.{Some, None}
 use Rattle.records_cubic.specs.Cubics.{cubic_at, eval_at}
 use Rattle.records.specs.Active.{active_in, value_in}
 use Rattle.records.specs.Roads.{Lane, no_lane}
@@ -35,7 +35,7 @@ eighty = f64 0x4054_0000_0000_0000
 
 pub record ExtentWithin (lane : Lane) (s : Float) : Type 0 where
   pub width : lane.border ≡ false → Within binary64 (value_in lane.extents s) eight
-  pub border : lane.border ≡ true → (i : ℕ) → active_in lane.extents s ≡ At i → Within binary64 (eval_at (cubic_at lane.extents i) s) thirty_six
+  pub border : lane.border ≡ true → (i : ℕ) → active_in lane.extents s ≡ Some i → Within binary64 (eval_at (cubic_at lane.extents i) s) thirty_six
 
 -- ---- the constants
 
@@ -72,12 +72,12 @@ width_fits : (lane : Lane) (right : Bool) (t s : Float) (M : ℕ) → ExtentWith
 unfolding width_of
 width_fits lane right t s M e r h l u = by_kind lane.border e.width e.border
   where
-    by-active : (a : Found) → ((i : ℕ) → a ≡ At i → Within binary64 (eval_at (cubic_at lane.extents i) s) thirty_six) → Fitted binary64 right t (not_below_zero (border_width lane (sign_of right) t s a)) (M + 8)
-    by-active (At i) w = fitted-border binary64 right (sign_of right) (eval_at (cubic_at lane.extents i) s) thirty_six zero64 t M (M + 8) (sign-whole right) (w i refl) thirty_six-whole zero-whole r h u (omega arith) (omega arith)
-    by-active Nothing w = fitted_none binary64 right zero64 t M (M + 8) zero-whole h (omega arith)
+    by-active : (a : Option ℕ) → ((i : ℕ) → a ≡ Some i → Within binary64 (eval_at (cubic_at lane.extents i) s) thirty_six) → Fitted binary64 right t (not_below_zero (border_width lane (sign_of right) t s a)) (M + 8)
+    by-active (Some i) w = fitted-border binary64 right (sign_of right) (eval_at (cubic_at lane.extents i) s) thirty_six zero64 t M (M + 8) (sign-whole right) (w i refl) thirty_six-whole zero-whole r h u (omega arith) (omega arith)
+    by-active None w = fitted_none binary64 right zero64 t M (M + 8) zero-whole h (omega arith)
 
     by_kind :
-        (b : Bool) → (b ≡ false → Within binary64 (value_in lane.extents s) eight) → (b ≡ true → (i : ℕ) → active_in lane.extents s ≡ At i → Within binary64 (eval_at (cubic_at lane.extents i) s) thirty_six)
+        (b : Bool) → (b ≡ false → Within binary64 (value_in lane.extents s) eight) → (b ≡ true → (i : ℕ) → active_in lane.extents s ≡ Some i → Within binary64 (eval_at (cubic_at lane.extents i) s) thirty_six)
         → Fitted binary64 right t (not_below_zero (cond b (border_width lane (sign_of right) t s (active_in lane.extents s)) (value_in lane.extents s))) (M + 8)
     by_kind false w b = fitted-width binary64 right (value_in lane.extents s) eight zero64 t M (M + 8) (w refl) eight-whole zero-whole h (omega arith)
     by_kind true w b = by-active (active_in lane.extents s) (b refl)

@@ -15,7 +15,7 @@ use lib.Ieee.{Float, lt, of_bits}
 use Rattle.float_laws.specs.Binary64.{◌⊖◌, ◌⊗◌, zero64}
 use Rattle.records_lent.proofs.StoreLaws.{past_head, three-stores}
 use Rattle.records_cubic.specs.declared.cubics.Cubic.{Cubic}
-use Rattle.records.specs.declared.points.Found.TheVariants.{At, Nothing}
+use Rattle.std.specs.declared.option.Option.TheVariants.{Some, None}
 use Rattle.records_cubic.specs.Cubics.{cubic_at, eval_at}
 use Rattle.records.specs.Active.{active_in, value_in}
 use Rattle.records.specs.Roads.{Road, Lane, no_lane, section_of, lane_of, road_of}
@@ -46,11 +46,11 @@ side-small words numbers i right h = go (ltb i (get_or words 5 0)) (ltb→lt i (
 
 module _ (lane : Lane) (sign inner s : Float) where
   pub border-at :
-      (xs : List Cubic) (i : ℕ) {x : Float} → xs ≡ lane.extents → active_in xs s ≡ At i → x ≡ eval_at (cubic_at xs i) s
+      (xs : List Cubic) (i : ℕ) {x : Float} → xs ≡ lane.extents → active_in xs s ≡ Some i → x ≡ eval_at (cubic_at xs i) s
       → sign ⊗ (x ⊖ inner) ≡ border_width lane sign inner s (active_in lane.extents s)
   border-at xs i p e f = rw (← p, e, f)
 
-  pub border-none : (xs : List Cubic) → xs ≡ lane.extents → active_in xs s ≡ Nothing → zero64 ≡ border_width lane sign inner s (active_in lane.extents s)
+  pub border-none : (xs : List Cubic) → xs ≡ lane.extents → active_in xs s ≡ None → zero64 ≡ border_width lane sign inner s (active_in lane.extents s)
   border-none xs p e = rw (← p, e)
 
   pub width-border : {w : Float} → lane.border ≡ true → w ≡ border_width lane sign inner s (active_in lane.extents s) → not_below_zero w ≡ width_of lane sign inner s

@@ -1,9 +1,7 @@
 -- Document 01, "Values": "Lanes by `side_borders`": the t of each lane's borders, from the center outward.
 -- sign is 1 for the left side and -1 for the right, base the t of the center. s is the distance into the section; from `base_at` on it is the station.
-use Rattle.std.specs.Prelude.{ℕ, zero, suc, ◌+◌, Bool, true, false, cond, List, [], ◌∷◌, ◌++◌, length, get_or, Float}
+use Rattle.std.specs.Prelude.{ℕ, zero, suc, ◌+◌, Bool, true, false, cond, List, [], ◌∷◌, ◌++◌, length, get_or, Float, Option, Some, None}
 use Rattle.float_laws.specs.Binary64.{◌⊕◌, ◌⊖◌, ◌⊗◌, f64, zero64}
-use Rattle.records.specs.declared.points.Found.{Found}
-use Rattle.records.specs.declared.points.Found.TheVariants.{At, Nothing}
 use Rattle.records_cubic.specs.Cubics.{cubic_at, eval_at}
 use Rattle.records.specs.Active.{active_in, value_in}
 use Rattle.records.specs.Roads.{Road, Lane, no_lane, section_of}
@@ -15,9 +13,9 @@ sign_of false = f64 0x3ff0_0000_0000_0000
 sign_of true = f64 0xbff0_0000_0000_0000
 
 -- a border lane's width: from its inner border to the border record's t; none active is 0 wide, not a border at 0
-abbrev pub border_width : Lane → Float → Float → Float → Found → Float
-border_width lane sign inner s (At i) = sign ⊗ (eval_at (cubic_at lane.extents i) s ⊖ inner)
-border_width lane sign inner s Nothing = zero64
+abbrev pub border_width : Lane → Float → Float → Float → Option ℕ → Float
+border_width lane sign inner s (Some i) = sign ⊗ (eval_at (cubic_at lane.extents i) s ⊖ inner)
+border_width lane sign inner s None = zero64
 
 -- "Width: NaN or below 0 becomes 0"
 unfoldable pub width_of : Lane → Float → Float → Float → Float

@@ -1,7 +1,6 @@
 -- Document 01: the two calls of the lanes layer. The borders, rows 3 4 5 7 11: "Samples and borders past those written stay unchanged"; a refusal "changes no memory". The lane named at t, rows 3 4 5 7 8.
-use Rattle.std.specs.Prelude.{ℕ, ◌/◌, true, List, [], ◌∷◌, ◌++◌, length, leb, Float}
+use Rattle.std.specs.Prelude.{ℕ, ◌/◌, true, List, [], ◌∷◌, ◌++◌, length, leb, ℤ, Float, Option}
 use Rattle.refusals.specs.Answer.{Answer, value, refused, Row, row, checked}
-use Rattle.refusals.specs.Refusal.{number_of}
 use Rattle.refusals.specs.declared.refusals.Refusal.TheVariants.{BorderSpace}
 use Rattle.records.specs.Roads.{road_of, section_index}
 use Rattle.admission_arguments.specs.Arguments.{station_row, across_row}
@@ -9,12 +8,6 @@ use Rattle.admission.specs.Admission.{road_rows}
 use Rattle.lanes_borders.specs.Borders.{lanes_of}
 use Rattle.lanes_border_list.specs.BorderList.{listed_by}
 use Rattle.lanes_naming.specs.Naming.{lane_named}
-use Rattle.lanes_naming.specs.declared.lane_names.LaneName.{LaneName}
-use Rattle.lanes_naming.specs.declared.lane_names.LaneName.TheVariants as name
-use Rattle.lanes_calls.specs.declared.border_call.Bordered.{Bordered}
-use Rattle.lanes_calls.specs.declared.border_call.Bordered.TheVariants as bordered
-use Rattle.lanes_calls.specs.declared.name_call.Named.{Named}
-use Rattle.lanes_calls.specs.declared.name_call.Named.TheVariants as named
 
 module _ (words : List ℕ) (numbers : List Float) where
   -- the section at s, and its lanes
@@ -51,19 +44,9 @@ module _ (words : List ℕ) (numbers : List Float) where
   name_rows s t = station_row (road_of words numbers) s ∷ across_row t ∷ []
 
   -- "Lane named at t", in the section at s
-  abbrev pub name_at : Float → Float → LaneName
+  abbrev pub name_at : Float → Float → Option ℤ
   name_at s t = lane_named (road_of words numbers) (section_at s) s t
 
   -- the lane's name or none, or the refusal
-  unfoldable pub lane_named_call : Float → Float → Answer LaneName
+  unfoldable pub lane_named_call : Float → Float → Answer (Option ℤ)
   lane_named_call s t = checked (road_rows words numbers ++ name_rows s t) (value (name_at s t))
-
--- "this paper's number and values for each case of the enum", of both answers
-abbrev pub borders_answer : Bordered → Answer ℕ
-borders_answer (bordered.Lanes n) = value n
-borders_answer (bordered.Refused r) = refused (number_of r)
-
-abbrev pub lane_named_answer : Named → Answer LaneName
-lane_named_answer (named.Lane n) = value (name.Id n)
-lane_named_answer named.Nothing = value name.Nothing
-lane_named_answer (named.Refused r) = refused (number_of r)

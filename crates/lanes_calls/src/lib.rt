@@ -4,5 +4,5 @@
 mod border_call;
 mod name_call;
 
-pub use border_call::{Bordered, borders};
-pub use name_call::{Named, lane_named};
+pub use border_call::borders;
+pub use name_call::lane_named;

@@ -6,13 +6,13 @@ ghost use Rattle.records.specs.Roads.{section_of, lane_of};
 ghost use Rattle.lanes_borders.specs.Borders.{sign_of, side_lanes, borders_from};
 ghost use Rattle.lanes_heights.specs.Heights.{level_up_to, level_heights, tilted_heights, across_by, own_heights, across_at};
 
-use records::LentRoad;
 use crate::across::Across;
 use crate::own_heights::height_at;
 use lanes::Pair;
 use lanes_borders::{LaneBorders, base_at, lane_borders, next_border, sign_of};
 use lanes_shape::height_toward;
-use records_lanes::{heights, lane_is_level};
+use records::{LanePlace, LentRoad};
+use records_lanes::lane;
 use records_sections::section_start;
 
 // ---- a lane across the road
@@ -25,20 +25,12 @@ fn level_heights(own: Pair, outer: f64, sign: f64, width: f64, tangent: f64) -> 
     }
 }
 
-fn tilted_heights(
-    road: &LentRoad,
-    s: f64,
-    own: Pair,
-    b: LaneBorders,
-    sign: f64,
-) -> Pair
+fn tilted_heights(road: &LentRoad, s: f64, own: Pair, b: LaneBorders, sign: f64) -> Pair
     ensures { result ≡ tilted_heights road.now s own b sign }
 {
-    let inner = height_toward(road, s, b.inner, sign);
-    let outer = height_toward(road, s, b.outer, sign);
     Pair {
-        inner: own.inner + inner,
-        outer: own.outer + outer,
+        inner: own.inner + height_toward(road, s, b.inner, sign),
+        outer: own.outer + height_toward(road, s, b.outer, sign),
     }
 }
 
@@ -53,104 +45,74 @@ fn across_of(b: LaneBorders, h: Pair) -> Across
     }
 }
 
-// The k-th lane from its inner border, and from the height where its inner neighbour ends.
-fn next_across(
-    road: &LentRoad,
-    section: usize,
-    s: f64,
-    tangent: f64,
-    right: bool,
-    k: usize,
-    inner: f64,
-    outer: f64,
+// Where the lane inside a place ends: the t of its outer border, its height there, and whether a lane so far is level.
+#[derive(Clone, Copy)]
+struct Edge {
+    t: f64,
+    height: f64,
     level: bool,
-) -> Across
-    ensures { result ≡ across_by road.now s (own_heights road.now section s tangent right k) (borders_from (lane_of road.now section right k) (sign_of right) inner (s ⊖ (section_of road.now section).start)) outer (sign_of right) tangent level }
+}
+
+// A lane from where its inner neighbour ends.
+fn next_across(road: &LentRoad, place: LanePlace, s: f64, tangent: f64, edge: Edge) -> Across
+    ensures { result ≡ across_by road.now s (own_heights road.now place.section s tangent place.right place.k) (borders_from (lane_of road.now place.section place.right place.k) (sign_of place.right) edge.t (s ⊖ (section_of road.now place.section).start)) edge.height (sign_of place.right) tangent edge.level }
 {
-    let into = s - section_start(road, section);
-    let b = next_border(road, section, into, right, k, inner);
-    let own = height_at(heights(road, section, right, k), into);
-    let sign = sign_of(right);
-    if level {
-        across_of(b, level_heights(own, outer, sign, b.width, tangent))
+    let into = s - section_start(road, place.section);
+    let b = next_border(road, place, into, edge.t);
+    let own = height_at(&lane(road, place).heights, into);
+    let sign = sign_of(place.right);
+    if edge.level {
+        across_of(b, level_heights(own, edge.height, sign, b.width, tangent))
     } else {
         across_of(b, tilted_heights(road, s, own, b, sign))
     }
 }
 
-// Whether the k-th lane of a side or one inside it is level.
-fn level_up_to(road: &LentRoad, section: usize, right: bool, k: usize) -> bool
-    ensures { result ≡ level_up_to (side_lanes road.now section right) k }
+// Whether a lane or one inside it is level.
+fn level_up_to(road: &LentRoad, place: LanePlace) -> bool
+    ensures { result ≡ level_up_to (side_lanes road.now place.section place.right) place.k }
 {
-    let mut found = false;
-    let mut j = 0;
-    while j < k {
-        found = found | lane_is_level(road, section, right, j);
-        j += 1;
+    (0..place.k).any(|k| lane(road, LanePlace { k, ..place }).level) | lane(road, place).level
+}
+
+// A lane across the road at s where no lane up to it is level: its neighbours' heights don't count.
+fn tilted_across(road: &LentRoad, place: LanePlace, s: f64) -> Across
+    ensures { (tangent : Float) → level_up_to (side_lanes road.now place.section place.right) place.k ≡ false → result ≡ across_at road.now place.section s tangent place.right place.k }
+{
+    let b = lane_borders(road, place, s);
+    let into = s - section_start(road, place.section);
+    let own = height_at(&lane(road, place).heights, into);
+    across_of(b, tilted_heights(road, s, own, b, sign_of(place.right)))
+}
+
+// A lane across the road at s, with every lane inside it: level holds from its lane outward, and a level lane stands on its inner neighbour.
+fn stacked_across(road: &LentRoad, place: LanePlace, s: f64, tangent: f64) -> Across
+    ensures { result ≡ across_at road.now place.section s tangent place.right place.k }
+{
+    let base = base_at(road, s);
+    let mut edge = Edge {
+        t: base,
+        height: height_toward(road, s, base, sign_of(place.right)),
+        level: false,
+    };
+    for k in 0..place.k {
+        let inner = LanePlace { k, ..place };
+        edge.level |= lane(road, inner).level;
+        let a = next_across(road, inner, s, tangent, edge);
+        edge.t = a.outer_t;
+        edge.height = a.outer_height;
     }
-    found | lane_is_level(road, section, right, k)
+    edge.level |= lane(road, place).level;
+    next_across(road, place, s, tangent, edge)
 }
 
-// The k-th lane of a side across the road at s where no lane up to it is level: its neighbours' heights don't count.
-fn tilted_across(
-    road: &LentRoad,
-    section: usize,
-    s: f64,
-    right: bool,
-    k: usize,
-) -> Across
-    ensures { (tangent : Float) → level_up_to (side_lanes road.now section right) k ≡ false → result ≡ across_at road.now section s tangent right k }
+// A lane across the road at s.
+pub fn lane_across(road: &LentRoad, place: LanePlace, s: f64, tangent: f64) -> Across
+    ensures { result ≡ across_at road.now place.section s tangent place.right place.k }
 {
-    let b = lane_borders(road, section, s, right, k);
-    let into = s - section_start(road, section);
-    let own = height_at(heights(road, section, right, k), into);
-    across_of(b, tilted_heights(road, s, own, b, sign_of(right)))
-}
-
-// The k-th lane of a side across the road at s, with every lane inside it: level holds from its lane outward, and a level lane stands on its inner neighbour.
-fn stacked_across(
-    road: &LentRoad,
-    section: usize,
-    s: f64,
-    tangent: f64,
-    right: bool,
-    k: usize,
-) -> Across
-    ensures { result ≡ across_at road.now section s tangent right k }
-{
-    let mut inner = base_at(road, s);
-    let mut outer = height_toward(road, s, inner, sign_of(right));
-    let mut level = false;
-    let mut j = 0;
-    while j < k {
-        level = level | lane_is_level(road, section, right, j);
-        let a = next_across(
-            road, section, s, tangent, right, j, inner, outer, level,
-        );
-        inner = a.outer_t;
-        outer = a.outer_height;
-        j += 1;
-    }
-    let last = level | lane_is_level(road, section, right, k);
-    next_across(
-        road, section, s, tangent, right, k, inner, outer, last,
-    )
-}
-
-// The k-th lane of a side across the road at s.
-pub fn lane_across(
-    road: &LentRoad,
-    section: usize,
-    s: f64,
-    tangent: f64,
-    right: bool,
-    k: usize,
-) -> Across
-    ensures { result ≡ across_at road.now section s tangent right k }
-{
-    if level_up_to(road, section, right, k) {
-        stacked_across(road, section, s, tangent, right, k)
+    if level_up_to(road, place) {
+        stacked_across(road, place, s, tangent)
     } else {
-        tilted_across(road, section, s, right, k)
+        tilted_across(road, place, s)
     }
 }

@@ -14,8 +14,8 @@ use Rattle.float_laws.proofs.Value.{pl, mi}
 use Rattle.float_laws.proofs.Size.{Within, within-mono, within-const, sub_within, mul-within}
 use Rattle.float_laws.proofs.Whole.{Whole}
 use Rattle.arithmetic_sine.specs.Sine.{one}
-use Rattle.records.specs.declared.points.Found.{Found}
-use Rattle.records.specs.declared.points.Found.TheVariants.{At, Nothing}
+use Rattle.std.specs.declared.option.Option.{Option}
+use Rattle.std.specs.declared.option.Option.TheVariants.{Some, None}
 use Rattle.records_cubic.specs.Cubics.{cubic_at, eval_at}
 use Rattle.records.specs.Active.{active_in, value_in}
 use Rattle.records.specs.Roads.{Road, Lane, no_lane, lane_of, section_index}
@@ -115,14 +115,14 @@ width-most : (lane : Lane) (right : Bool) (inner s : Float) → ExtentWithin lan
 unfolding width_of
 width-most lane right inner s e w = by_kind lane.border e.width e.border
   where
-    by-active : (x : Found) → ((i : ℕ) → x ≡ At i → Within binary64 (eval_at (cubic_at lane.extents i) s) thirty_six) → Within binary64 (border_width lane (sign_of right) inner s x) widest
-    by-active (At i) h =
+    by-active : (x : Option ℕ) → ((i : ℕ) → x ≡ Some i → Within binary64 (eval_at (cubic_at lane.extents i) s) thirty_six) → Within binary64 (border_width lane (sign_of right) inner s x) widest
+    by-active (Some i) h =
         signed-within right (eval_at (cubic_at lane.extents i) s ⊖ inner)
         (subst (λ (A : Float). Within binary64 (eval_at (cubic_at lane.extents i) s ⊖ inner) A) border-sum.1 (sub_within binary64 (eval_at (cubic_at lane.extents i) s) inner thirty_six eighty (h i refl) w border-sum.0))
-    by-active Nothing h = zero-widest
+    by-active None h = zero-widest
 
     by_kind :
-        (b : Bool) → (b ≡ false → Within binary64 (value_in lane.extents s) eight) → (b ≡ true → (i : ℕ) → active_in lane.extents s ≡ At i → Within binary64 (eval_at (cubic_at lane.extents i) s) thirty_six)
+        (b : Bool) → (b ≡ false → Within binary64 (value_in lane.extents s) eight) → (b ≡ true → (i : ℕ) → active_in lane.extents s ≡ Some i → Within binary64 (eval_at (cubic_at lane.extents i) s) thirty_six)
         → Within binary64 (not_below_zero (cond b (border_width lane (sign_of right) inner s (active_in lane.extents s)) (value_in lane.extents s))) widest
     by_kind false p q = raised-within (value_in lane.extents s) (within-mono binary64 (value_in lane.extents s) eight widest (p refl) widest-own.bound eight-below.0)
     by_kind true p q = raised-within (border_width lane (sign_of right) inner s (active_in lane.extents s)) (by-active (active_in lane.extents s) (q refl))

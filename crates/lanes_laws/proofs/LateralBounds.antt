@@ -13,8 +13,8 @@ use Rattle.float_laws.proofs.Value.{pl, mi}
 use Rattle.float_laws.proofs.Size.{Within, add-within, sub_within}
 use Rattle.float_laws.proofs.Checker.{good-real}
 use Rattle.records.specs.declared.points.HeightDef.{HeightDef}
-use Rattle.records.specs.declared.points.Found.{Found}
-use Rattle.records.specs.declared.points.Found.TheVariants.{At, Nothing}
+use Rattle.std.specs.declared.option.Option.{Option}
+use Rattle.std.specs.declared.option.Option.TheVariants.{Some, None}
 use Rattle.records_cubic.specs.Cubics.{cubic_at, eval_at}
 use Rattle.records.specs.Active.{active_in, value_in, last_start, active_up_to}
 use Rattle.records.specs.Roads.{Road, StripDef, present, profile_at, strip_at, height_def_at}
@@ -41,14 +41,14 @@ outer_of h = h.outer
 -- one border's height of a pair, by what it is of a height held, between two, and with none
 module _ (hs : List HeightDef) (s : Float) (border : HeightDef → Float) (part : Pair → Float) (held : (h : HeightDef) → part (height_held h) ≡ border h)
     (mid : (a b : HeightDef) → part (height_between a b s) ≡ blend (border a) (border b) ((s ⊖ a.s_offset) ⊘ (b.s_offset ⊖ a.s_offset))) (none : part no_heights ≡ zero64) where
-  border-along : (f : Found) → along (λ (i : ℕ). (height_def_at hs i).s_offset) (λ (i : ℕ). border (height_def_at hs i)) (length hs) s f ≡ part (height_from hs s f)
-  border-along (At i) = go (ltb (i + 1) (length hs))
+  border-along : (f : Option ℕ) → along (λ (i : ℕ). (height_def_at hs i).s_offset) (λ (i : ℕ). border (height_def_at hs i)) (length hs) s f ≡ part (height_from hs s f)
+  border-along (Some i) = go (ltb (i + 1) (length hs))
     where
       go : (b : Bool) → cond b (between (λ (i : ℕ). (height_def_at hs i).s_offset) (λ (i : ℕ). border (height_def_at hs i)) (length hs) s i) (border (height_def_at hs i))
           ≡ part (cond b (height_between (height_def_at hs i) (height_def_at hs (i + 1)) s) (height_held (height_def_at hs i)))
       go true = sym (mid (height_def_at hs i) (height_def_at hs (i + 1)))
       go false = sym (held (height_def_at hs i))
-  border-along Nothing = go (eqb (length hs) 0)
+  border-along None = go (eqb (length hs) 0)
     where
       go : (b : Bool) → cond b zero64 (border (height_def_at hs 0)) ≡ part (cond b no_heights (height_held (height_def_at hs 0)))
       go true = sym none
@@ -80,24 +80,24 @@ wider-two = record { size = lit≤ tt; exponent = lit< tt; real = good-real bina
 
 -- a profile at t, by the cubic that is active there or the first one's a
 pub profile-within :
-    (road : Road) (i : ℕ) (t A : Float) → ((k : ℕ) → active_in (profile_at road i).shapes t ≡ At k → Within binary64 (eval_at (cubic_at (profile_at road i).shapes k) t) A)
-    → (active_in (profile_at road i).shapes t ≡ Nothing → Within binary64 (cubic_at (profile_at road i).shapes 0).a A) → Within binary64 (profile_height road i t) A
+    (road : Road) (i : ℕ) (t A : Float) → ((k : ℕ) → active_in (profile_at road i).shapes t ≡ Some k → Within binary64 (eval_at (cubic_at (profile_at road i).shapes k) t) A)
+    → (active_in (profile_at road i).shapes t ≡ None → Within binary64 (cubic_at (profile_at road i).shapes 0).a A) → Within binary64 (profile_height road i t) A
 unfolding profile_height
 profile-within road i t A h g = go (active_in (profile_at road i).shapes t) h g
   where
-    go : (f : Found) → ((k : ℕ) → f ≡ At k → Within binary64 (eval_at (cubic_at (profile_at road i).shapes k) t) A) → (f ≡ Nothing → Within binary64 (cubic_at (profile_at road i).shapes 0).a A)
+    go : (f : Option ℕ) → ((k : ℕ) → f ≡ Some k → Within binary64 (eval_at (cubic_at (profile_at road i).shapes k) t) A) → (f ≡ None → Within binary64 (cubic_at (profile_at road i).shapes 0).a A)
         → Within binary64 (shape_by (profile_at road i).shapes t f) A
-    go (At k) h g = h k refl
-    go Nothing h g = g refl
+    go (Some k) h g = h k refl
+    go None h g = g refl
 
 -- the stations of the profiles, with their heights at t
 abbrev pub ProfilesAt : Road → Float → Float → Type 0
 ProfilesAt road t A = Stations (λ (i : ℕ). (profile_at road i).s) (λ (i : ℕ). profile_height road i t) (length road.profiles) far A
 
-shape-along : (road : Road) (s t : Float) (f : Found) → along (λ (i : ℕ). (profile_at road i).s) (λ (i : ℕ). profile_height road i t) (length road.profiles) s f ≡ shape_from road s t f
+shape-along : (road : Road) (s t : Float) (f : Option ℕ) → along (λ (i : ℕ). (profile_at road i).s) (λ (i : ℕ). profile_height road i t) (length road.profiles) s f ≡ shape_from road s t f
 unfolding shape_between
-shape-along road s t (At i) = refl
-shape-along road s t Nothing = refl
+shape-along road s t (Some i) = refl
+shape-along road s t None = refl
 
 -- profiles within A at t, and B a little larger
 pub shape-within : (road : Road) (s t : Float) {A B : Float} {j : ℕ} → Wider A B j → ProfilesAt road t A → Within binary64 s far → Within binary64 (shape_of road s t) B

@@ -15,8 +15,8 @@ use Rattle.float_laws.proofs.Value.{mag, pl, mi, Real}
 use Rattle.float_laws.proofs.Size.{Within}
 use Rattle.float_laws.proofs.Checker.{good-real}
 use Rattle.float_laws.proofs.Interpolate.{interpolate-within-outside}
-use Rattle.records.specs.declared.points.Found.{Found}
-use Rattle.records.specs.declared.points.Found.TheVariants.{At, Nothing}
+use Rattle.std.specs.declared.option.Option.{Option}
+use Rattle.std.specs.declared.option.Option.TheVariants.{Some, None}
 use Rattle.records.specs.Active.{active_margin, last_start, active_up_to}
 use Rattle.records.proofs.ScanLaws.{last_start-below, last_start-reached, last_start-after}
 use Rattle.admission_order.specs.Order.{least_gap}
@@ -99,9 +99,9 @@ module _ (start value : ℕ → Float) (n : ℕ) (s : Float) where
   between i = blend (value i) (value (i + 1)) ((s ⊖ start i) ⊘ (start (i + 1) ⊖ start i))
 
   -- linear between the stations, constant outside, 0 with none
-  abbrev pub along : Found → Float
-  along (At i) = cond (ltb (i + 1) n) (between i) (value i)
-  along Nothing = cond (eqb n 0) zero64 (value 0)
+  abbrev pub along : Option ℕ → Float
+  along (Some i) = cond (ltb (i + 1) n) (between i) (value i)
+  along None = cond (eqb n 0) zero64 (value 0)
 
 pub record Stations (start value : ℕ → Float) (n : ℕ) (R A : Float) : Type 0 where
   pub starts : (i : ℕ) → i < n → Within binary64 (start i) R
@@ -115,21 +115,21 @@ t_not : {b : Bool} → b ≡ false → T (not b)
 t_not e = subst (λ (b : Bool). T (not b)) (sym e) tt
 
 module _ (start value : ℕ → Float) (n : ℕ) (s R A B : Float) (j : ℕ) (m : Starts R) (w : Wider A B j) (k : Stations start value n R A) (ws : Within binary64 s far) where
-  between-within : (i : ℕ) → last_start start (active_up_to s) n ≡ At i → i + 1 < n → Within binary64 (between start value n s i) B
+  between-within : (i : ℕ) → last_start start (active_up_to s) n ≡ Some i → i + 1 < n → Within binary64 (between start value n s i) B
   between-within i e h =
       let l : i < n = omega arith in
       let o : i < i + 1 = omega arith in
       let q = fraction binary64 (start i) (start (i + 1)) s active_margin least_gap slack far R 1089 m ws (k.starts i l) (k.starts (i + 1) h).value (t_of (last_start-reached start (active_up_to s) n i e)) (t_not (last_start-after start (active_up_to s) n i (i + 1) e o h)) (k.apart i h) in
       blend-within (value i) (value (i + 1)) ((s ⊖ start i) ⊘ (start (i + 1) ⊖ start i)) w (k.values i l) (k.values (i + 1) h) q
 
-  at-within : (i : ℕ) → last_start start (active_up_to s) n ≡ At i → Within binary64 (along start value n s (At i)) B
+  at-within : (i : ℕ) → last_start start (active_up_to s) n ≡ Some i → Within binary64 (along start value n s (Some i)) B
   at-within i e = go (ltb (i + 1) n) (ltb-true (i + 1) n)
     where
       go : (b : Bool) → (b ≡ true → i + 1 < n) → Within binary64 (cond b (between start value n s i) (value i)) B
       go true h = between-within i e (h refl)
       go false h = widened (value i) w (k.values i (last_start-below start (active_up_to s) n i e))
 
-  none_within : Within binary64 (along start value n s Nothing) B
+  none_within : Within binary64 (along start value n s None) B
   none_within = go (eqb n 0) (eqb-false n 0)
     where
       some : (n : ℕ) → (n ≡ 0 → ⊥) → 0 < n
@@ -143,6 +143,6 @@ module _ (start value : ℕ → Float) (n : ℕ) (s R A B : Float) (j : ℕ) (m 
   pub along-within : Within binary64 (along start value n s (last_start start (active_up_to s) n)) B
   along-within = go (last_start start (active_up_to s) n) refl
     where
-      go : (f : Found) → last_start start (active_up_to s) n ≡ f → Within binary64 (along start value n s f) B
-      go (At i) e = at-within i e
-      go Nothing e = none_within
+      go : (f : Option ℕ) → last_start start (active_up_to s) n ≡ f → Within binary64 (along start value n s f) B
+      go (Some i) e = at-within i e
+      go None e = none_within

@@ -18,8 +18,8 @@ use Rattle.float_laws.proofs.Operation.{Is, differ-le, mul-differ, add-Is, sub-I
 use Rattle.float_laws.proofs.Size.{Within, is-bounded, add-within, mul-within, le_of-within, within-mono, add-fin, mul-fin, nn, nn-of_le, add-nn, mul-nn, fin-of_le}
 use Rattle.float_laws.proofs.Exact.{fixed, add-grow-l}
 use Rattle.float_laws.proofs.Checker.{good-real}
-use Rattle.records.specs.declared.points.Found.{Found}
-use Rattle.records.specs.declared.points.Found.TheVariants.{At, Nothing}
+use Rattle.std.specs.declared.option.Option.{Option}
+use Rattle.std.specs.declared.option.Option.TheVariants.{Some, None}
 use Rattle.records_cubic.specs.Cubics.{cubic_at, eval_at}
 use Rattle.records.specs.Active.{active_in, value_in}
 use Rattle.records.specs.Roads.{Road, Strip, StripDef, absent, present, strip_at}
@@ -259,10 +259,10 @@ module _ (s t R H : Float) (wt : Within binary64 t R) (r_h : Real binary64 H) (z
           outer-within inner d o (not_below_zero v) ki (ko d refl) e.0 e.1
       go false h = twice (strip_height inner s t) (ki t wt)
 
-  width-within : (inner : StripDef) (outer : Strip) (o : Float) (f : Found) → Signed binary64 o → StripWithin s R H inner → ((d : StripDef) → outer ≡ present d → StripWithin s R H d)
+  width-within : (inner : StripDef) (outer : Strip) (o : Float) (f : Option ℕ) → Signed binary64 o → StripWithin s R H inner → ((d : StripDef) → outer ≡ present d → StripWithin s R H d)
       → Within binary64 (by_width inner outer s t o f) (H ⊕ H)
-  width-within inner outer o (At k) so ki ko = past-within inner outer o (eval_at (cubic_at inner.width k) s) so (add-fits binary64 _ _) ki ko
-  width-within inner outer o Nothing so ki ko = twice (strip_height inner s t) (ki t wt)
+  width-within inner outer o (Some k) so ki ko = past-within inner outer o (eval_at (cubic_at inner.width k) s) so (add-fits binary64 _ _) ki ko
+  width-within inner outer o None so ki ko = twice (strip_height inner s t) (ki t wt)
 
   side-within : (inner outer : Strip) (o : Float) → Signed binary64 o → ((d : StripDef) → inner ≡ present d → StripWithin s R H d) → ((d : StripDef) → outer ≡ present d → StripWithin s R H d)
       → Within binary64 (by_side inner outer s t o) (H ⊕ H)

@@ -10,7 +10,7 @@ use mir.Syntax.{w32}
 use mir.Val.{SFits, of_z, to_z}
 use mir.ValLaws.{to_z_pos, to_z-of_z}
 use Rattle.float_laws.specs.Binary64.{◌⊖◌, ◌⊗◌, zero64}
-use Rattle.records.specs.declared.points.Found.{Found}
+use Rattle.std.specs.declared.option.Option.{Option}
 use Rattle.records.specs.Active.{found_of}
 use Rattle.records.specs.Roads.{Road, lane_of, section_of}
 use Rattle.lanes_borders.specs.declared.across.LaneBorders.{LaneBorders}
@@ -45,7 +45,7 @@ module _ (p : ℕ → Bool) where
   unfolding found_of last_that
   that-hit k h = rw (add-one, h)
 
-  pub that-miss : (k : ℕ) {x : Found} → p k ≡ false → x ≡ last_that p k → x ≡ last_that p (k + 1)
+  pub that-miss : (k : ℕ) {x : Option ℕ} → p k ≡ false → x ≡ last_that p k → x ≡ last_that p (k + 1)
   unfolding last_that
   that-miss k h e = rw (add-one, h) e
 

@@ -17,18 +17,12 @@ pub fn height_toward(road: &LentRoad, s: f64, t: f64, toward: f64) -> f64
 fn has_cross_section(road: &LentRoad) -> bool
     ensures { result ≡ has_cross_section road.now }
 {
-    let shifted = 0 < road.tshifts().len() / 5;
-    shifted
-        | is_present(road, 0)
-        | is_present(road, 1)
-        | is_present(road, 2)
-        | is_present(road, 3)
+    (0 < road.tshifts().len()) | (0..4).any(|i| is_present(road, i))
 }
 
 // Whether the road is flat across: neither a profile nor a cross section.
 pub fn flat_across(road: &LentRoad) -> bool
     ensures { result ≡ flat_across road.now }
 {
-    let bare = profile_count(road) == 0;
-    bare & !has_cross_section(road)
+    (profile_count(road) == 0) & !has_cross_section(road)
 }

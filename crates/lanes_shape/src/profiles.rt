@@ -4,23 +4,16 @@ ghost use Rattle.lanes.specs.Lateral.{profile_height, shape_between, shape_of};
 
 use records::LentRoad;
 use records_active::{active, profile_at};
-use records_cubic::cubic_at;
 use records_shapes::{profile_count, profile_start, shapes};
 
 // The i-th profile at t; before its first shape that shape's a.
 fn profile_height(road: &LentRoad, i: usize, t: f64) -> f64
     ensures { result ≡ profile_height road.now i t }
 {
-    let part = shapes(road, i);
-    match active(part, t) {
-        Some(k) => {
-            let c = cubic_at(part, k);
-            c.eval(t)
-        }
-        None => {
-            let c = cubic_at(part, 0);
-            c.a
-        }
+    let shapes = shapes(road, i);
+    match active(&shapes, t) {
+        Some(k) => shapes.get(k).eval(t),
+        None => shapes.get(0).a,
     }
 }
 

@@ -8,7 +8,6 @@ ghost use Rattle.lanes.specs.Lateral.{strip_height, past_width, by_width, by_sid
 use arithmetic_ranges::{abs, not_below_zero};
 use records::{LentRoad, StripKind};
 use records_active::{active, value};
-use records_cubic::cubic_at;
 use records_shapes::{strip, strip_column};
 
 // Nearer the ridge than this the side is the one that toward points to.
@@ -19,8 +18,7 @@ pub(crate) fn is_present(road: &LentRoad, i: usize) -> bool
 {
     match strip(road, i) {
         StripKind::Absent => false,
-        StripKind::Absolute => true,
-        StripKind::Relative => true,
+        StripKind::Absolute | StripKind::Relative => true,
     }
 }
 
@@ -28,7 +26,7 @@ pub(crate) fn is_present(road: &LentRoad, i: usize) -> bool
 fn column_value(road: &LentRoad, i: usize, column: usize, s: f64) -> f64
     ensures { result ≡ value_in (column_of (strip_at road.now i) column) s }
 {
-    value(strip_column(road, i, column), s)
+    value(&strip_column(road, i, column), s)
 }
 
 // The height of a strip that is there, dt across it.
@@ -43,14 +41,7 @@ fn strip_height(road: &LentRoad, i: usize, s: f64, dt: f64) -> f64
 }
 
 // The side whose inner strip is there and w wide: past the width the outer strip, if there is one, from the inner one's edge on.
-fn past_width(
-    road: &LentRoad,
-    inner: usize,
-    s: f64,
-    t: f64,
-    sign: f64,
-    w: f64,
-) -> f64
+fn past_width(road: &LentRoad, inner: usize, s: f64, t: f64, sign: f64, w: f64) -> f64
     requires { inner < 4 }
     ensures { (d : StripDef) → strip_at road.now inner ≡ present d → result ≡ past_width d (strip_at road.now (inner + 1)) s t sign w }
 {
@@ -60,8 +51,7 @@ fn past_width(
             StripKind::Absent => strip_height(road, inner, s, t),
             StripKind::Absolute => 0.0 + strip_height(road, inner + 1, s, t - edge),
             StripKind::Relative => {
-                strip_height(road, inner, s, edge)
-                    + strip_height(road, inner + 1, s, t - edge)
+                strip_height(road, inner, s, edge) + strip_height(road, inner + 1, s, t - edge)
             }
         }
     } else {
@@ -75,11 +65,15 @@ fn by_width(road: &LentRoad, inner: usize, s: f64, t: f64, sign: f64) -> f64
     ensures { (d : StripDef) → strip_at road.now inner ≡ present d → result ≡ by_width d (strip_at road.now (inner + 1)) s t sign (active_in d.width s) }
 {
     let widths = strip_column(road, inner, 0);
-    match active(widths, s) {
-        Some(k) => {
-            let c = cubic_at(widths, k);
-            past_width(road, inner, s, t, sign, not_below_zero(c.eval(s)))
-        }
+    match active(&widths, s) {
+        Some(k) => past_width(
+            road,
+            inner,
+            s,
+            t,
+            sign,
+            not_below_zero(widths.get(k).eval(s)),
+        ),
         None => strip_height(road, inner, s, t),
     }
 }
@@ -111,7 +105,7 @@ fn is_left(t: f64, toward: f64) -> bool
 pub fn cross_height(road: &LentRoad, s: f64, t: f64, toward: f64) -> f64
     ensures { result ≡ cross_height road.now s t toward }
 {
-    let shifted = t - value(road.tshifts(), s);
+    let shifted = t - value(&road.tshifts(), s);
     if is_left(shifted, toward) {
         side_height(road, 0, s, shifted, 1.0)
     } else {

@@ -1,7 +1,6 @@
 -- The pose call of the C interface. Document 01 has no such call: its rows are those of a call with samples (3 4 5 6), the geometry's own, and 7.
 use Rattle.std.specs.Prelude.{ℕ, List, [], ◌∷◌, ◌++◌, length, ltb, Float}
 use Rattle.refusals.specs.Answer.{Answer, value, refused, Row, row, checked}
-use Rattle.refusals.specs.Refusal.{number_of}
 use Rattle.refusals.specs.declared.refusals.Refusal.TheVariants.{Structure}
 use Rattle.records.specs.Roads.{Road, road_of}
 use Rattle.admission_arguments.specs.Arguments.{station_row}
@@ -9,8 +8,6 @@ use Rattle.line_samples.specs.declared.points.Pose.{Pose}
 use Rattle.line_pose.specs.Poses.{pose_of}
 use Rattle.admission.specs.Admission.{road_rows}
 use Rattle.line_calls.specs.SampleCall.{sample_row}
-use Rattle.line_calls.specs.declared.pose_answers.Posed.{Posed}
-use Rattle.line_calls.specs.declared.pose_answers.Posed.TheVariants as posed
 
 -- a geometry that the road does not have is a wrong reference: 3, of an argument, so after the road's and the samples' rows
 abbrev pub geometry_row : Road → ℕ → Row
@@ -32,8 +29,3 @@ module _ (words : List ℕ) (numbers : List Float) (samples : List Float) (geome
   -- rows 3, 4, 5, 6, the geometry's, 7; then the pose
   unfoldable pub pose_call : Answer Pose
   pose_call = checked (road_rows words numbers ++ pose_rows) (value pose_here)
-
--- the value of a `Pose`, and the number of a refusal
-abbrev pub pose_answer : Posed → Answer Pose
-pose_answer (posed.Pose p) = value p
-pose_answer (posed.Refused r) = refused (number_of r)

@@ -1,12 +1,9 @@
 -- Document 01: the samples call, rows 3 to 6. "Samples are the caller's slice, four f64 each .. only whole fours count"; "Samples .. past those written stay unchanged"; a refusal "changes no memory".
 use Rattle.std.specs.Prelude.{ℕ, ◌*◌, ◌/◌, List, [], ◌∷◌, ◌++◌, length, drop, leb, Float}
 use Rattle.refusals.specs.Answer.{Answer, value, refused, Row, row, checked}
-use Rattle.refusals.specs.Refusal.{number_of}
 use Rattle.refusals.specs.declared.refusals.Refusal.TheVariants.{SampleSpace}
 use Rattle.records.specs.Roads.{road_of}
 use Rattle.line_samples.specs.Samples.{samples_needed, samples_of}
-use Rattle.line_calls.specs.declared.sample_call.Sampled.{Sampled}
-use Rattle.line_calls.specs.declared.sample_call.Sampled.TheVariants.{Made, Refused}
 use Rattle.admission.specs.Admission.{road_rows}
 
 module _ (words : List ℕ) (numbers : List Float) where
@@ -31,8 +28,3 @@ module _ (words : List ℕ) (numbers : List Float) where
   unfoldable pub samples_list : List Float → List Float
   unfolding samples_call
   samples_list xs = samples_written (samples_call (length xs)) xs
-
--- the value of a `Made`, and the number of a refusal
-abbrev pub samples_answer : Sampled → Answer ℕ
-samples_answer (Made n) = value n
-samples_answer (Refused r) = refused (number_of r)

@@ -1,10 +1,8 @@
 // The calls of the reference line: the samples of an admitted road's spirals, and the pose of a geometry at a station.
 #![tactic(auto)]
 
-mod pose_answers;
 mod pose_call;
 mod sample_call;
 
-pub use pose_answers::Posed;
 pub use pose_call::posed;
-pub use sample_call::{Sampled, samples};
+pub use sample_call::samples;

@@ -26,17 +26,13 @@ fn leading_eights(samples: &[f64], first: usize, d: f64, n: usize) -> usize
     ensures small { result ≤ n }
 {
     let whole = samples.len() / 4;
-    let mut k = 0;
-    while k + 8 <= n {
-        if whole < first + k + 8 {
+    for eight in 0..n / 8 {
+        let k = eight * 8;
+        if whole < first + k + 8 || !eight_lead(samples, first + k, d) {
             return k;
         }
-        if !eight_lead(samples, first + k, d) {
-            return k;
-        }
-        k += 8;
     }
-    k
+    n / 8 * 8
 }
 
 // How many of the n samples from first on lead with a distance of at most d.
@@ -45,13 +41,10 @@ pub(crate) fn leading_at(samples: &[f64], first: usize, d: f64, n: usize) -> usi
     ensures value { result ≡ leading samples.now first d n }
     ensures small { result ≤ n }
 {
-    let mut k = leading_eights(samples, first, d, n);
-    while k < n {
-        if records_lent::number(samples, (first + k) * 4) <= d {
-            k += 1;
-        } else {
+    for k in leading_eights(samples, first, d, n)..n {
+        if !(records_lent::number(samples, (first + k) * 4) <= d) {
             return k;
         }
     }
-    k
+    n
 }

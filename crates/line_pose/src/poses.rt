@@ -9,10 +9,12 @@ ghost use Rattle.line_pose.specs.Bearings.{bearing_of};
 
 use crate::bearings::Bearing;
 use crate::leads::leading_at;
-use arithmetic_ranges::{abs, clamp, least, less};
+use arithmetic_ranges::{abs, clamp};
 use arithmetic_sine::sin_cos;
 use line_samples::{Pose, Sample, sample_count, samples_before};
 use records::{GeomRec, GeomShape, LentRoad, STRAIGHT_CURVATURE};
+use records_geometry::geom;
+use records_lent::number;
 
 fn line_bearing(g: GeomRec, ds: f64) -> Bearing
     ensures { result ≡ bearing_of (line_pose g ds) }
@@ -47,10 +49,10 @@ fn sample_at(samples: &[f64], first: usize, k: usize) -> Sample
 {
     let at = (first + k) * 4;
     Sample {
-        distance: records_lent::number(samples, at),
-        x: records_lent::number(samples, at + 1),
-        y: records_lent::number(samples, at + 2),
-        heading: records_lent::number(samples, at + 3),
+        distance: number(samples, at),
+        x: number(samples, at + 1),
+        y: number(samples, at + 2),
+        heading: number(samples, at + 3),
     }
 }
 
@@ -58,7 +60,7 @@ fn sample_at(samples: &[f64], first: usize, k: usize) -> Sample
 fn segment_of(lead: usize, n: usize) -> usize
     ensures { result ≡ segment lead n }
 {
-    least(less(lead, 1), less(n, 2))
+    lead.saturating_sub(1).min(n.saturating_sub(2))
 }
 
 fn fraction(a: f64, b: f64, d: f64) -> f64
@@ -81,7 +83,7 @@ fn spiral_pose(samples: &[f64], first: usize, n: usize, ds: f64) -> Pose
     requires { (first < 268435456) × (n ≤ 2002) }
     ensures { result ≡ spiral_pose samples.now first n ds }
 {
-    let last = sample_at(samples, first, less(n, 1));
+    let last = sample_at(samples, first, n.saturating_sub(1));
     let d = clamp(last.distance, ds);
     let i = segment_of(leading_at(samples, first, d, n), n);
     let a = sample_at(samples, first, i);
@@ -111,10 +113,9 @@ fn turned(pose: Pose) -> Bearing
 pub fn bearing_of(road: &LentRoad, samples: &[f64], i: usize, s: f64) -> Bearing
     ensures { result ≡ bearing_of (pose_of road.now samples.now i s) }
 {
-    let g = records_geometry::geom(road, i);
+    let g = geom(road, i);
     let ds = s - g.s;
-    let shape = g.shape;
-    match shape {
+    match g.shape {
         GeomShape::Line => line_bearing(g, ds),
         GeomShape::Arc(k) => arc_or_line(g, k, ds),
         GeomShape::Spiral(_, _) => turned(spiral_pose(
@@ -130,6 +131,5 @@ pub fn bearing_of(road: &LentRoad, samples: &[f64], i: usize, s: f64) -> Bearing
 pub fn pose(road: &LentRoad, samples: &[f64], i: usize, s: f64) -> Pose
     ensures { result ≡ pose_of road.now samples.now i s }
 {
-    let b = bearing_of(road, samples, i, s);
-    b.pose
+    bearing_of(road, samples, i, s).pose
 }

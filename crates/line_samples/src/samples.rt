@@ -5,8 +5,8 @@ ghost use Rattle.line_samples.specs.Quarters.{least_estimated, greatest_estimate
 ghost use Rattle.line_samples.specs.Samples.{most_samples, most_steps, step_at, spiral_steps, sample_count, samples_before, samples_needed, first_sample, next_sample, turn_rate, heading_at};
 
 use crate::points::Sample;
-use arithmetic_ranges::least;
 use records::{GeomRec, GeomShape, LentRoad};
+use records_geometry::geom;
 
 // All steps are as long but the last.
 const WHOLE_STEP: f64 = 0.25;
@@ -49,7 +49,7 @@ fn quarters_below(x: f64) -> usize
 {
     let inside = (LEAST_ESTIMATED <= x) & (x <= GREATEST_ESTIMATED);
     if inside {
-        let n = least(estimate(x), MOST_SAMPLES);
+        let n = estimate(x).min(MOST_SAMPLES);
         if n as f64 * WHOLE_STEP < x {
             return n;
         }
@@ -63,17 +63,15 @@ fn spiral_steps(length: f64) -> usize
     ensures small { result ≤ most_steps }
 {
     let last = length - END_MARGIN;
-    let mut n = quarters_below(last);
-    let mut u = n as f64 * WHOLE_STEP;
-    while n < MOST_STEPS {
-        if u < last {
-            u = u + step_at(length, u);
-            n += 1;
-        } else {
+    let counted = quarters_below(last);
+    let mut u = counted as f64 * WHOLE_STEP;
+    for n in counted..MOST_STEPS {
+        if !(u < last) {
             return n;
         }
+        u += step_at(length, u);
     }
-    n
+    MOST_STEPS
 }
 
 // How many samples a geometry has: none unless it is a spiral.
@@ -81,11 +79,9 @@ pub fn sample_count(g: GeomRec) -> usize
     ensures value { result ≡ sample_count g }
     ensures small { result ≤ 2002 }
 {
-    let shape = g.shape;
-    match shape {
+    match g.shape {
         GeomShape::Spiral(_, _) => spiral_steps(g.length) + 1,
-        GeomShape::Arc(_) => 0,
-        GeomShape::Line => 0,
+        GeomShape::Arc(_) | GeomShape::Line => 0,
     }
 }
 
@@ -94,12 +90,9 @@ pub fn samples_before(road: &LentRoad, i: usize) -> usize
     ensures value { result ≡ samples_before road.now i }
     ensures small { result < 268435456 }
 {
-    let n = least(i, road.geom_count());
     let mut sum = 0;
-    let mut k = 0;
-    while k < n {
-        sum += sample_count(records_geometry::geom(road, k));
-        k += 1;
+    for k in 0..i.min(road.geom_count()) {
+        sum += sample_count(geom(road, k));
     }
     sum
 }
@@ -109,23 +102,19 @@ pub fn samples_needed(road: &LentRoad) -> usize
     ensures value { result ≡ samples_needed road.now }
     ensures small { result < 268435456 }
 {
-    let all = road.geom_count();
-    samples_before(road, all)
+    samples_before(road, road.geom_count())
 }
 
 // Whether a road needs at most 2,000 samples. It stops counting at the first geometry that passes this.
 pub fn samples_fit(road: &LentRoad) -> bool
     ensures { result ≡ leb (samples_needed road.now) most_samples }
 {
-    let n = road.geom_count();
     let mut needed = 0;
-    let mut i = 0;
-    while i < n {
-        needed += sample_count(records_geometry::geom(road, i));
+    for i in 0..road.geom_count() {
+        needed += sample_count(geom(road, i));
         if MOST_SAMPLES < needed {
             return false;
         }
-        i += 1;
     }
     true
 }

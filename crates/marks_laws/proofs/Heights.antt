@@ -7,8 +7,8 @@ use lib.ListN.{length, get_or}
 use lib.Ieee.{Float}
 use Rattle.float_laws.specs.Binary64.{◌⊕◌}
 use Rattle.records_lent.specs.Lists.{any_below}
-use Rattle.records.specs.declared.points.Found.{Found}
-use Rattle.records.specs.declared.points.Found.TheVariants.{At, Nothing}
+use Rattle.std.specs.declared.option.Option.{Option}
+use Rattle.std.specs.declared.option.Option.TheVariants.{Some, None}
 use Rattle.records.specs.Active.{last_start, active_up_to}
 use Rattle.records.specs.Roads.{Road, Lane, no_lane, profile_at}
 use Rattle.lanes.specs.declared.pairs.Pair.{Pair}
@@ -25,10 +25,10 @@ abbrev laid : LaneBorders → Pair → Across
 laid b h = record { inner_t = b.inner; outer_t = b.outer; inner_height = h.inner; outer_height = h.outer }
 
 module _ (road : Road) where
-  shape_from_lem : (s t : Float) (f : Found) → shape_from (unmarked road) s t f ≡ shape_from road s t f
+  shape_from_lem : (s t : Float) (f : Option ℕ) → shape_from (unmarked road) s t f ≡ shape_from road s t f
   unfolding shape_between profile_height
-  shape_from_lem s t (At i) = refl
-  shape_from_lem s t Nothing = refl
+  shape_from_lem s t (Some i) = refl
+  shape_from_lem s t None = refl
 
   shape_is : (s t : Float) → shape_of (unmarked road) s t ≡ shape_of road s t
   unfolding shape_of

@@ -6,7 +6,7 @@ use mathlib.Core.Bool.{true, false}
 use lib.IntN.{pos}
 use lib.Ieee.{Float}
 use Rattle.refusals.specs.Answer.{Answer, value, refused}
-use Rattle.records.specs.declared.points.Found.{Found}
+use Rattle.std.specs.declared.option.Option.{Option}
 use Rattle.records.specs.declared.points.Found.TheVariants as found
 use Rattle.records.specs.Roads.{Road}
 use Rattle.lanes_naming.specs.declared.lane_names.LaneName.TheVariants.{Nothing}
@@ -32,7 +32,7 @@ module _ {A : Type 0} where
 
 -- ---- the id 0
 
-unnamed-by : (left right : Found) → id_returned (name_by left right) ≡ pos 0 → name_by left right ≡ Nothing
+unnamed-by : (left right : Option ℕ) → id_returned (name_by left right) ≡ pos 0 → name_by left right ≡ Nothing
 unnamed-by left (found.At k) e = let z : ◌≡◌ {A = ℕ} 0 1 = cc in absurd (omega arith)
 unnamed-by (found.At k) found.Nothing e = let z : suc k ≡ 0 = cc in absurd (omega arith)
 unnamed-by found.Nothing found.Nothing e = refl

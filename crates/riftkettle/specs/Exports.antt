@@ -1,9 +1,7 @@
 -- Document 01, "What a call gives back", as a C function gives it: 0 and the values behind its pointers, or the number of the refusal, and what is behind them stays.
-use Rattle.std.specs.Prelude.{ℕ, Bool, true, false, List, [], ◌∷◌, ℤ, pos, Float}
+use Rattle.std.specs.Prelude.{ℕ, Bool, true, false, List, [], ◌∷◌, ℤ, pos, Float, Option, Some, None}
 use Rattle.refusals.specs.Answer.{Answer, value, refused}
 use Rattle.records.specs.declared.points.RefPoint.{RefPoint}
-use Rattle.lanes_naming.specs.declared.lane_names.LaneName.{LaneName}
-use Rattle.lanes_naming.specs.declared.lane_names.LaneName.TheVariants.{Id, Nothing}
 use Rattle.surface_station.specs.declared.axis.Axes.{Axes}
 use Rattle.surface_points.specs.declared.points.SurfacePoint32.{SurfacePoint32}
 use Rattle.surface_locate.specs.declared.points.Position.{Position}
@@ -19,9 +17,9 @@ left_by f (value a) before = f a
 left_by f (refused n) before = before
 
 -- a lane's id; 0, which no lane has, where none is named
-abbrev pub id_returned : LaneName → ℤ
-id_returned (Id n) = n
-id_returned Nothing = pos 0
+abbrev pub id_returned : Option ℤ → ℤ
+id_returned (Some n) = n
+id_returned None = pos 0
 
 -- ---- in arrays
 

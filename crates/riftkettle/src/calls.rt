@@ -7,9 +7,6 @@ ghost use Rattle.line_calls.specs.PoseCall.{pose_call};
 ghost use Rattle.lanes_calls.specs.LaneCalls.{borders_call, borders_list, lane_named_call};
 ghost use Rattle.riftkettle.specs.Exports.{returned, left_by, id_returned};
 
-use admission::Verdict;
-use lanes_calls::{Bordered, Named};
-use line_calls::{Posed, Sampled};
 
 // Refuses 3, 4, 5.
 #[unsafe(no_mangle)]
@@ -17,8 +14,8 @@ pub extern "C" fn riftkettle_admit(words: &[u16], numbers: &[f64]) -> u32
     ensures { result ≡ returned (admit_call words.now numbers.now) }
 {
     match admission_calls::admit(words, numbers) {
-        Verdict::Admitted => 0,
-        Verdict::Refused(r) => refusals::number(r),
+        Ok(_) => 0,
+        Err(r) => u32::from(r),
     }
 }
 
@@ -35,11 +32,11 @@ pub extern "C" fn riftkettle_samples(
     ensures made_after { made.new ≡ left_by (λ n. n) (samples_call words.now numbers.now (length samples.old)) made.old }
 {
     match line_calls::samples(words, numbers, samples) {
-        Sampled::Made(n) => {
+        Ok(n) => {
             *made = n;
             0
         }
-        Sampled::Refused(r) => refusals::number(r),
+        Err(r) => u32::from(r),
     }
 }
 
@@ -57,11 +54,11 @@ pub extern "C" fn riftkettle_pose(
     ensures pose_after { pose.new ≡ left_by pose_list (pose_call words.now numbers.now samples.now geometry s) pose.old }
 {
     match line_calls::posed(words, numbers, samples, geometry, s) {
-        Posed::Pose(p) => {
+        Ok(p) => {
             *pose = [p.x, p.y, p.heading];
             0
         }
-        Posed::Refused(r) => refusals::number(r),
+        Err(r) => u32::from(r),
     }
 }
 
@@ -79,11 +76,11 @@ pub extern "C" fn riftkettle_borders(
     ensures lanes_after { lanes.new ≡ left_by (λ n. n) (borders_call words.now numbers.now s (length list.old)) lanes.old }
 {
     match lanes_calls::borders(words, numbers, s, list) {
-        Bordered::Lanes(n) => {
+        Ok(n) => {
             *lanes = n;
             0
         }
-        Bordered::Refused(r) => refusals::number(r),
+        Err(r) => u32::from(r),
     }
 }
 
@@ -100,14 +97,10 @@ pub extern "C" fn riftkettle_lane_named(
     ensures id_after { id.new ≡ left_by id_returned (lane_named_call words.now numbers.now s t) id.old }
 {
     match lanes_calls::lane_named(words, numbers, s, t) {
-        Named::Lane(n) => {
-            *id = n;
+        Ok(named) => {
+            *id = named.unwrap_or(0);
             0
         }
-        Named::Nothing => {
-            *id = 0;
-            0
-        }
-        Named::Refused(r) => refusals::number(r),
+        Err(r) => u32::from(r),
     }
 }

@@ -7,7 +7,6 @@ ghost use Rattle.arithmetic.specs.Narrow.{narrowed};
 ghost use Rattle.arithmetic_counts.specs.Count.{counts_call};
 ghost use Rattle.riftkettle.specs.Exports.{returned, left_by};
 
-use arithmetic_counts::Counted;
 
 #[unsafe(no_mangle)]
 pub extern "C" fn riftkettle_root(x: f64) -> f64
@@ -67,10 +66,10 @@ pub extern "C" fn riftkettle_counts(v: f64, count: &mut i64) -> u32
     ensures count_after { count.new ≡ left_by (λ n. n) (counts_call v) count.old }
 {
     match arithmetic_counts::counts(v) {
-        Counted::Count(n) => {
+        Ok(n) => {
             *count = n;
             0
         }
-        Counted::Refused(r) => refusals::number(r),
+        Err(r) => u32::from(r),
     }
 }

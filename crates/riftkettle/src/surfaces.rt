@@ -4,7 +4,6 @@ ghost use Rattle.surface_calls.specs.SurfaceCalls.{station_call, axes_call, surf
 ghost use Rattle.surface_calls.specs.LocateCall.{locate_call};
 ghost use Rattle.riftkettle.specs.Exports.{returned, left_by, station_list, axes_list, point_list, heading_of, pair_list, moves_of, bit_of, met_of};
 
-use surface_calls::{Located, Oriented, Stationed, Surfaced};
 
 // Refuses 3, 4, 5, 6, 7.
 #[unsafe(no_mangle)]
@@ -19,11 +18,11 @@ pub extern "C" fn riftkettle_station(
     ensures station_after { station.new ≡ left_by station_list (station_call words.now numbers.now samples.now s) station.old }
 {
     match surface_calls::station(words, numbers, samples, s) {
-        Stationed::Station(p) => {
+        Ok(p) => {
             *station = [p.s, p.x, p.y, p.heading, p.z, p.grade, p.bank, p.bank_rate];
             0
         }
-        Stationed::Refused(r) => refusals::number(r),
+        Err(r) => u32::from(r),
     }
 }
 
@@ -40,14 +39,14 @@ pub extern "C" fn riftkettle_axes(
     ensures axes_after { axes.new ≡ left_by axes_list (axes_call words.now numbers.now samples.now s) axes.old }
 {
     match surface_calls::axes(words, numbers, samples, s) {
-        Oriented::Axes(a) => {
+        Ok(a) => {
             let l = a.along;
             let v = a.across;
             let u = a.up;
             *axes = [l.x, l.y, l.z, v.x, v.y, v.z, u.x, u.y, u.z];
             0
         }
-        Oriented::Refused(r) => refusals::number(r),
+        Err(r) => u32::from(r),
     }
 }
 
@@ -67,13 +66,13 @@ pub extern "C" fn riftkettle_surface(
     ensures heading_after { heading.new ≡ left_by heading_of (surface_call words.now numbers.now samples.now s t) heading.old }
 {
     match surface_calls::surface(words, numbers, samples, s, t) {
-        Surfaced::Point(p) => {
+        Ok(p) => {
             let q = p.point;
             *point = [q.x, q.y, q.z];
             *heading = p.heading;
             0
         }
-        Surfaced::Refused(r) => refusals::number(r),
+        Err(r) => u32::from(r),
     }
 }
 
@@ -94,13 +93,13 @@ pub extern "C" fn riftkettle_lane_surface(
     ensures heading_after { heading.new ≡ left_by heading_of (lane_surface_call words.now numbers.now samples.now id s t) heading.old }
 {
     match surface_calls::lane_surface(words, numbers, samples, id, s, t) {
-        Surfaced::Point(p) => {
+        Ok(p) => {
             let q = p.point;
             *point = [q.x, q.y, q.z];
             *heading = p.heading;
             0
         }
-        Surfaced::Refused(r) => refusals::number(r),
+        Err(r) => u32::from(r),
     }
 }
 
@@ -130,13 +129,13 @@ pub extern "C" fn riftkettle_locate(
     ensures met_after { met.new ≡ left_by met_of (locate_call words.now numbers.now samples.now x y guess) met.old }
 {
     match surface_calls::locate(words, numbers, samples, x, y, guess) {
-        Located::Position(p) => {
+        Ok(p) => {
             let mark = bit(p.converged);
             *pair = [p.s, p.t];
             *moves = p.moves;
             *met = mark;
             0
         }
-        Located::Refused(r) => refusals::number(r),
+        Err(r) => u32::from(r),
     }
 }

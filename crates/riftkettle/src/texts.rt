@@ -3,7 +3,6 @@ ghost use Rattle.std.specs.Prelude.{◌≡◌, length};
 ghost use Rattle.reader_calls.specs.Reading.{reading_of, verdict_of, words_held, numbers_held, wants_held};
 ghost use Rattle.riftkettle.specs.Exports.{returned, left_by};
 
-use reader_calls::Read;
 
 // Refuses 1, 2, 3, 4, 5. A refusal leaves zeros in the three slices, and the count as it was.
 #[unsafe(no_mangle)]
@@ -21,10 +20,10 @@ pub extern "C" fn riftkettle_read(
     ensures count_after { count.new ≡ left_by (λ n. n) (verdict_of (reading_of text.now (length words.old) (length numbers.old) (length wants.old))) count.old }
 {
     match reader_calls::read(text, words, numbers, wants) {
-        Read::Accepted(n) => {
+        Ok(n) => {
             *count = n;
             0
         }
-        Read::Refused(r) => refusals::number(r),
+        Err(r) => u32::from(r),
     }
 }

@@ -7,7 +7,6 @@ ghost use Rattle.tracks_calls.specs.TrackCalls.{tangents_call, tangents_list, tr
 ghost use Rattle.riftkettle.specs.Exports.{returned, left_by};
 
 use records::Point;
-use tracks_calls::{Projected, Traced, TrackPosed};
 
 // Refuses 13, 14.
 #[unsafe(no_mangle)]
@@ -16,8 +15,8 @@ pub extern "C" fn riftkettle_track_tangents(points: &[f32], list: &mut [f32]) ->
     ensures list_after { list.new ≡ tangents_list points.now list.old }
 {
     match tracks_calls::tangents(points, list) {
-        Traced::Written(n) => 0,
-        Traced::Refused(r) => refusals::number(r),
+        Ok(n) => 0,
+        Err(r) => u32::from(r),
     }
 }
 
@@ -28,13 +27,13 @@ pub extern "C" fn riftkettle_track_pose(points: &[f32], s: f32, pose: &mut [f32;
     ensures pose_after { pose.new ≡ left_by track_pose_list (track_pose_call points.now s) pose.old }
 {
     match tracks_calls::pose_at(points, s) {
-        TrackPosed::Pose(p) => {
+        Ok(p) => {
             let at = p.position;
             let h = p.heading;
             *pose = [at.x, at.y, at.z, h.x, h.y, h.z];
             0
         }
-        TrackPosed::Refused(r) => refusals::number(r),
+        Err(r) => u32::from(r),
     }
 }
 
@@ -51,11 +50,11 @@ pub extern "C" fn riftkettle_track_project(
     ensures projection_after { projection.new ≡ left_by projection_list (project_call points.now (place x y z)) projection.old }
 {
     match tracks_calls::project(points, Point { x, y, z }) {
-        Projected::Found(p) => {
+        Ok(p) => {
             let at = p.point;
             *projection = [p.s, at.x, at.y, at.z, p.offset];
             0
         }
-        Projected::Refused(r) => refusals::number(r),
+        Err(r) => u32::from(r),
     }
 }

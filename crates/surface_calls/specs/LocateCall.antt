@@ -2,7 +2,6 @@
 use Rattle.std.specs.Prelude.{ℕ, Bool, ◌&&◌, List, [], ◌∷◌, ◌++◌, length, Float}
 use Rattle.float_laws.specs.Binary64.{f64}
 use Rattle.refusals.specs.Answer.{Answer, value, refused, Row, row, checked}
-use Rattle.refusals.specs.Refusal.{number_of}
 use Rattle.refusals.specs.declared.refusals.Refusal.TheVariants.{Station, Target}
 use Rattle.records.specs.Roads.{road_of}
 use Rattle.arithmetic_ranges.specs.Ranges.{sized, finite64}
@@ -11,8 +10,6 @@ use Rattle.line_calls.specs.SampleCall.{sample_row}
 use Rattle.surface_locate.specs.declared.points.Vector.{Vector}
 use Rattle.surface_locate.specs.declared.points.Position.{Position}
 use Rattle.surface_locate.specs.Locating.{locate_of}
-use Rattle.surface_calls.specs.declared.locate_answers.Located.{Located}
-use Rattle.surface_calls.specs.declared.locate_answers.Located.TheVariants as located
 
 -- row 7: "locate's guess not finite"
 abbrev pub guess_row : Float → Row
@@ -43,8 +40,3 @@ module _ (words : List ℕ) (numbers : List Float) (samples : List Float) (x y g
   -- rows 3, 4, 5, 6, 7, 9; then the place, its count of moves and its mark
   unfoldable pub locate_call : Answer Position
   locate_call = checked (road_rows words numbers ++ locate_rows) (value locate_here)
-
--- "this paper's number and values for each case of the enum"
-abbrev pub locate_answer : Located → Answer Position
-locate_answer (located.Position p) = value p
-locate_answer (located.Refused r) = refused (number_of r)

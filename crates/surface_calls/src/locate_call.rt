@@ -1,14 +1,14 @@
 // A place on the road, or a refusal.
 ghost use Rattle.std.specs.Prelude.{◌≡◌};
-ghost use Rattle.refusals.specs.Answer.{value, checked};
+ghost use Rattle.refusals.specs.Answer.{answered};
 ghost use Rattle.arithmetic_ranges.specs.Ranges.{finite64};
-ghost use Rattle.surface_calls.specs.LocateCall.{on_map, locate_rows, locate_here, locate_call, locate_answer};
+ghost use Rattle.surface_calls.specs.LocateCall.{on_map, locate_call};
 
-use crate::locate_answers::Located;
-use admission::Verdict;
+use admission_calls::admit;
 use arithmetic_ranges::{LARGEST, sized};
+use line_samples::samples_needed;
 use refusals::Refusal;
-use surface_locate::{Vector, locate_from};
+use surface_locate::{Position, Vector, locate_from};
 
 const GREATEST_TARGET: f64 = 2000000.0;
 
@@ -26,22 +26,6 @@ fn on_map(x: f64, y: f64) -> bool
     sized(GREATEST_TARGET, x) & sized(GREATEST_TARGET, y)
 }
 
-// Rows 6, 7 and 9, then the place.
-fn locate_at(words: &[u16], numbers: &[f64], samples: &[f64], x: f64, y: f64, guess: f64) -> Located
-    ensures { locate_answer result ≡ checked (locate_rows words.now numbers.now samples.now x y guess) (value (locate_here words.now numbers.now samples.now x y guess)) }
-{
-    if samples.len() / 4 < line_samples::samples_needed(words, numbers) {
-        return Located::Refused(Refusal::SampleSpace);
-    }
-    if !finite(guess) {
-        return Located::Refused(Refusal::Station);
-    }
-    if !on_map(x, y) {
-        return Located::Refused(Refusal::Target);
-    }
-    Located::Position(locate_from(words, numbers, samples, Vector { x, y }, guess))
-}
-
 // Where the point x, y lies on the road, from a guess of s, with the lent samples: s and t, the count of moves, and whether they converged; rows 3, 4, 5, 6, 7 and 9. On a straight road along x from the origin, target 3, 2 and guess 3: s 3, t 2, no move, converged.
 pub fn locate(
     words: &[u16],
@@ -50,11 +34,18 @@ pub fn locate(
     x: f64,
     y: f64,
     guess: f64,
-) -> Located
-    ensures { locate_answer result ≡ locate_call words.now numbers.now samples.now x y guess }
+) -> Result<Position, Refusal>
+    ensures { answered result ≡ locate_call words.now numbers.now samples.now x y guess }
 {
-    match admission_calls::admit(words, numbers) {
-        Verdict::Refused(r) => Located::Refused(r),
-        Verdict::Admitted => locate_at(words, numbers, samples, x, y, guess),
+    let road = admit(words, numbers)?;
+    if samples.len() / 4 < samples_needed(&road) {
+        return Err(Refusal::SampleSpace);
     }
+    if !finite(guess) {
+        return Err(Refusal::Station);
+    }
+    if !on_map(x, y) {
+        return Err(Refusal::Target);
+    }
+    Ok(locate_from(&road, samples, Vector { x, y }, guess))
 }

@@ -6,8 +6,8 @@ ghost use Rattle.arithmetic_distance.specs.Brackets.{brackets};
 ghost use Rattle.surface_locate.specs.Meeting.{meeting};
 ghost use Rattle.surface_locate.specs.Locating.{tolerance, miss_on, miss_at, size_of, rate_of};
 
-use records::LentRoad;
 use crate::points::{Place, Vector};
+use records::LentRoad;
 use surface_points::{Footing, footing_at, plan_on};
 
 // A miss, and a move, below which it stops.
@@ -17,12 +17,7 @@ pub(crate) const TOLERANCE: f64 = 1e-9;
 const MEETING: f64 = 0.0000009;
 
 // At t of a station.
-pub(crate) fn miss_on(
-    road: &LentRoad,
-    here: Footing,
-    target: Vector,
-    t: f64,
-) -> Vector
+pub(crate) fn miss_on(road: &LentRoad, here: Footing, target: Vector, t: f64) -> Vector
     ensures { result ≡ miss_on target (plan_on road.now here t) }
 {
     let p = plan_on(road, here, t);
@@ -32,12 +27,7 @@ pub(crate) fn miss_on(
     }
 }
 
-pub(crate) fn miss(
-    road: &LentRoad,
-    samples: &[f64],
-    target: Vector,
-    at: Place,
-) -> Vector
+pub(crate) fn miss(road: &LentRoad, samples: &[f64], target: Vector, at: Place) -> Vector
     ensures { result ≡ miss_at road.now samples.now target at }
 {
     let here = footing_at(road, samples, at.s);

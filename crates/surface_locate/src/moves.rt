@@ -4,10 +4,10 @@ ghost use Rattle.std.specs.Float.Ieee.{lt};
 ghost use Rattle.surface_points.specs.Plan.{footing_of};
 ghost use Rattle.surface_locate.specs.Locating.{tolerance, miss_at, size_of, ahead_of, newton_move, move_at};
 
-use records::LentRoad;
 use crate::misses::{TOLERANCE, miss, miss_on, rate};
 use crate::points::{Move, Place, Vector};
 use arithmetic_ranges::{abs, clamp};
+use records::LentRoad;
 use surface_points::Footing;
 
 // How far it steps to measure the rates.
@@ -66,10 +66,6 @@ pub(crate) fn move_from(
         t: at.t,
     };
     let along = rate(miss(road, samples, target, on), r, h);
-    let across = rate(
-        miss_on(road, here, target, at.t + STRIDE),
-        r,
-        STRIDE,
-    );
+    let across = rate(miss_on(road, here, target, at.t + STRIDE), r, STRIDE);
     newton(length, at, r, along, across)
 }

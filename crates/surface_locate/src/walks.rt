@@ -7,12 +7,12 @@ ghost use Rattle.surface_points.specs.Plan.{footing_of};
 ghost use Rattle.surface_locate.specs.Meeting.{meeting};
 ghost use Rattle.surface_locate.specs.Locating.{most_moves, miss_at, size_of, walk_from, locate_of};
 
-use records::LentRoad;
 use crate::misses::{miss, miss_on, near, small};
 use crate::moves::move_from;
 use crate::points::{Move, Place, Position, Vector, Walk};
 use crate::starts::first_t;
 use arithmetic_ranges::clamp;
+use records::LentRoad;
 use surface_points::{Footing, footing_at};
 
 const MOST_MOVES: u32 = 24;
@@ -25,21 +25,14 @@ struct Arrival {
 }
 
 // The moves from a place, until one is none or the last; first is that place's station.
-fn walk(
-    road: &LentRoad,
-    samples: &[f64],
-    target: Vector,
-    from: Place,
-    first: Footing,
-) -> Arrival
+fn walk(road: &LentRoad, samples: &[f64], target: Vector, from: Place, first: Footing) -> Arrival
     requires { first ≡ footing_of road.now samples.now from.s }
     ensures walk_value { result.walk ≡ walk_from road.now samples.now target most_moves from 0 }
     ensures seen { result.miss ≡ miss_at road.now samples.now target result.walk.place }
 {
     let mut at = from;
     let mut here = first;
-    let mut moves: u32 = 0;
-    while moves < MOST_MOVES {
+    for moves in 0..MOST_MOVES {
         let r = miss_on(road, here, target, at.t);
         if small(r) {
             return arrived(at, moves, r);
@@ -54,11 +47,10 @@ fn walk(
             Move::On(p) => {
                 at = p;
                 here = footing_at(road, samples, p.s);
-                moves += 1;
             }
         }
     }
-    arrived(at, moves, miss_on(road, here, target, at.t))
+    arrived(at, MOST_MOVES, miss_on(road, here, target, at.t))
 }
 
 fn arrived(place: Place, moves: u32, miss: Vector) -> Arrival
@@ -72,18 +64,11 @@ fn arrived(place: Place, moves: u32, miss: Vector) -> Arrival
 fn met(road: &LentRoad, at: Place, miss: Vector) -> bool
     ensures { result ≡ (on_road road.now at.s && across_road at.t && lt (size_of miss) meeting) }
 {
-    admission_arguments::on_road(road, at.s)
-        & admission_arguments::across(at.t)
-        & near(miss)
+    admission_arguments::on_road(road, at.s) & admission_arguments::across(at.t) & near(miss)
 }
 
 // The place that the moves find from a guess of s, the count of moves, and the mark.
-pub fn locate_from(
-    road: &LentRoad,
-    samples: &[f64],
-    target: Vector,
-    guess: f64,
-) -> Position
+pub fn locate_from(road: &LentRoad, samples: &[f64], target: Vector, guess: f64) -> Position
     ensures { result ≡ locate_of road.now samples.now target guess }
 {
     let s = clamp(road.length(), guess);

@@ -50,11 +50,11 @@ pub(crate) fn raised_xyz(
     let at = bearing_at(road, samples, s);
     let p = at.pose;
     let h = at.turn;
-    let elevation = value(road.elevations(), s);
+    let elevation = value(&road.elevations(), s);
     let plain = plain_by(p, h, bank, elevation, t);
     if height == 0.0 {
         return plain;
     }
-    let grade = slope(road.elevations(), s);
+    let grade = slope(&road.elevations(), s);
     lift(plain, up_by(h, grade, bank), height)
 }

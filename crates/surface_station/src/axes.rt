@@ -48,6 +48,6 @@ pub fn axes_at(road: &LentRoad, samples: &[f64], s: f64) -> Axes
 {
     let b = bearing_at(road, samples, s);
     let h = b.turn;
-    let grade = slope(road.elevations(), s);
+    let grade = slope(&road.elevations(), s);
     axes_by(h, grade, bank_at(road, s))
 }

@@ -30,10 +30,10 @@ pub fn bank_at(road: &LentRoad, s: f64) -> SinCos
     ensures { (result.sin ≡ sine_of (value_in road.now.superelevations s)) × (result.cos ≡ cosine_of (value_in road.now.superelevations s)) }
 {
     let banks = road.superelevations();
-    if banks.len() < 5 {
+    if banks.len() == 0 {
         return SinCos { sin: 0.0, cos: 1.0 };
     }
-    sin_cos(value(banks, s))
+    sin_cos(value(&banks, s))
 }
 
 // The eight numbers of the reference line at s: elevation and bank are 0, and so are their rates, where no record is active.
@@ -48,9 +48,9 @@ pub fn station_at(road: &LentRoad, samples: &[f64], s: f64) -> RefPoint
         x: p.x,
         y: p.y,
         heading: p.heading,
-        z: value(elev, s),
-        grade: slope(elev, s),
-        bank: value(bank, s),
-        bank_rate: slope(bank, s),
+        z: value(&elev, s),
+        grade: slope(&elev, s),
+        bank: value(&bank, s),
+        bank_rate: slope(&bank, s),
     }
 }

@@ -5,6 +5,8 @@ ghost use Rattle.lanes.specs.Lateral.{shape_of, cross_height, height_toward};
 ghost use Rattle.lanes_borders.specs.Borders.{side_lanes};
 ghost use Rattle.lanes_heights.specs.Heights.{across_at};
 
+use records::{LanePlace, LentRoad};
+
 // Answers the height. Beside it: its two parts, the section at s, and how many lanes a section has on a side.
 #[unsafe(no_mangle)]
 pub extern "C" fn probe_across(
@@ -26,11 +28,12 @@ pub extern "C" fn probe_across(
     ensures at_after { at.new ≡ section_index (lent_road words numbers) s }
     ensures count_after { count.new ≡ length (side_lanes (lent_road words numbers) section (not (eqb right 0))) }
 {
-    *shape = lanes_shape::shape_at(words, numbers, s, t);
-    *cross = lanes_shape::cross_height(words, numbers, s, t, toward);
-    *at = records_active::section_at(words, numbers, s);
-    *count = lanes_borders::lane_count(words, numbers, section, right != 0);
-    lanes_shape::height_toward(words, numbers, s, t, toward)
+    let road = LentRoad::new(words, numbers);
+    *shape = lanes_shape::shape_at(&road, s, t);
+    *cross = lanes_shape::cross_height(&road, s, t, toward);
+    *at = records_active::section_at(&road, s);
+    *count = records_sections::lane_count(&road, section, right != 0);
+    lanes_shape::height_toward(&road, s, t, toward)
 }
 
 #[unsafe(no_mangle)]
@@ -52,7 +55,9 @@ pub extern "C" fn probe_lane(
     ensures inner_height_after { inner_height.new ≡ (across_at (lent_road words numbers) section s tangent (not (eqb right 0)) k).inner_height }
     ensures outer_height_after { outer_height.new ≡ (across_at (lent_road words numbers) section s tangent (not (eqb right 0)) k).outer_height }
 {
-    let lane = lanes_heights::lane_across(words, numbers, section, s, tangent, right != 0, k);
+    let road = LentRoad::new(words, numbers);
+    let right = right != 0;
+    let lane = lanes_heights::lane_across(&road, LanePlace { section, right, k }, s, tangent);
     *inner_t = lane.inner_t;
     *outer_t = lane.outer_t;
     *inner_height = lane.inner_height;

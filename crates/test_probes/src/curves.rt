@@ -3,8 +3,7 @@ ghost use Rattle.std.specs.Prelude.{◌≡◌};
 ghost use Rattle.records_cubic.specs.Cubics.{eval_at, slope_at, cubics_of};
 ghost use Rattle.records.specs.Active.{active_in, found_of};
 
-use records::Found;
-use records_cubic::Cubic;
+use records_cubic::{Cubic, Cubics};
 
 #[unsafe(no_mangle)]
 pub extern "C" fn probe_eval(start: f64, a: f64, b: f64, c: f64, d: f64, s: f64) -> f64
@@ -27,8 +26,8 @@ pub extern "C" fn probe_slope(start: f64, a: f64, b: f64, c: f64, d: f64, s: f64
 pub extern "C" fn probe_active(part: &[f64], s: f64) -> usize
     ensures { found_of result ≡ active_in (cubics_of part.now) s }
 {
-    match records_active::active(part, s) {
-        Found::At(i) => i + 1,
-        Found::Nothing => 0,
+    match records_active::active(&Cubics { numbers: part }, s) {
+        Some(i) => i + 1,
+        None => 0,
     }
 }
