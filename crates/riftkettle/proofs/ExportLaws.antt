@@ -7,9 +7,8 @@ use lib.IntN.{pos}
 use lib.Ieee.{Float}
 use Rattle.refusals.specs.Answer.{Answer, value, refused}
 use Rattle.std.specs.declared.option.Option.{Option}
-use Rattle.records.specs.declared.points.Found.TheVariants as found
+use Rattle.std.specs.declared.option.Option.TheVariants.{None, Some}
 use Rattle.records.specs.Roads.{Road}
-use Rattle.lanes_naming.specs.declared.lane_names.LaneName.TheVariants.{Nothing}
 use Rattle.lanes_naming.specs.Naming.{named_on, name_by, lane_named}
 use Rattle.riftkettle.specs.Exports.{returned, left_by, id_returned}
 
@@ -32,12 +31,12 @@ module _ {A : Type 0} where
 
 -- ---- the id 0
 
-unnamed-by : (left right : Option ℕ) → id_returned (name_by left right) ≡ pos 0 → name_by left right ≡ Nothing
-unnamed-by left (found.At k) e = let z : ◌≡◌ {A = ℕ} 0 1 = cc in absurd (omega arith)
-unnamed-by (found.At k) found.Nothing e = let z : suc k ≡ 0 = cc in absurd (omega arith)
-unnamed-by found.Nothing found.Nothing e = refl
+unnamed-by : (left right : Option ℕ) → id_returned (name_by left right) ≡ pos 0 → name_by left right ≡ None
+unnamed-by left (Some k) e = let z : ◌≡◌ {A = ℕ} 0 1 = cc in absurd (omega arith)
+unnamed-by (Some k) None e = let z : suc k ≡ 0 = cc in absurd (omega arith)
+unnamed-by None None e = refl
 
 -- it says that no lane is named
-pub zero-unnamed : (road : Road) (i : ℕ) (s t : Float) → id_returned (lane_named road i s t) ≡ pos 0 → lane_named road i s t ≡ Nothing
+pub zero-unnamed : (road : Road) (i : ℕ) (s t : Float) → id_returned (lane_named road i s t) ≡ pos 0 → lane_named road i s t ≡ None
 unfolding lane_named
 zero-unnamed road i s t e = unnamed-by (named_on road i s t false) (named_on road i s t true) e

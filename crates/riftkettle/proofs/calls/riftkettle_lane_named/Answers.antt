@@ -2,7 +2,7 @@
 use mathlib.Core.Path.{◌≡◌, ◌∙◌}
 use mir.Syntax.{w32}
 use mir.Val.{to_z, of_z}
-use Rattle.lanes_calls.specs.LaneCalls.{lane_named_answer}
+use Rattle.refusals.specs.Answer.{answered}
 use Rattle.riftkettle.specs.Exports.{id_returned}
 use Rattle.riftkettle.proofs.ExportLaws.{told, code-value, code-refused, left-value, left-refused}
 use borrow.Author.Rules.{rules}
@@ -11,18 +11,18 @@ use Rattle.riftkettle.proofs.calls.riftkettle_lane_named.Goals as goal
 pub returns-in-Lane : goal.returns-in-Lane
 returns-in-Lane c =
     let a = c.args in
-    let e = told lane_named_answer c.lane_named.ensures c.in-Lane.is in
+    let e = told answered c.lane_named.ensures c.in-Lane.is in
     let back : to_z w32 (of_z w32 c.in-Lane.n) ≡ c.in-Lane.n = search rules in
     record { value = code-value e; id_after = back ∙ left-value id_returned a.id.now e }
 
 pub returns-in-Nothing : goal.returns-in-Nothing
 returns-in-Nothing c =
     let a = c.args in
-    let e = told lane_named_answer c.lane_named.ensures c.in-Nothing.is in
+    let e = told answered c.lane_named.ensures c.in-Nothing.is in
     record { value = code-value e; id_after = left-value id_returned a.id.now e }
 
-pub returns-in-Refused : goal.returns-in-Refused
-returns-in-Refused c =
+pub returns-in-Err : goal.returns-in-Err
+returns-in-Err c =
     let a = c.args in
-    let e = told lane_named_answer c.lane_named.ensures c.in-Refused.is in
-    record { value = c.number.ensures ∙ code-refused e; id_after = left-refused id_returned a.id.now e }
+    let e = told answered c.lane_named.ensures c.in-Err.is in
+    record { value = c.from.ensures ∙ code-refused e; id_after = left-refused id_returned a.id.now e }

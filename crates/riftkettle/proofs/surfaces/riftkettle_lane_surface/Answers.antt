@@ -5,6 +5,7 @@ use mir.Syntax.{w32}
 use mir.Val.{SFits}
 use mir.ValLaws.{to_z-of_z}
 use Rattle.surface_calls.specs.SurfaceCalls.{lane_surface_call, surface_answer}
+use Rattle.refusals.specs.Answer.{answered}
 use Rattle.riftkettle.specs.Exports.{point_list, heading_of}
 use Rattle.riftkettle.proofs.ExportLaws.{told, code-value, code-refused, left-value, left-refused}
 use borrow.Author.Rules.{rules}
@@ -19,14 +20,14 @@ held c = search rules
 held-2 : (c : After-number) → SFits w32 c.args.id
 held-2 c = search rules
 
-pub returns-in-Point : goal.returns-in-Point
-returns-in-Point c =
+pub returns-in-Ok : goal.returns-in-Ok
+returns-in-Ok c =
     let a = c.args in
-    let e = told surface_answer (c.lane_surface.ensures ∙ ap (λ (id : ℤ). lane_surface_call a.words.now a.numbers.now a.samples.now id a.s a.t) (to_z-of_z w32 a.id (held (goal.at.returns-in-Point c).After-point-1))) c.in-Point.is in
+    let e = told answered (c.lane_surface.ensures ∙ ap (λ (id : ℤ). lane_surface_call a.words.now a.numbers.now a.samples.now id a.s a.t) (to_z-of_z w32 a.id (held (goal.at.returns-in-Ok c).After-point-1))) c.in-Ok.is in
     record { value = code-value e; point_after = left-value point_list a.point.now e; heading_after = left-value heading_of a.heading.now e }
 
-pub returns-in-Refused : goal.returns-in-Refused
-returns-in-Refused c =
+pub returns-in-Err : goal.returns-in-Err
+returns-in-Err c =
     let a = c.args in
-    let e = told surface_answer (c.lane_surface.ensures ∙ ap (λ (id : ℤ). lane_surface_call a.words.now a.numbers.now a.samples.now id a.s a.t) (to_z-of_z w32 a.id (held-2 (goal.at.returns-in-Refused c).After-number))) c.in-Refused.is in
-    record { value = c.number.ensures ∙ code-refused e; point_after = left-refused point_list a.point.now e; heading_after = left-refused heading_of a.heading.now e }
+    let e = told answered (c.lane_surface.ensures ∙ ap (λ (id : ℤ). lane_surface_call a.words.now a.numbers.now a.samples.now id a.s a.t) (to_z-of_z w32 a.id (held-2 (goal.at.returns-in-Err c).After-number))) c.in-Err.is in
+    record { value = c.from.ensures ∙ code-refused e; point_after = left-refused point_list a.point.now e; heading_after = left-refused heading_of a.heading.now e }

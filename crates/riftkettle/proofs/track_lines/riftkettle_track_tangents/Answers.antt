@@ -1,15 +1,15 @@
 -- `riftkettle_track_tangents`: the answer is known by its case, and the list is as the call leaves it.
 use mathlib.Core.Path.{◌∙◌}
-use Rattle.tracks_calls.specs.TrackCalls.{tangents_answer}
+use Rattle.refusals.specs.Answer.{answered}
 use Rattle.riftkettle.proofs.ExportLaws.{told, code-value, code-refused}
 use Rattle.riftkettle.proofs.track_lines.riftkettle_track_tangents.Goals as goal
 
-pub returns-in-Written : goal.returns-in-Written
-returns-in-Written c =
+pub returns-in-Ok : goal.returns-in-Ok
+returns-in-Ok c =
     let m = c.tangents in
-    record { value = code-value (told tangents_answer m.ensures.result_value c.in-Written.is); list_after = m.ensures.list_after }
+    record { value = code-value (told answered m.ensures.result_value c.in-Ok.is); list_after = m.ensures.list_after }
 
-pub returns-in-Refused : goal.returns-in-Refused
-returns-in-Refused c =
+pub returns-in-Err : goal.returns-in-Err
+returns-in-Err c =
     let m = c.tangents in
-    record { value = c.number.ensures ∙ code-refused (told tangents_answer m.ensures.result_value c.in-Refused.is); list_after = m.ensures.list_after }
+    record { value = c.from.ensures ∙ code-refused (told answered m.ensures.result_value c.in-Err.is); list_after = m.ensures.list_after }
