@@ -11,7 +11,7 @@ use lib.IntN.{ℤ, pos, negsuc, neg_ℤ, nat_abs, ◌-ℤ◌, +ℤ_idl}
 use lib.Ieee.{Float, nan, inf, fin, Format, binary32, binary64, prec, low, up, down, hid, add, neg, mul, lt, le, fits, is_nan, to_bits, of_bits}
 use lib.Ieee.Positive.{num, den, den_pos}
 use lib.Ieee.Scale.{finite}
-use lib.Ieee.Fits.{add-fits}
+use lib.Ieee.Fits.{add-fits, and_l, and_r}
 use lib.Ieee.Bits.{to_bits-lt}
 use mir.Syntax.{w64}
 use mir.Val.{SFits, to_z, of_z}
@@ -23,6 +23,7 @@ use Rattle.float_laws.proofs.Whole.{Steps, Whole, Nearest, nearest-is, reach-plu
 use Rattle.arithmetic_counts.specs.Count.{nearest_away, nearest_whole, greatest_counted, counts_per_metre, counts_call}
 use Rattle.arithmetic_counts.specs.CountSizes.{CountSizes}
 use Rattle.refusals.specs.Answer.{value, refused}
+use Rattle.arithmetic_ranges.specs.Ranges.{in_range}
 use Rattle.arithmetic_sine.proofs.FloorLaws.{cut-plus, nearby}
 use Rattle.arithmetic_sine.proofs.FloorCases.{yes, no, hid-whole, real-no_nan}
 
@@ -317,17 +318,16 @@ module _ (p : Float) (fit : T (fits binary64 p)) (lo : T (le (neg limit) p)) (hi
   whole-plus e = nearest-plus binary64 p whole-real (from_zero binary64 p whole-real (kept e))
 
 -- ---- `counts`
-pub count-in : (v : Float) → le (neg greatest_counted) v ≡ true → le v greatest_counted ≡ true → counts_call v ≡ value (nearest_whole (mul binary64 v counts_per_metre))
-unfolding counts_call
-count-in v a b = rw (a, b)
+abbrev counted : Float → Bool
+counted v = in_range (neg greatest_counted) greatest_counted v
 
-pub count_low : (v : Float) → le (neg greatest_counted) v ≡ false → counts_call v ≡ refused 12
+pub count-in : (v : Float) → counted v ≡ true → counts_call v ≡ value (nearest_whole (mul binary64 v counts_per_metre))
 unfolding counts_call
-count_low v a = rw a
+count-in v e = rw e
 
-pub count-high : (v : Float) → le (neg greatest_counted) v ≡ true → le v greatest_counted ≡ false → counts_call v ≡ refused 12
+pub count-out : (v : Float) → counted v ≡ false → counts_call v ≡ refused 12
 unfolding counts_call
-count-high v a b = rw (a, b)
+count-out v e = rw e
 
 counted-real : Real binary64 greatest_counted
 unfolding of_bits fits
@@ -345,12 +345,14 @@ product-finite : T (finite (mul binary64 greatest_counted counts_per_metre))
 unfolding mul of_bits
 product-finite = tt
 
-module _ (v : Float) (fit : T (fits binary64 v)) (lo : le (neg greatest_counted) v ≡ true) (hi : le v greatest_counted ≡ true) where
+module _ (v : Float) (fit : T (fits binary64 v)) (e : counted v ≡ true) where
   -- |v × 10,000| is at most 800,000, rounded too
   product-within : Within binary64 (mul binary64 v counts_per_metre) limit
   product-within =
-      let r : Real binary64 v = record { finite = finite-between (neg greatest_counted) v greatest_counted (neg-real binary64 greatest_counted counted-real).finite counted-real.finite (yes lo) (yes hi); fits = fit } in
-      subst (λ (b : Float). Within binary64 (mul binary64 v counts_per_metre) b) product-limit (mul-within binary64 v counts_per_metre greatest_counted counts_per_metre (within-of_le binary64 v greatest_counted r counted-real (yes lo) (yes hi)) ten-within product-finite)
+      let lo : T (le (neg greatest_counted) v) = and_l (le (neg greatest_counted) v) (le v greatest_counted) (yes e) in
+      let hi : T (le v greatest_counted) = and_r (le (neg greatest_counted) v) (le v greatest_counted) (yes e) in
+      let r : Real binary64 v = record { finite = finite-between (neg greatest_counted) v greatest_counted (neg-real binary64 greatest_counted counted-real).finite counted-real.finite lo hi; fits = fit } in
+      subst (λ (b : Float). Within binary64 (mul binary64 v counts_per_metre) b) product-limit (mul-within binary64 v counts_per_metre greatest_counted counts_per_metre (within-of_le binary64 v greatest_counted r counted-real lo hi) ten-within product-finite)
 
   pub product-in : T (le (neg limit) (mul binary64 v counts_per_metre)) × T (le (mul binary64 v counts_per_metre) limit)
   product-in = le_of-within binary64 (mul binary64 v counts_per_metre) limit product-within
@@ -360,15 +362,14 @@ module _ (v : Float) (fit : T (fits binary64 v)) (lo : le (neg greatest_counted)
 
 -- a count is at most 800,000 either way
 pub count-bounded : CountSizes
-count-bounded v z fit e = go (le (neg greatest_counted) v) refl (le v greatest_counted) refl
+count-bounded v z fit e = go (counted v) refl
   where
-    apart : (n : ℕ) → refused n ≡ value z → ⊥
-    apart n h = let o : ◌≡◌ {A = ℕ} 0 1 = cc in omega arith
-
     same : (y : ℤ) → counts_call v ≡ value y → z ≡ y
     same y h = cc
 
-    go : (a : Bool) → le (neg greatest_counted) v ≡ a → (b : Bool) → le v greatest_counted ≡ b → nat_abs z ≤ 800000
-    go true a true b = le_trans (le_of_eq (ap nat_abs (same (nearest_whole (mul binary64 v counts_per_metre)) (count-in v a b)))) (product-bound v fit a b)
-    go true a false b = absurd (apart 12 (sym (count-high v a b) ∙ e))
-    go false a b h = absurd (apart 12 (sym (count_low v a) ∙ e))
+    apart : counts_call v ≡ refused 12 → ⊥
+    apart h = cc
+
+    go : (a : Bool) → counted v ≡ a → nat_abs z ≤ 800000
+    go true a = le_trans (le_of_eq (ap nat_abs (same (nearest_whole (mul binary64 v counts_per_metre)) (count-in v a)))) (product-bound v fit a)
+    go false a = absurd (apart (count-out v a))

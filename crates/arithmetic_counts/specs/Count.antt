@@ -1,12 +1,11 @@
 -- Document 01, "Counts (added)": v × 10,000 in f64 to the nearest whole number, halves away from zero; and row 12: a value outside -80..80, as a NaN is.
-use Rattle.std.specs.Prelude.{ℕ, ◌+◌, ◌*◌, ◌/◌, cond, ◌&&◌, ℤ, pos, neg_ℤ, Float}
+use Rattle.std.specs.Prelude.{ℕ, ◌+◌, ◌*◌, ◌/◌, cond, ℤ, pos, neg_ℤ, Float}
 use Rattle.std.specs.Float.{nan, inf, fin, binary64}
-use Rattle.std.specs.Float.Ieee.{up, down, neg, mul, le, of_bits}
+use Rattle.std.specs.Float.Ieee.{up, down, neg, mul, of_bits}
+use Rattle.arithmetic_ranges.specs.Ranges.{in_range}
 use Rattle.refusals.specs.Answer.{Answer, value, refused}
 use Rattle.refusals.specs.Refusal.{number_of}
 use Rattle.refusals.specs.declared.refusals.Refusal.TheVariants.{CountRange}
-use Rattle.arithmetic_counts.specs.declared.axis_counts.Counted.{Counted}
-use Rattle.arithmetic_counts.specs.declared.axis_counts.Counted.TheVariants.{Count, Refused}
 
 -- The whole number nearest to num / den, a half going up: the greatest that is at most num / den + 1/2. Of a size, up is away from zero.
 unfoldable pub nearest_away : ℕ → ℕ → ℕ
@@ -29,10 +28,5 @@ counts_per_metre = of_bits binary64 0x40c3_8800_0000_0000
 
 -- the count of v, or row 12
 unfoldable pub counts_call : Float → Answer ℤ
-unfolding nearest_whole le neg mul of_bits
-counts_call v = cond (le (neg greatest_counted) v && le v greatest_counted) (value (nearest_whole (mul binary64 v counts_per_metre))) (refused (number_of CountRange))
-
--- the value of a `Count`, and the number of a refusal
-abbrev pub counts_answer : Counted → Answer ℤ
-counts_answer (Count n) = value n
-counts_answer (Refused r) = refused (number_of r)
+unfolding nearest_whole neg mul of_bits
+counts_call v = cond (in_range (neg greatest_counted) greatest_counted v) (value (nearest_whole (mul binary64 v counts_per_metre))) (refused (number_of CountRange))

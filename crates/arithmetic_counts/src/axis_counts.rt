@@ -3,20 +3,16 @@ ghost use Rattle.std.specs.Prelude.{◌≡◌, T};
 ghost use Rattle.std.specs.Float.{binary64};
 ghost use Rattle.std.specs.Float.Ieee.{of_bits, neg, le};
 ghost use Rattle.std.specs.Float.Ieee.Positive.{num, den};
-ghost use Rattle.arithmetic_counts.specs.Count.{nearest_away, nearest_whole, counts_call, counts_answer};
+ghost use Rattle.refusals.specs.Answer.{answered};
+ghost use Rattle.arithmetic_counts.specs.Count.{nearest_away, nearest_whole, counts_call};
 
+use arithmetic_ranges::in_range;
 use refusals::Refusal;
 
 // The greatest size that is counted, in metres, and the counts of a metre.
 const GREATEST_COUNTED: f64 = 80.0;
 
 const COUNTS_PER_METRE: f64 = 10000.0;
-
-#[derive(Clone, Copy)]
-pub enum Counted {
-    Count(i64),
-    Refused(Refusal),
-}
 
 // The whole number nearest to a, halves up: the low bits of a + 2^52 are the nearest, halves to even, so that only a half that went down is left to move.
 fn nearest_size(a: f64) -> u64
@@ -45,13 +41,11 @@ fn nearest_whole(p: f64) -> i64
 }
 
 // v × 10,000 to the nearest whole number, halves away from zero: 1/32 gives 313, -1/32 gives -313. Refuses 12: v outside -80..80, or a NaN.
-pub fn counts(v: f64) -> Counted
-    ensures { counts_answer result ≡ counts_call v }
+pub fn counts(v: f64) -> Result<i64, Refusal>
+    ensures { answered result ≡ counts_call v }
 {
-    if -GREATEST_COUNTED <= v {
-        if v <= GREATEST_COUNTED {
-            return Counted::Count(nearest_whole(v * COUNTS_PER_METRE));
-        }
+    if in_range(-GREATEST_COUNTED, GREATEST_COUNTED, v) {
+        return Ok(nearest_whole(v * COUNTS_PER_METRE));
     }
-    Counted::Refused(Refusal::CountRange)
+    Err(Refusal::CountRange)
 }

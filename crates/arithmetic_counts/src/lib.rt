@@ -3,4 +3,4 @@
 
 mod axis_counts;
 
-pub use axis_counts::{Counted, counts};
+pub use axis_counts::counts;

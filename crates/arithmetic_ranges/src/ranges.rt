@@ -4,28 +4,30 @@ ghost use Rattle.float_laws.specs.Binary64.{abs_of};
 ghost use Rattle.arithmetic_ranges.specs.Ranges.{in_range, at_least_zero, not_below_zero, clamped, sized};
 
 // What lies in -LARGEST..LARGEST is finite.
-pub const LARGEST: f64 = 1.7976931348623157e308;
+pub const LARGEST: f64 = f64::MAX;
 
+// Not `x.abs()`, which is 0 of -0: here -0 stays.
 pub fn abs(x: f64) -> f64
     ensures { result ≡ abs_of x }
 {
     if x < 0.0 { -x } else { x }
 }
 
+// Not `x.max(0.0)`, which is 0 of a NaN: here a NaN stays.
 pub fn at_least_zero(x: f64) -> f64
     ensures { result ≡ at_least_zero x }
 {
     if x < 0.0 { 0.0 } else { x }
 }
 
-// A width: a NaN becomes 0 too, where `at_least_zero` keeps it.
+// A width: a NaN becomes 0 too, where `at_least_zero` keeps it. Not `w.max(0.0)`, which may keep -0.
 pub fn not_below_zero(w: f64) -> f64
     ensures { result ≡ not_below_zero w }
 {
     if 0.0 < w { w } else { 0.0 }
 }
 
-// Raised to 0, then lowered to the most; a NaN stays.
+// Raised to 0, then lowered to the most; a NaN stays. Not `x.clamp(0.0, most)`, which asks for a most from 0 on: lent memory gives any.
 pub fn clamp(most: f64, x: f64) -> f64
     ensures { result ≡ clamped most x }
 {
@@ -36,7 +38,7 @@ pub fn clamp(most: f64, x: f64) -> f64
 pub fn in_range(lo: f64, hi: f64, x: f64) -> bool
     ensures { result ≡ in_range lo hi x }
 {
-    (lo <= x) & (x <= hi)
+    (lo..=hi).contains(&x)
 }
 
 pub fn sized(m: f64, x: f64) -> bool
