@@ -1,24 +1,18 @@
 -- Document 01, "The job text": the tables in their order, each with its line limit and its columns, and each column with what it holds.
 -- Read `tables` and `keywords` first; below them is how they are numbered.
-use Rattle.std.specs.Prelude.{ℕ, zero, suc, ◌+◌, ◌*◌, cond, List, [], ◌∷◌, ◌++◌, map, length, get_or, eqb, ltb}
+use Rattle.std.specs.Prelude.{ℕ, zero, suc, ◌+◌, ◌*◌, cond, List, [], ◌∷◌, ◌++◌, Option, Some, None, map, length, get_or, eqb, ltb}
 use Prim.Native.Char.{code}
 use Prim.Native.String.{String}
 use Prim.Native.String as text
 use Rattle.records.specs.Layout.{most_geoms, most_elevs, most_banks, most_offsets, most_shifts, most_sections, most_lanes, most_extents, most_heights, most_profiles, most_shapes, most_cubics, most_marks, most_wants}
+use Rattle.reader_schema.specs.declared.tables.Kind.{Kind}
+use Rattle.reader_schema.specs.declared.tables.Kind.TheVariants.{Number, Whole, ShapeKind, ExtentKind, Bit, Side, Term}
 use Rattle.reader_schema.specs.Tables.{table_count, columns_most}
 
--- What a column holds: an f64, a whole number, or one of a list's words: a geometry's kind; an extent's; the words 0 and 1; a side; a term.
-pub data Content : Type 0 where
-  an_f64 : Content
-  a_whole : Content
-  a_shape_kind : Content
-  an_extent_kind : Content
-  a_bit : Content
-  a_side : Content
-  a_term : Content
-
+-- a column: what it holds, as the code has it (an f64; a whole number; or one of a list's words: a geometry's kind; an extent's; the words 0 and 1; a side; a
+-- term), and its name
 pub record Column : Type 0 where
-  pub holds : Content
+  pub holds : Kind
   pub title : String
 
 -- a table: its name, its limit of lines, its columns
@@ -29,10 +23,10 @@ pub record Table : Type 0 where
 
 -- a column of f64, and one of whole numbers
 abbrev pub number : String → Column
-number s = record { holds = an_f64; title = s }
+number s = record { holds = Number; title = s }
 
 abbrev pub whole : String → Column
-whole s = record { holds = a_whole; title = s }
+whole s = record { holds = Whole; title = s }
 
 -- "A word outside a column's listed ones is 1": these are the listed ones. level, place and relative are the words 0 and 1, term is width or 0..3.
 abbrev pub keywords : List (List String)
@@ -46,19 +40,19 @@ keywords =
 
 -- a column of the words of each of these lists
 abbrev pub shape_kind : String → Column
-shape_kind s = record { holds = a_shape_kind; title = s }
+shape_kind s = record { holds = ShapeKind; title = s }
 
 abbrev pub extent_kind : String → Column
-extent_kind s = record { holds = an_extent_kind; title = s }
+extent_kind s = record { holds = ExtentKind; title = s }
 
 abbrev pub bit : String → Column
-bit s = record { holds = a_bit; title = s }
+bit s = record { holds = Bit; title = s }
 
 abbrev pub side : String → Column
-side s = record { holds = a_side; title = s }
+side s = record { holds = Side; title = s }
 
 abbrev pub term : String → Column
-term s = record { holds = a_term; title = s }
+term s = record { holds = Term; title = s }
 
 abbrev pub abcd : List Column
 abcd = number "a" ∷ number "b" ∷ number "c" ∷ number "d" ∷ []
@@ -143,14 +137,14 @@ unfoldable pub word_count : ℕ → ℕ
 word_count list = get_or counts list 0
 
 -- what a column holds, as one number: 0 an f64, 1 a whole number, else the number of its list of words, the keywords' lists being those after the tables'
-abbrev pub kind_by : Content → ℕ
-kind_by an_f64 = 0
-kind_by a_whole = 1
-kind_by a_shape_kind = table_count
-kind_by an_extent_kind = table_count + 1
-kind_by a_bit = table_count + 2
-kind_by a_side = table_count + 3
-kind_by a_term = table_count + 4
+abbrev pub kind_by : Kind → ℕ
+kind_by Number = 0
+kind_by Whole = 1
+kind_by ShapeKind = table_count
+kind_by ExtentKind = table_count + 1
+kind_by Bit = table_count + 2
+kind_by Side = table_count + 3
+kind_by Term = table_count + 4
 
 -- the kinds of each table's columns, eight places to a table
 abbrev pub eight : List ℕ → List ℕ
@@ -172,3 +166,7 @@ seek (suc n) first word i = cond (eqb (word_of (first + i)) word) i (seek n firs
 -- the place of a word in a list, the list's count where it is not there
 unfoldable pub place_of : ℕ → ℕ → ℕ
 place_of list word = seek (word_count list) (first_of list) word 0
+
+-- the same; none where it is not there
+unfoldable pub listed_place : ℕ → ℕ → Option ℕ
+listed_place list word = cond (ltb (place_of list word) (word_count list)) (Some (place_of list word)) None

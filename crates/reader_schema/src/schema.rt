@@ -1,51 +1,107 @@
-// The schema of the job text, as data. A word of at most eight bytes is one number, its bytes base 256, so two words compare as numbers.
-ghost use Rattle.std.specs.Prelude.{◌≡◌, ◌<◌};
-ghost use Rattle.reader_schema.specs.Schema.{first_of, word_count, column_kind, word_of, place_of, name_of, limit_of};
+// The schema of the job text, as data. A word of at most eight bytes is one number, its bytes base 256, as the text's words are read: so two words
+// compare by one comparison. As text each would need its own length, and no constant here can be worked out from text.
+ghost use Rattle.std.specs.Prelude.{◌≡◌};
+ghost use Rattle.reader_schema.specs.Schema.{kind_by, first_of, word_count, column_kind, word_of, listed_place, name_of, limit_of};
 
+use crate::tables::Kind::{self, Bit, ExtentKind, Number, ShapeKind, Side, Term, Whole};
 use crate::tables::{
-    BITS, COLUMNS_MOST, CUBIC_TABLE, EXTENT_KINDS, EXTENT_TABLE, GEOM_TABLE, HEIGHT_TABLE,
-    LANE_TABLE, LIST_COUNT, MARK_TABLE, SHAPE_KINDS, SHAPE_TABLE, SIDES, STRIP_TABLE, TABLE_COUNT,
-    TERMS, WHOLE,
+    COLUMNS_MOST, CUBIC_TABLE, EXTENT_TABLE, GEOM_TABLE, HEIGHT_TABLE, LANE_TABLE, LIST_COUNT,
+    MARK_TABLE, SHAPE_TABLE, STRIP_TABLE, TABLE_COUNT,
+};
+use records::layout::{
+    MOST_BANKS, MOST_CUBICS, MOST_ELEVS, MOST_EXTENTS, MOST_GEOMS, MOST_HEIGHTS, MOST_LANES,
+    MOST_MARKS, MOST_OFFSETS, MOST_PROFILES, MOST_SECTIONS, MOST_SHAPES, MOST_SHIFTS, WANT_STRIDE,
+    WANTS_NEEDED,
 };
 
-// The tables' names, in their order.
-const NAMES: [u64; TABLE_COUNT] = [
-    0x726f6164, // road
-    0x67656f6d, // geom
-    0x656c6576, // elev
-    0x62616e6b, // bank
-    0x6f6666736574, // offset
-    0x747368696674, // tshift
-    0x73656374696f6e, // section
-    0x6c616e65, // lane
-    0x657874656e74, // extent
-    0x686569676874, // height
-    0x70726f66696c65, // profile
-    0x7368617065, // shape
-    0x7374726970, // strip
-    0x6375626963, // cubic
-    0x6d61726b, // mark
-    0x77616e74, // want
-];
+#[derive(Clone, Copy)]
+struct Table {
+    name: u64,
+    limit: u16,
+}
 
-// The most lines of each table.
-const LINES: [u16; TABLE_COUNT] = [
-    1, // road
-    64, // geom
-    64, // elev
-    64, // bank
-    64, // offset
-    64, // tshift
-    16, // section
-    192, // lane
-    512, // extent
-    512, // height
-    16, // profile
-    256, // shape
-    4, // strip
-    160, // cubic
-    256, // mark
-    16, // want
+// The tables, in their order: their names, and the most lines of each.
+const TABLES: [Table; TABLE_COUNT] = [
+    // road
+    Table {
+        name: 0x726f6164,
+        limit: 1,
+    },
+    // geom
+    Table {
+        name: 0x67656f6d,
+        limit: MOST_GEOMS as u16,
+    },
+    // elev
+    Table {
+        name: 0x656c6576,
+        limit: MOST_ELEVS as u16,
+    },
+    // bank
+    Table {
+        name: 0x62616e6b,
+        limit: MOST_BANKS as u16,
+    },
+    // offset
+    Table {
+        name: 0x6f6666736574,
+        limit: MOST_OFFSETS as u16,
+    },
+    // tshift
+    Table {
+        name: 0x747368696674,
+        limit: MOST_SHIFTS as u16,
+    },
+    // section
+    Table {
+        name: 0x73656374696f6e,
+        limit: MOST_SECTIONS as u16,
+    },
+    // lane
+    Table {
+        name: 0x6c616e65,
+        limit: MOST_LANES as u16,
+    },
+    // extent
+    Table {
+        name: 0x657874656e74,
+        limit: MOST_EXTENTS as u16,
+    },
+    // height
+    Table {
+        name: 0x686569676874,
+        limit: MOST_HEIGHTS as u16,
+    },
+    // profile
+    Table {
+        name: 0x70726f66696c65,
+        limit: MOST_PROFILES as u16,
+    },
+    // shape
+    Table {
+        name: 0x7368617065,
+        limit: MOST_SHAPES as u16,
+    },
+    // strip
+    Table {
+        name: 0x7374726970,
+        limit: 4,
+    },
+    // cubic
+    Table {
+        name: 0x6375626963,
+        limit: MOST_CUBICS as u16,
+    },
+    // mark
+    Table {
+        name: 0x6d61726b,
+        limit: MOST_MARKS as u16,
+    },
+    // want
+    Table {
+        name: 0x77616e74,
+        limit: (WANTS_NEEDED / WANT_STRIDE) as u16,
+    },
 ];
 
 // How many words the tables' columns have, and the keyword columns.
@@ -169,85 +225,84 @@ const KEYWORDS: [u64; KEYWORD_WORDS] = [
     0x33, // 3
 ];
 
-// Where each list starts among the words, and how many words it has.
-const FIRSTS: [u8; LIST_COUNT] = [
-    0, // road
-    1, // geom
-    9, // elev
-    14, // bank
-    19, // offset
-    24, // tshift
-    29, // section
-    30, // lane
-    34, // extent
-    41, // height
-    46, // profile
-    47, // shape
-    53, // strip
-    56, // cubic
-    64, // mark
-    69, // want
-    71, // kind
-    74, // extent
-    76, // level, place, relative
-    78, // side
-    80, // term
+// Where a list starts among the words, and how many words it has.
+#[derive(Clone, Copy)]
+struct List {
+    from: u8,
+    len: u8,
+}
+
+const LISTS: [List; LIST_COUNT] = [
+    List { from: 0, len: 1 }, // road
+    List { from: 1, len: 8 }, // geom
+    List { from: 9, len: 5 }, // elev
+    List { from: 14, len: 5 }, // bank
+    List { from: 19, len: 5 }, // offset
+    List { from: 24, len: 5 }, // tshift
+    List { from: 29, len: 1 }, // section
+    List { from: 30, len: 4 }, // lane
+    List { from: 34, len: 7 }, // extent
+    List { from: 41, len: 5 }, // height
+    List { from: 46, len: 1 }, // profile
+    List { from: 47, len: 6 }, // shape
+    List { from: 53, len: 3 }, // strip
+    List { from: 56, len: 8 }, // cubic
+    List { from: 64, len: 5 }, // mark
+    List { from: 69, len: 2 }, // want
+    List { from: 71, len: 3 }, // kind
+    List { from: 74, len: 2 }, // extent
+    List { from: 76, len: 2 }, // level, place, relative
+    List { from: 78, len: 2 }, // side
+    List { from: 80, len: 5 }, // term
 ];
 
-const COUNTS: [u8; LIST_COUNT] = [
-    1, // road
-    8, // geom
-    5, // elev
-    5, // bank
-    5, // offset
-    5, // tshift
-    1, // section
-    4, // lane
-    7, // extent
-    5, // height
-    1, // profile
-    6, // shape
-    3, // strip
-    8, // cubic
-    5, // mark
-    2, // want
-    3, // kind
-    2, // extent
-    2, // level, place, relative
-    2, // side
-    5, // term
-];
-
-// What each column of a table holds: 0 an f64, else as tables.rt numbers it. The other tables hold f64 alone.
+// What each column of a table holds, a number where it has no column. The other tables hold numbers alone.
 // Each table has a constant of its own, again a short one.
-const GEOM: [u8; COLUMNS_MOST] = [0, 0, 0, 0, 0, SHAPE_KINDS, 0, 0];
+const GEOM: [Kind; COLUMNS_MOST] = [
+    Number, Number, Number, Number, Number, ShapeKind, Number, Number,
+];
 
-const LANE: [u8; COLUMNS_MOST] = [WHOLE, WHOLE, EXTENT_KINDS, BITS, 0, 0, 0, 0];
+const LANE: [Kind; COLUMNS_MOST] = [
+    Whole, Whole, ExtentKind, Bit, Number, Number, Number, Number,
+];
 
-const EXTENT: [u8; COLUMNS_MOST] = [WHOLE, WHOLE, 0, 0, 0, 0, 0, 0];
+const EXTENT: [Kind; COLUMNS_MOST] = [Whole, Whole, Number, Number, Number, Number, Number, Number];
 
-const HEIGHT: [u8; COLUMNS_MOST] = [WHOLE, WHOLE, 0, 0, 0, 0, 0, 0];
+const HEIGHT: [Kind; COLUMNS_MOST] = [Whole, Whole, Number, Number, Number, Number, Number, Number];
 
-const SHAPE: [u8; COLUMNS_MOST] = [WHOLE, 0, 0, 0, 0, 0, 0, 0];
+const SHAPE: [Kind; COLUMNS_MOST] = [
+    Whole, Number, Number, Number, Number, Number, Number, Number,
+];
 
-const STRIP: [u8; COLUMNS_MOST] = [SIDES, BITS, BITS, 0, 0, 0, 0, 0];
+const STRIP: [Kind; COLUMNS_MOST] = [Side, Bit, Bit, Number, Number, Number, Number, Number];
 
-const CUBIC: [u8; COLUMNS_MOST] = [SIDES, BITS, TERMS, 0, 0, 0, 0, 0];
+const CUBIC: [Kind; COLUMNS_MOST] = [Side, Bit, Term, Number, Number, Number, Number, Number];
 
-const MARK: [u8; COLUMNS_MOST] = [WHOLE, WHOLE, 0, 0, WHOLE, 0, 0, 0];
+const MARK: [Kind; COLUMNS_MOST] = [Whole, Whole, Number, Number, Whole, Number, Number, Number];
+
+// A table; past the last one none, of no lines.
+fn table_of(table: usize) -> Table
+    ensures { (result.name ≡ name_of table) × (result.limit ≡ limit_of table) }
+{
+    if table < TABLE_COUNT {
+        TABLES[table]
+    } else {
+        Table { name: 0, limit: 0 }
+    }
+}
 
 // The name of a table as a number; 0, which no word is, past the last table.
 pub fn table_name(table: usize) -> u64
     ensures { result ≡ name_of table }
 {
-    if table < TABLE_COUNT { NAMES[table] } else { 0 }
+    table_of(table).name
 }
 
 // The most lines of a table, 0 past the last table.
 pub fn limit_of(table: usize) -> u16
     ensures { result ≡ limit_of table }
 {
-    if table < TABLE_COUNT { LINES[table] } else { 0 }
+    table_of(table).limit
 }
 
 // Word i of all lists, 0 past the last.
@@ -264,26 +319,30 @@ fn word_of(i: usize) -> u64
     }
 }
 
-// Where a list of words starts.
-fn first_of(list: usize) -> u8
-    ensures { result ≡ first_of list }
+// Where a list of words starts, and how many words it has: none past the last list.
+fn list_of(list: usize) -> List
+    ensures { (result.from ≡ first_of list) × (result.len ≡ word_count list) }
 {
-    if list < LIST_COUNT { FIRSTS[list] } else { 0 }
+    if list < LIST_COUNT {
+        LISTS[list]
+    } else {
+        List { from: 0, len: 0 }
+    }
 }
 
 // How many words a list has: for a table's number, how many columns. 0 past the last list.
 pub fn count_of(list: usize) -> u8
     ensures { result ≡ word_count list }
 {
-    if list < LIST_COUNT { COUNTS[list] } else { 0 }
+    list_of(list).len
 }
 
-// What a column of a table holds: 0 an f64, 1 a whole number, else the list of its words.
-pub fn kind_of(table: usize, column: usize) -> u8
-    ensures { result ≡ column_kind table column }
+// What a column of a table holds: past the last column, or the last table, an f64.
+pub fn kind_of(table: usize, column: usize) -> Kind
+    ensures { kind_by result ≡ column_kind table column }
 {
     if COLUMNS_MOST <= column {
-        return 0;
+        return Number;
     }
     match table {
         GEOM_TABLE => GEOM[column],
@@ -294,22 +353,19 @@ pub fn kind_of(table: usize, column: usize) -> u8
         STRIP_TABLE => STRIP[column],
         CUBIC_TABLE => CUBIC[column],
         MARK_TABLE => MARK[column],
-        _ => 0,
+        _ => Number,
     }
 }
 
-// The place of a word in a list, the list's count where it is not there.
-pub fn place_of(list: usize, word: u64) -> usize
-    ensures { (result ≡ place_of list word) × (result < 256) }
+// The place of a word in a list.
+pub fn place_of(list: usize, word: u64) -> Option<u8>
+    ensures { result ≡ listed_place list word }
 {
-    let first = first_of(list) as usize;
-    let n = count_of(list) as usize;
-    let mut i = 0;
-    while i < n {
-        if word_of(first + i) == word {
-            return i;
+    let List { from, len } = list_of(list);
+    for i in 0..len {
+        if word_of(from as usize + i as usize) == word {
+            return Some(i);
         }
-        i += 1;
     }
-    n
+    None
 }

@@ -1,4 +1,8 @@
-// The tables of a job text by number, in their order, and the most columns that one of them has.
+// The tables of a job text by number, in their order, the most columns that one of them has, and what a column holds.
+// A table is its number, not a variant of an enum: it indexes the arrays of constants, and the reader counts through them in their order.
+ghost use Rattle.std.specs.Prelude.{◌≡◌};
+ghost use Rattle.reader_schema.specs.Schema.{kind_by};
+
 pub const ROAD_TABLE: usize = 0;
 
 pub const GEOM_TABLE: usize = 1;
@@ -35,20 +39,44 @@ pub const TABLE_COUNT: usize = 16;
 
 pub const COLUMNS_MOST: usize = 8;
 
-// What a column holds: an f64, a whole number, or a word of a list, by the list's number. Lists 0 to 15 are the columns of that table; the words of
-// keyword columns follow.
-pub const NUMBER: u8 = 0;
+// The lists of words by number: lists 0 to 15 are the columns of that table, the words of keyword columns follow.
+pub const SHAPE_KINDS: usize = TABLE_COUNT;
 
-pub const WHOLE: u8 = 1;
+pub const EXTENT_KINDS: usize = SHAPE_KINDS + 1;
 
-pub const SHAPE_KINDS: u8 = TABLE_COUNT as u8;
+pub const BITS: usize = SHAPE_KINDS + 2;
 
-pub const EXTENT_KINDS: u8 = SHAPE_KINDS + 1;
+pub const SIDES: usize = SHAPE_KINDS + 3;
 
-pub const BITS: u8 = SHAPE_KINDS + 2;
-
-pub const SIDES: u8 = SHAPE_KINDS + 3;
-
-pub const TERMS: u8 = SHAPE_KINDS + 4;
+pub const TERMS: usize = SHAPE_KINDS + 4;
 
 pub const LIST_COUNT: usize = TABLE_COUNT + 5;
+
+// What a column holds: an f64, a whole number, or a word of a list: a geometry's kind; an extent's; the words 0 and 1; a side; a term.
+#[derive(Clone, Copy, Debug, PartialEq, Eq)]
+pub enum Kind {
+    Number,
+    Whole,
+    ShapeKind,
+    ExtentKind,
+    Bit,
+    Side,
+    Term,
+}
+
+impl Kind {
+    // The number of a kind: the list of its words, 0 for an f64 and 1 for a whole number, which have none.
+    pub fn number(self) -> usize
+        ensures { result ≡ kind_by self }
+    {
+        match self {
+            Kind::Number => 0,
+            Kind::Whole => 1,
+            Kind::ShapeKind => SHAPE_KINDS,
+            Kind::ExtentKind => EXTENT_KINDS,
+            Kind::Bit => BITS,
+            Kind::Side => SIDES,
+            Kind::Term => TERMS,
+        }
+    }
+}

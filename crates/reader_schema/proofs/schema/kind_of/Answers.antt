@@ -4,9 +4,10 @@ use mathlib.Core.Path.{◌≡◌}
 use mathlib.Core.Bool.{Bool, ◌||◌}
 use mathlib.Core.List.{[]}
 use borrow.Author.Tests.{lt-ltb, le-ltb, ne_eqb}
+use borrow.Author.Rules.{rules}
 use lib.Dec.{eqb}
-use lib.ListN.{get_or}
-use Rattle.reader_schema.specs.Schema.{kinds, column_kind}
+use lib.ListN.{get_or, get_or-map}
+use Rattle.reader_schema.specs.Schema.{kinds, column_kind, kind_by}
 use Rattle.reader_schema.proofs.Zeros.{zero_row}
 use Rattle.reader_schema.proofs.schema.kind_of.Goals as goal
 
@@ -26,39 +27,38 @@ returns-then-column-ge-COLUMNS_MOST c = rw (le-ltb _ 8 c.if-column-ge-COLUMNS_MO
 
 pub returns-in-1 : goal.returns-in-1
 unfolding column_kind kinds
-returns-in-1 c = rw (c.in-1.is, lt-ltb _ 8 c.if-column-ge-COLUMNS_MOST.false)
+returns-in-1 c = rw (← get_or-map kind_by, c.in-1.is, lt-ltb _ 8 c.if-column-ge-COLUMNS_MOST.false)
 
 pub returns-in-7 : goal.returns-in-7
 unfolding column_kind kinds
-returns-in-7 c = rw (c.in-7.is, lt-ltb _ 8 c.if-column-ge-COLUMNS_MOST.false)
+returns-in-7 c = rw (← get_or-map kind_by, c.in-7.is, lt-ltb _ 8 c.if-column-ge-COLUMNS_MOST.false)
 
 pub returns-in-8 : goal.returns-in-8
 unfolding column_kind kinds
-returns-in-8 c = rw (c.in-8.is, lt-ltb _ 8 c.if-column-ge-COLUMNS_MOST.false)
+returns-in-8 c = rw (← get_or-map kind_by, c.in-8.is, lt-ltb _ 8 c.if-column-ge-COLUMNS_MOST.false)
 
 pub returns-in-9 : goal.returns-in-9
 unfolding column_kind kinds
-returns-in-9 c = rw (c.in-9.is, lt-ltb _ 8 c.if-column-ge-COLUMNS_MOST.false)
+returns-in-9 c = rw (← get_or-map kind_by, c.in-9.is, lt-ltb _ 8 c.if-column-ge-COLUMNS_MOST.false)
 
 pub returns-in-11 : goal.returns-in-11
 unfolding column_kind kinds
-returns-in-11 c = rw (c.in-11.is, lt-ltb _ 8 c.if-column-ge-COLUMNS_MOST.false)
+returns-in-11 c = rw (← get_or-map kind_by, c.in-11.is, lt-ltb _ 8 c.if-column-ge-COLUMNS_MOST.false)
 
 pub returns-in-12 : goal.returns-in-12
 unfolding column_kind kinds
-returns-in-12 c = rw (c.in-12.is, lt-ltb _ 8 c.if-column-ge-COLUMNS_MOST.false)
+returns-in-12 c = rw (← get_or-map kind_by, c.in-12.is, lt-ltb _ 8 c.if-column-ge-COLUMNS_MOST.false)
 
 pub returns-in-13 : goal.returns-in-13
 unfolding column_kind kinds
-returns-in-13 c = rw (c.in-13.is, lt-ltb _ 8 c.if-column-ge-COLUMNS_MOST.false)
+returns-in-13 c = rw (← get_or-map kind_by, c.in-13.is, lt-ltb _ 8 c.if-column-ge-COLUMNS_MOST.false)
 
 pub returns-in-14 : goal.returns-in-14
 unfolding column_kind kinds
-returns-in-14 c = rw (c.in-14.is, lt-ltb _ 8 c.if-column-ge-COLUMNS_MOST.false)
+returns-in-14 c = rw (← get_or-map kind_by, c.in-14.is, lt-ltb _ 8 c.if-column-ge-COLUMNS_MOST.false)
 
 pub returns-in_default : goal.returns-in_default
 unfolding column_kind
 returns-in_default c =
-    let a = c.args in
-    let r = c.in_default.in_default-own.rest in
-    rw (lt-ltb _ 8 c.if-column-ge-COLUMNS_MOST.false) (plain a.table a.column r.0.0.0.0.0.0.0.1 r.0.0.0.0.0.0.1 r.0.0.0.0.0.1 r.0.0.0.0.1 r.0.0.0.1 r.0.0.1 r.0.1 r.1)
+    rw (lt-ltb _ 8 c.if-column-ge-COLUMNS_MOST.false)
+    (plain c.args.table c.args.column (search rules) (search rules) (search rules) (search rules) (search rules) (search rules) (search rules) (search rules))

@@ -1,22 +1,18 @@
-use mathlib.Core.Path.{sym, ◌∙◌}
-use Rattle.reader_schema.proofs.Places.{seek_found, seek-next, seek-none, place_is}
-use borrow.Author.Rules.{rules}
+use mathlib.Core.Path.{◌∙◌}
+use Rattle.reader_schema.proofs.Places.{seek-next, place_is, listed_found, listed-none}
 use Rattle.reader_schema.proofs.schema.place_of.Goals as goal
 
 pub loop-i-init : goal.loop-i-init
-loop-i-init c = let a = c.args in (search rules, place_is a.list a.word c.first_of-first.ensures c.count_of-n.ensures)
+loop-i-init c = place_is c.args.list c.args.word c.list_of-from.ensures.0 c.list_of-from.ensures.1
 
 pub returns-then-word_of-word : goal.returns-then-word_of-word
 returns-then-word_of-word c =
-    let a = c.args in let at = c.loop-i in
-    (sym (at.invariant.1 ∙ seek_found c.first_of-first.result a.word c.count_of-n.result at.i c.word_of.ensures c.loop-i-test.true c.if-word_of-word.true), search rules)
+    listed_found c.args.list c.list_of-from.result.from c.args.word c.list_of-from.ensures.1 c.loop-i.i c.loop-i.invariant c.word_of.ensures c.loop-i-test.true c.if-word_of-word.true
 
 pub loop-i-preserved : goal.loop-i-preserved
 loop-i-preserved c =
-    let a = c.args in let at = c.loop-i in
-    (search rules, at.invariant.1 ∙ seek-next c.first_of-first.result a.word c.count_of-n.result at.i c.word_of.ensures c.loop-i-test.true c.if-word_of-word.false)
+    c.loop-i.invariant ∙ seek-next c.list_of-from.result.from c.args.word c.list_of-from.result.len c.loop-i.i c.word_of.ensures c.loop-i-test.true c.if-word_of-word.false
 
 pub returns : goal.returns
 returns c =
-    let a = c.args in let at = c.loop-i in
-    (sym (at.invariant.1 ∙ seek-none c.first_of-first.result a.word c.count_of-n.result at.i at.invariant.0 c.loop-i-test.false), search rules)
+    listed-none c.args.list c.list_of-from.result.from c.args.word c.list_of-from.ensures.1 c.loop-i.i c.loop-i.invariant c.loop-i.auto.i-end c.loop-i-test.false
