@@ -88,6 +88,17 @@ module _ (words : List ℕ) (numbers : List Float) where
   unfolding section_in
   right_count_lem i h = ap (λ (x : Section). length x.right) (section_in_lem i h) ∙ length-table _ _ ∙ ap (word_at words numbers) (plus 71 2 (i * 3))
 
+  -- a side's lanes, counted by the word that its first word's place leads to
+  pub lane_count_lem :
+      (i : ℕ) (right : Bool) {first : ℕ} → i < get_or words 5 0 → first ≡ cond right 73 72
+      → length (cond right (section_of road i).right (section_of road i).left) ≡ get_or words (first + i * 3) 0
+  lane_count_lem i true h e = rw e (right_count_lem i h)
+  lane_count_lem i false h e = rw e (left_count_lem i h)
+
+  pub lanes_none : (i : ℕ) (right : Bool) → get_or words 5 0 ≤ i → length (cond right (section_of road i).right (section_of road i).left) ≡ 0
+  lanes_none i true h = rw (section-past i h)
+  lanes_none i false h = rw (section-past i h)
+
   -- ---- the lanes of a section: the left ones from its first lane on, then the right ones
   pub left_lane-in :
       (i k : ℕ) → i < get_or words 5 0 → k < get_or words (72 + i * 3) 0

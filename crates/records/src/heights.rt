@@ -7,6 +7,7 @@ use crate::points::HeightDef;
 use std::marker::Model;
 
 // Heights as a part of the lent numbers holds them, three numbers each. What is left over at its end is no height.
+#[derive(Drop)]
 pub struct Heights<'a> {
     pub numbers: &'a [f64],
 }

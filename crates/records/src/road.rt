@@ -12,6 +12,7 @@ use records_lent::{number, part, word};
 use std::marker::Model;
 
 // A contract sees the road that the slices stand for.
+#[derive(Drop)]
 pub struct LentRoad<'a> {
     pub words: &'a [u16],
     pub numbers: &'a [f64],

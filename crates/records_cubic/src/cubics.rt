@@ -35,6 +35,7 @@ impl Cubic {
 }
 
 // Cubics as a part of the lent numbers holds them, five numbers each. What is left over at its end is no cubic.
+#[derive(Drop)]
 pub struct Cubics<'a> {
     pub numbers: &'a [f64],
 }

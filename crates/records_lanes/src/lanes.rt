@@ -14,6 +14,7 @@ use records_lent::{part, word};
 use std::marker::Model;
 
 // A lane with its widths, or its borders in their place, and its heights.
+#[derive(Drop)]
 pub struct LentLane<'a> {
     pub border: bool,
     pub level: bool,
