@@ -1,20 +1,18 @@
--- The answers of `floor` and `below`, one law for each way through them.
+-- The answers of `below`, one law for each way through it.
 use mathlib.Core.Path.{◌≡◌, refl, sym, ap, ◌∙◌, subst}
-use mathlib.Core.Logic.{inl, inr}
 use Prim.Native.Nat.{ℕ, ◌+◌, ◌-◌, ◌*◌, ◌%◌, ◌^◌, ◌≤◌, ◌<◌}
 use native.Mathlib.Nat.{le_refl, le_trans, le_of_eq, zero-mul, lt_of_mul-lt-mul_right}
 use native.Mathlib.Omega.{arith}
-use mathlib.Core.Bool.{Bool, true, false, not, ◌||◌, cond}
+use mathlib.Core.Bool.{Bool, true, false, not, cond}
 use lib.Dec.{T, leb, leb→le, nleb→lt, lit≤}
-use lib.Ieee.{Float, nan, inf, fin, Format, binary64, prec, low, hid, add, sub, neg, lt, le, eq, fits, is_nan, to_bits, of_bits}
-use lib.Ieee.Scale.{finite}
-use Rattle.float_laws.proofs.Value.{mag, pl, mi, Real, mag_is, mi-le, one_side, lt→units, nlt→units, neg-real, neg-pl, neg-mi}
-use Rattle.float_laws.proofs.Interval.{nil, nil-real, nil-pl, nil-mi, finite-between}
+use lib.Ieee.{Float, nan, inf, fin, Format, binary64, low, hid, add, sub, neg, lt, le, eq, fits, is_nan, to_bits, of_bits}
+use Rattle.float_laws.proofs.Value.{mag, pl, mi, Real, mag_is, mi-le, lt→units, neg-real}
+use Rattle.float_laws.proofs.Interval.{nil, finite-between}
 use Rattle.float_laws.proofs.Size.{within-of_le}
 use Rattle.float_laws.proofs.Zero.{sub-zero}
-use Rattle.float_laws.proofs.Whole.{Whole, Nearest, nearest-is, reach-plus, reach-minus, nearest-magic, whole-bits, one-whole, steps-sub, twice_hid, magic, magic-number, unit, one, is_zero, not-zero}
+use Rattle.float_laws.proofs.Whole.{Whole, Nearest, nearest-magic, whole-bits, one-whole, steps-sub, magic, magic-number, unit, one, is_zero, not-zero}
 use Rattle.arithmetic_sine.specs.Floor.{floor_of, below_reach, quarter_of}
-use Rattle.arithmetic_sine.proofs.FloorLaws.{nearby, stepped, stays, falls, less_one, floor-by, floor-zero, floor-large, floor-other, quarter-whole}
+use Rattle.arithmetic_sine.proofs.FloorLaws.{nearby, stays, falls, less_one, floor-zero, quarter-whole}
 
 pub yes : {b : Bool} → b ≡ true → T b
 yes e = subst T (sym e) tt
@@ -22,99 +20,10 @@ yes e = subst T (sym e) tt
 pub no : {b : Bool} → b ≡ false → T (not b)
 no e = subst (λ (b : Bool). T (not b)) (sym e) tt
 
-lt→le : (x y : Float) → T (lt x y) → T (le x y)
-unfolding le
-lt→le x y h = or_l (lt x y) (eq x y) h
-  where
-    or_l : (a b : Bool) → T a → T (a || b)
-    or_l true b t = tt
-    or_l false b t = absurd t
-
--- above a finite value and not above zero
-finite-under : (lo x : Float) → T (finite lo) → T (lt lo x) → T (not (lt nil x)) → T (finite x)
-unfolding lt
-finite-under nan x l h k = absurd l
-finite-under (inf s) x l h k = absurd l
-finite-under (fin s m e) nan l h k = h
-finite-under (fin s m e) (inf true) l h k = h
-finite-under (fin s m e) (inf false) l h k = k
-finite-under (fin s m e) (fin t n d) l h k = tt
-
--- ---- `floor`, over the format: c is hid f, and d is 2 ^ prec f
-module _ (f : Format) (x c d : Float) (fit : T (fits f x)) (w : Whole f c (hid f) 0) (v : Whole f d (2 ^ prec f) 0) where
-  pub case-zero : eq x nil ≡ true → x ≡ floor_of f x
-  case-zero e = let z = is_zero f x fit (yes e) in floor-zero f x z.0 z.1
-
-  if-finite : (T (finite x) → x ≡ floor_of f x) → x ≡ floor_of f x
-  if-finite h = go (finite x) h (floor-other f x)
-    where
-      go : (b : Bool) → (T b → x ≡ floor_of f x) → (T (not b) → x ≡ floor_of f x) → x ≡ floor_of f x
-      go true h k = h tt
-      go false h k = k tt
-
-  pub case-plus : lt nil x ≡ true → lt x c ≡ true → stepped f x (nearby f x c) ≡ floor_of f x
-  case-plus a b =
-      let r : Real f x = record { finite = finite-between nil x c tt w.value.finite (lt→le nil x (yes a)) (lt→le x c (yes b)); fits = fit } in
-      let g = mag_is f x in
-      let zp = nil-pl f in
-      let zm = nil-mi f in
-      let cp = w.plus in
-      let cm = w.minus in
-      let h = lt→units f nil x (nil-real f) r (yes a) in
-      let k = lt→units f x c r w.value (yes b) in
-      let m : mi f x ≡ 0 = elim (one_side f x) [ inl z ↦ omega arith | inr z ↦ z ] in
-      floor-by f x c (hid f) r (omega arith) (nearest-is f x c (hid f) r w (reach-plus f x m (omega arith))) (let t = twice_hid f in omega arith)
-
-  pub case-over : lt nil x ≡ true → lt x c ≡ false → x ≡ floor_of f x
-  case-over a b = if-finite (λ t.
-      let r : Real f x = record { finite = t; fits = fit } in
-      let g = mag_is f x in
-      let cp = w.plus in
-      let cm = w.minus in
-      let k = nlt→units f x c r w.value (no b) in
-      floor-large f x r (omega arith))
-
-  not-plus : Real f x → lt nil x ≡ false → pl f x ≡ 0
-  not-plus r a =
-      let zp = nil-pl f in
-      let zm = nil-mi f in
-      let h = nlt→units f nil x (nil-real f) r (no a) in
-      elim (one_side f x) [ inl z ↦ z | inr z ↦ omega arith ]
-
-  pub case-minus : eq x nil ≡ false → lt nil x ≡ false → lt (neg c) x ≡ true → stepped f x (nearby f x d) ≡ floor_of f x
-  case-minus e a b =
-      let rc = neg-real f c w.value in
-      let r : Real f x = record { finite = finite-under (neg c) x rc.finite (yes b) (no a); fits = fit } in
-      let g = mag_is f x in
-      let cp = w.plus in
-      let cm = w.minus in
-      let np = neg-pl f c w.value in
-      let nm = neg-mi f c w.value in
-      let k = lt→units f (neg c) x rc r (yes b) in
-      let s = not-zero f x r (no e) in
-      let p = not-plus r a in
-      floor-by f x d (2 ^ prec f) r s (nearest-is f x d (2 ^ prec f) r v (reach-minus f x p (omega arith) (omega arith))) (le_refl (2 ^ prec f))
-
-  pub case-under : lt nil x ≡ false → lt (neg c) x ≡ false → x ≡ floor_of f x
-  case-under a b = if-finite (λ t.
-      let r : Real f x = record { finite = t; fits = fit } in
-      let g = mag_is f x in
-      let cp = w.plus in
-      let cm = w.minus in
-      let np = neg-pl f c w.value in
-      let nm = neg-mi f c w.value in
-      let k = nlt→units f (neg c) x (neg-real f c w.value) r (no b) in
-      let p = not-plus r a in
-      floor-large f x r (omega arith))
-
--- the code's 2 ^ 52 and 2 ^ 53
+-- 2 ^ 52
 pub hid-whole : Whole binary64 (of_bits binary64 0x4330_0000_0000_0000) (hid binary64) 0
 unfolding of_bits fits pl mi
 hid-whole = record { value = record { finite = tt; fits = tt }; plus = refl; minus = refl }
-
-pub prec-whole : Whole binary64 (of_bits binary64 0x4340_0000_0000_0000) (2 ^ prec binary64) 0
-unfolding of_bits fits pl mi
-prec-whole = record { value = record { finite = tt; fits = tt }; plus = refl; minus = refl }
 
 -- ---- `below`: |x| is at most 2 ^ 50
 reach-real : Real binary64 below_reach

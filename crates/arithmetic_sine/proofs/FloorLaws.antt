@@ -5,12 +5,12 @@ use mathlib.Core.Logic.{◌⊎◌, inl, inr}
 use Prim.Native.Nat.{ℕ, suc, ◌+◌, ◌-◌, ◌*◌, ◌/◌, ◌%◌, ◌^◌, ◌≤◌, ◌<◌}
 use native.Mathlib.Nat.{eq_of_mul-eq-mul_right, div-mul-le_self, lt-div-mul-add, zero-mul, le_refl, le_of_eq, lt_of_le_of_lt, mul-le-mul_right, mul-lt-mul_of_pos_right, le_of_mul-le-mul_right, lt_of_mul-lt-mul_right, div-eq_of_lt-le, eq-zero-or-pos}
 use native.Mathlib.Omega.{arith}
-use mathlib.Core.Bool.{Bool, true, false, not, cond}
+use mathlib.Core.Bool.{Bool, true, false, not}
 use lib.Dec.{T, leb, leb→le, nleb→lt}
 use lib.Pow.{pow_pos}
 use lib.Ieee.{Float, nan, inf, fin, Format, prec, low, up, down, hid, round, add, sub, lt, le}
 use lib.Ieee.Fits.{down_pos, round-fits}
-use lib.Ieee.Scale.{finite}
+use Rattle.std.specs.Float.{floor, round_with}
 use Rattle.float_laws.proofs.Units.{rnd}
 use Rattle.float_laws.proofs.Value.{sign, sp, sn, mag, pl, mi, Real, mag_is, mag_of, one_side, under, units_of, le→units, units→le, lt→units, nlt→units}
 use Rattle.float_laws.proofs.Value.{le_refl as le-refl'}
@@ -19,6 +19,14 @@ use Rattle.float_laws.proofs.Exact.{fixed}
 use Rattle.float_laws.proofs.Same.{same-value, sign-plus, sign-minus}
 use Rattle.float_laws.proofs.Whole.{Whole, Nearest, large-whole, twice_hid, steps-rnd, steps-under, steps-sub, one, one-whole, self-sub, parted}
 use Rattle.arithmetic_sine.specs.Floor.{floor_of, quarter_of}
+
+-- ---- the library's floor, which has the same cases
+pub floor_is : (f : Format) (x : Float) → floor f x ≡ floor_of f x
+unfolding round_with floor_of
+floor_is f nan = refl
+floor_is f (inf s) = refl
+floor_is f (fin false m e) = refl
+floor_is f (fin true m e) = let d = down_pos e in ap (λ (k : ℕ). round f true (k / down e) 1) (let o : m * up e + down e - 1 ≡ m * up e + (down e - 1) = omega arith in o)
 
 -- ---- the whole part of num / d, which is M / U
 pub cut-plus : (num d M U k : ℕ) → 0 < U → num * U ≡ M * d → 0 < d → k * U ≤ M → M < k * U + U → num / d ≡ k
@@ -127,13 +135,6 @@ floor-zero f x r z = floor-whole f x 0 r (z ∙ sym (zero-mul (2 ^ low f)))
 pub floor-large : (f : Format) (x : Float) → Real f x → hid f * 2 ^ low f ≤ mag f x → x ≡ floor_of f x
 floor-large f x r h = let k = large-whole f x r h in floor-whole f x k.0 r k.1
 
--- a NaN and an infinity are their own
-pub floor-other : (f : Format) (x : Float) → T (not (finite x)) → x ≡ floor_of f x
-unfolding floor_of
-floor-other f nan h = refl
-floor-other f (inf s) h = refl
-floor-other f (fin s m e) h = absurd h
-
 -- ---- every finite value has its floor: whole, at most x, and x is less than 1 above it
 pub record Floored (f : Format) (x n : Float) : Type 0 where
   pub p : ℕ
@@ -150,9 +151,6 @@ own-floor f x r h =
     record { p = w.0; q = w.1; whole = w.2; below = le-refl' f x r; above = omega arith }
 
 -- ---- n = (x + c) - c, and one less where n lies above x
-abbrev pub stepped : Format → Float → Float → Float
-stepped f x n = cond (lt x n) (sub f n one) n
-
 positive-side : (p n M : ℕ) → (p ≡ 0) ⊎ (n ≡ 0) → M ≡ p + n → 0 < M → n ≤ p → 0 < p
 positive-side p n M (inl z) g h k = omega arith
 positive-side p n M (inr z) g h k = omega arith
@@ -237,13 +235,6 @@ module _ (f : Format) (x c : Float) (C : ℕ) (r : Real f x) (some : 0 < mag f x
       let o = one-whole f in
       let same : n ≡ one = is_one f n (k - C) (C - k) i.is e e' in
       ap (λ (m : Float). sign (sub f m one)) same ∙ self-sub f one o.value ∙ sym (sign-plus f x (positive-side (pl f x) (mi f x) (mag f x) (one_side f x) g some (omega arith))))
-
-  pub floor-by : stepped f x (nearby f x c) ≡ floor_of f x
-  floor-by = go (lt x n) (falls) (stays)
-    where
-      go : (b : Bool) → (T b → sub f n one ≡ floor_of f x) → (T (not b) → n ≡ floor_of f x) → cond b (sub f n one) n ≡ floor_of f x
-      go true a b = a tt
-      go false a b = b tt
 
 rounded : (f : Format) (s : Bool) (w : ℕ) → w ≤ 2 ^ prec f → Real f (round f s w 1) × (mag f (round f s w 1) ≡ w * 2 ^ low f) × (sign (round f s w 1) ≡ s)
 rounded f s w h =

@@ -1,9 +1,12 @@
 -- Document 01, "Stand-ins": sine, cosine and tangent, operation by operation, each rounded once.
-use Rattle.std.specs.Prelude.{ℕ, zero, suc, ◌*◌, ◌%◌, Bool, cond, ◌&&◌, List, [], ◌∷◌, leb, eqb, pos, negsuc, Float}
+use Rattle.std.specs.Prelude.{ℕ, zero, suc, ◌*◌, ◌%◌, Bool, cond, List, [], ◌∷◌, leb, eqb, pos, negsuc, Float}
+use Rattle.std.specs.List.{fold}
 use Rattle.std.specs.Float.{nan, binary64}
-use Rattle.std.specs.Float.Ieee.{of_int, neg, le}
+use Rattle.std.specs.Float.Ieee.{of_int, neg}
 use Rattle.float_laws.specs.Binary64.{◌⊕◌, ◌⊖◌, ◌⊗◌, ◌⊘◌, f64}
+use Rattle.arithmetic_ranges.specs.Ranges.{in_range}
 use Rattle.arithmetic_sine.specs.Floor.{floor_of, quarter_of}
+use Rattle.arithmetic_sine.specs.declared.sine.SinCos.{SinCos}
 
 -- "NaN beyond ±12,000"
 abbrev pub sine_range : Float
@@ -49,8 +52,7 @@ quotient n = of_int binary64 (cond (leb 2 (n % 4)) (negsuc 0) (pos 1)) ⊘ of_in
 
 -- "by Horner": the first coefficient, and those that follow it
 unfoldable pub horner : Float → Float → List Float → Float
-horner z c [] = c
-horner z c (d ∷ ds) = horner z (c ⊗ z ⊕ d) ds
+horner z c ds = fold (λ p d. p ⊗ z ⊕ d) c ds
 
 -- "S = r + r×(z×p), C = 1 + z×q", "z = r×r"
 unfoldable pub sine_kernel : Float → Float
@@ -72,9 +74,13 @@ sine_by k s c = cond (eqb k 0) s (cond (eqb k 1) c (cond (eqb k 2) (neg s) (neg 
 unfoldable pub cosine_by : ℕ → Float → Float → Float
 cosine_by k s c = cond (eqb k 0) c (cond (eqb k 1) (neg s) (cond (eqb k 2) (neg c) s))
 
+-- both, by the quarter
+abbrev pub sin_cos_by : ℕ → Float → Float → SinCos
+sin_cos_by k s c = record { sin = sine_by k s c; cos = cosine_by k s c }
+
 -- "NaN beyond ±12,000"; both comparisons have to pass, so a NaN is outside
 unfoldable pub in_sine_range : Float → Bool
-in_sine_range h = le (neg sine_range) h && le h sine_range
+in_sine_range h = in_range (neg sine_range) sine_range h
 
 -- "Sine and cosine: NaN beyond ±12,000"; else from n and r
 unfoldable pub sine_of : Float → Float
@@ -88,6 +94,10 @@ cosine_of h =
     let n = turns h in
     let r = rest h n in
     cond (in_sine_range h) (cosine_by (quarter_of n) (sine_kernel r) (cosine_kernel r)) nan
+
+-- sine and cosine of one angle
+abbrev pub sin_cos_of : Float → SinCos
+sin_cos_of h = record { sin = sine_of h; cos = cosine_of h }
 
 -- "tan: sin / cos"
 unfoldable pub tan_of : Float → Float

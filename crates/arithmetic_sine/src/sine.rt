@@ -1,9 +1,10 @@
 // Sine, cosine and tangent: the angle less a whole number of quarter turns, a polynomial for each of the two, and the quarter says which is which.
 ghost use Rattle.std.specs.Prelude.{◌≡◌, true, ◌<◌};
-ghost use Rattle.arithmetic_sine.specs.Sine.{in_sine_range, sine_kernel, cosine_kernel, sine_by, cosine_by, sine_of, cosine_of, tan_of};
+ghost use Rattle.arithmetic_sine.specs.Sine.{in_sine_range, horner, sine_kernel, cosine_kernel, sin_cos_by, sin_cos_of, tan_of};
 
 use crate::floors::below;
 use crate::quotients::QUOTIENTS;
+use arithmetic_ranges::in_range;
 
 const RANGE: f64 = 12000.0;
 
@@ -20,18 +21,21 @@ pub struct SinCos {
     pub cos: f64,
 }
 
+// By Horner: the first coefficient, and those that follow it.
+#[tactic(auto, unfolding(crate::specs::Sine::horner))]
+fn horner(z: f64, first: f64, rest: &[f64]) -> f64
+    ensures { result ≡ horner z first rest.now }
+{
+    rest.iter().fold(first, |p, d| p * z + *d)
+}
+
 // The sine of a reduced angle: p by Horner from -1/15! to -1/3!, which are the odd entries of the table.
 fn sine_kernel(r: f64) -> f64
     ensures { result ≡ sine_kernel r }
 {
     let z = r * r;
-    let p = QUOTIENTS[13];
-    let p = p * z + QUOTIENTS[11];
-    let p = p * z + QUOTIENTS[9];
-    let p = p * z + QUOTIENTS[7];
-    let p = p * z + QUOTIENTS[5];
-    let p = p * z + QUOTIENTS[3];
-    let p = p * z + QUOTIENTS[1];
+    let t = QUOTIENTS;
+    let p = horner(z, t[13], &[t[11], t[9], t[7], t[5], t[3], t[1]]);
     r + r * (z * p)
 }
 
@@ -40,21 +44,15 @@ fn cosine_kernel(r: f64) -> f64
     ensures { result ≡ cosine_kernel r }
 {
     let z = r * r;
-    let q = QUOTIENTS[14];
-    let q = q * z + QUOTIENTS[12];
-    let q = q * z + QUOTIENTS[10];
-    let q = q * z + QUOTIENTS[8];
-    let q = q * z + QUOTIENTS[6];
-    let q = q * z + QUOTIENTS[4];
-    let q = q * z + QUOTIENTS[2];
-    let q = q * z + QUOTIENTS[0];
+    let t = QUOTIENTS;
+    let q = horner(z, t[14], &[t[12], t[10], t[8], t[6], t[4], t[2], t[0]]);
     1.0 + z * q
 }
 
 // The pair that the quarter makes of the two kernels' values. The cosine is the sine a quarter on. A table and no branches, which the machine would guess wrong.
 fn by_quarter(quarter: u64, s: f64, c: f64) -> SinCos
     requires { quarter < 4 }
-    ensures { (result.sin ≡ sine_by quarter s c) × (result.cos ≡ cosine_by quarter s c) }
+    ensures { result ≡ sin_cos_by quarter s c }
 {
     let turned = [s, c, -s, -c];
     let k = quarter as usize;
@@ -67,7 +65,7 @@ fn by_quarter(quarter: u64, s: f64, c: f64) -> SinCos
 // The pair of an angle in the range: n quarter turns, and what is left of the angle.
 fn reduced(h: f64) -> SinCos
     requires { in_sine_range h ≡ true }
-    ensures { (result.sin ≡ sine_of h) × (result.cos ≡ cosine_of h) }
+    ensures { result ≡ sin_cos_of h }
 {
     let turns = below(h * I + 0.5);
     let n = turns.n;
@@ -76,20 +74,21 @@ fn reduced(h: f64) -> SinCos
 }
 
 // The sine and the cosine of an angle up to RANGE either way, NaN beyond.
+#[tactic(auto, unfolding(crate::specs::Sine::in_sine_range))]
 pub fn sin_cos(h: f64) -> SinCos
-    ensures { (result.sin ≡ sine_of h) × (result.cos ≡ cosine_of h) }
+    ensures { result ≡ sin_cos_of h }
 {
-    let inside = (-RANGE <= h) & (h <= RANGE);
-    if inside {
+    if in_range(-RANGE, RANGE, h) {
         return reduced(h);
     }
     SinCos {
-        sin: 0.0 / 0.0,
-        cos: 0.0 / 0.0,
+        sin: f64::NAN,
+        cos: f64::NAN,
     }
 }
 
 // The tangent, sine over cosine.
+#[tactic(auto, unfolding(crate::specs::Sine::tan_of))]
 pub fn tan(h: f64) -> f64
     ensures { result ≡ tan_of h }
 {

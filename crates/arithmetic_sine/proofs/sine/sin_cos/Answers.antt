@@ -1,12 +1,14 @@
--- In the range `reduced` gives the pair, and outside it the definition is NaN.
-use lib.Ieee.{of_bits, div}
-use Rattle.arithmetic_sine.specs.Sine.{in_sine_range, sine_of, cosine_of}
+-- Outside the range both definitions are NaN.
+use mathlib.Core.Path.{◌≡◌, sym, ◌∙◌}
+use mathlib.Core.Bool.{false}
+use lib.Ieee.{Float, nan, of_bits}
+use Rattle.arithmetic_sine.specs.Sine.{in_sine_range, sine_of, cosine_of, sin_cos_of}
 use Rattle.arithmetic_sine.proofs.sine.sin_cos.Goals as goal
 
-pub reduced-requires : goal.reduced-requires
-unfolding in_sine_range
-reduced-requires c = c.if-inside.true
+outside : (h : Float) → in_sine_range h ≡ false → record { sin = nan; cos = nan } ≡ sin_cos_of h
+unfolding sine_of cosine_of
+outside h e = rw e
 
 pub returns : goal.returns
-unfolding in_sine_range sine_of cosine_of of_bits div
-returns c = (rw c.if-inside.false, rw c.if-inside.false)
+unfolding of_bits in_sine_range
+returns c = outside c.args.h (sym c.in_range.ensures ∙ c.if-in_range.false)
