@@ -1,17 +1,18 @@
 -- Words and numbers, one byte at a time: a law for each way out of the loops that read them, and that one digit more fits 64 bits.
 use Prim.Native.Nat.{ℕ, zero, suc, ◌+◌, ◌-◌, ◌*◌, ◌^◌, ◌<◌, ◌≤◌}
-use mathlib.Core.Path.{◌≡◌, refl, ◌∙◌}
-use mathlib.Core.Bool.{Bool, true, false, cond}
+use mathlib.Core.Path.{◌≡◌, refl, sym, ap, ◌∙◌}
+use mathlib.Core.Bool.{Bool, true, false, cond, ◌&&◌, and_assoc, and-true}
 use mathlib.Core.List.{List}
 use native.Mathlib.Numerals.{add-one}
 use native.Mathlib.Nat.{pow-suc, pow-le-pow_right, mul-le-mul_right, suc-mul}
 use native.Mathlib.Omega.{arith}
-use borrow.Author.Tests.{eq-eqb, ne_eqb, le-leb, lt-leb, ltb-true, ltb-false, eqb-true, eqb-false}
-use lib.Dec.{eqb, ltb, leb}
-use lib.ListN.{length, get_or, set, get_or-eq_default}
-use lib.Seq.{get_or-set_same, get_or-set_other}
+use borrow.Author.Tests.{eq-eqb, ne_eqb, le-leb, lt-leb, ltb-true, ltb-false}
+use lib.Dec.{ltb, leb}
 use Rattle.reader_cells.specs.Cells.{digit_of, byte_at, span_of, name_from, name_span, decimal_from, natural_at, hex_from, hex_at}
-use Rattle.reader_cells.specs.declared.values.Cell.TheVariants.{Value, Broken}
+use Rattle.std.specs.Prelude.{Option, Some, None}
+use Rattle.reader_cells.specs.declared.names.Span.{Span}
+use Rattle.std.proofs.lemmas.Option.{none-some, cond_some}
+use Rattle.reader_hex.specs.Hex.{digits_ok, digits_value, digits_at}
 
 -- one digit more, at any base
 pub more-below : (b n v d : ℕ) → v < b ^ n → d < b → v * b + d < b ^ (n + 1)
@@ -36,9 +37,9 @@ module _ (text : List ℕ) (from n v : ℕ) {b : ℕ} (e : b ≡ byte_at text (f
       let q : from + n + 1 ≡ from + (n + 1) = omega arith in
       rw (step, ← e, lt-leb b 32 h, q)
 
-pub name-whole : (text : List ℕ) (from n v : ℕ) → 8 ≤ n → name_from (8 - n) text (from + n) v ≡ span_of v (from + n)
+pub name-whole : (text : List ℕ) (from n v : ℕ) → n ≤ 8 → 8 ≤ n → name_from (8 - n) text (from + n) v ≡ span_of v (from + 8)
 unfolding name_from
-name-whole text from n v h = let z : 8 - n ≡ 0 = omega arith in rw z
+name-whole text from n v g h = let e : n ≡ 8 = omega arith in rw e
 
 pub name-is : (text : List ℕ) (from : ℕ) → name_span text from ≡ name_from (8 - 0) text (from + 0) 0
 unfolding name_span
@@ -59,9 +60,9 @@ module _ (text : List ℕ) (from n v : ℕ) {b d : ℕ} (e : b ≡ byte_at text 
       let q : from + n + 1 ≡ from + (n + 1) = omega arith in
       rw (step4, ← e, ← f, lt-leb 10 d h, q)
 
-pub decimal-whole : (text : List ℕ) (from n v : ℕ) → 4 ≤ n → decimal_from (4 - n) text (from + n) v ≡ span_of v (from + n)
+pub decimal-whole : (text : List ℕ) (from n v : ℕ) → n ≤ 4 → 4 ≤ n → decimal_from (4 - n) text (from + n) v ≡ span_of v (from + 4)
 unfolding decimal_from
-decimal-whole text from n v h = let z : 4 - n ≡ 0 = omega arith in rw z
+decimal-whole text from n v g h = let e : n ≡ 4 = omega arith in rw e
 
 module _ (text : List ℕ) (from : ℕ) {b : ℕ} (e : b ≡ byte_at text from) where
   pub natural-zero : b ≡ 48 → natural_at text from ≡ span_of 0 (from + 1)
@@ -72,62 +73,75 @@ module _ (text : List ℕ) (from : ℕ) {b : ℕ} (e : b ≡ byte_at text from) 
   unfolding natural_at
   natural-is h = let z : from + 0 ≡ from = omega arith in rw (← e, ne_eqb b 48 h, z)
 
--- an f64: digit n of sixteen
-module _ (text : List ℕ) (from n v : ℕ) {b d : ℕ} (e : b ≡ byte_at text (from + n)) (f : d ≡ digit_of b) (l : n < 16) where
-  step16 : 16 - n ≡ suc (16 - (n + 1))
-  step16 = omega arith
+-- an f64: its digits from the first on are its digits from the last on
+-- one digit more at the other end
+power-more : (p d x y : ℕ) → (d * p + x) * 16 + y ≡ d * (p * 16) + (x * 16 + y)
+power-more p d x y = grind arith
 
-  pub hex-stop : 16 ≤ d → hex_from (16 - n) text (from + n) v ≡ Broken
-  unfolding hex_from
-  hex-stop h = rw (step16, ← e, ← f, le-leb 16 d h)
+power-front : (p v d x : ℕ) → (v * 16 + d) * p + x ≡ v * (p * 16) + (d * p + x)
+power-front p v d x = grind arith
 
-  pub hex-next : d < 16 → hex_from (16 - n) text (from + n) v ≡ hex_from (16 - (n + 1)) text (from + (n + 1)) (v * 16 + d)
-  unfolding hex_from
-  hex-next h =
-      let q : from + n + 1 ≡ from + (n + 1) = omega arith in
-      rw (step16, ← e, ← f, lt-leb 16 d h, q)
-
-pub hex-whole : (text : List ℕ) (from n v : ℕ) → 16 ≤ n → hex_from (16 - n) text (from + n) v ≡ Value v (from + n)
-unfolding hex_from
-hex-whole text from n v h = let z : 16 - n ≡ 0 = omega arith in rw z
-
-pub hex-is : (text : List ℕ) (from : ℕ) → hex_at text from ≡ hex_from (16 - 0) text (from + 0) 0
-unfolding hex_at
-hex-is text from = let z : from + 0 ≡ from = omega arith in rw z
-
--- a text that ends within the sixteen digits: the byte past its end is no digit
-either : (b : Bool) → cond b Broken Broken ≡ Broken
-either true = refl
-either false = refl
-
-hex-end : (n : ℕ) (text : List ℕ) (at v : ℕ) → length text ≤ at → hex_from (suc n) text at v ≡ Broken
-unfolding hex_from digit_of
-hex-end n text at v h = rw (get_or-eq_default text 0 h)
-
-hex-more : (n : ℕ) (text : List ℕ) (at v : ℕ) → hex_from n text (at + 1) (v * 16 + digit_of (byte_at text at)) ≡ Broken → hex_from (suc n) text at v ≡ Broken
-unfolding hex_from
-hex-more n text at v e = rw e (either (leb 16 (digit_of (byte_at text at))))
-
-hex-short-from : (n : ℕ) (text : List ℕ) (at v : ℕ) → 0 < n → length text < at + n → hex_from n text at v ≡ Broken
-hex-short-from zero text at v o h = absurd (omega (arith, o))
-hex-short-from (suc n) text at v o h = go (ltb at (length text)) refl (λ p. hex-short-from n text (at + 1) (v * 16 + digit_of (byte_at text at)) p (omega (arith, h)))
+-- a digit, then what the others lead to
+by-digit : (d : ℕ) (o : Bool) (x : Option Span) {w : Option Span} → w ≡ cond o x None → cond (leb 16 d) None w ≡ cond (ltb d 16 && o) x None
+by-digit d o x {w} e = go (ltb d 16) refl
   where
-    go : (t : Bool) → ltb at (length text) ≡ t → (0 < n → hex_from n text (at + 1) (v * 16 + digit_of (byte_at text at)) ≡ Broken) → hex_from (suc n) text at v ≡ Broken
-    go true q more = let l : at < length text = ltb-true at (length text) q in hex-more n text at v (more (omega (arith, l, h)))
-    go false q more = hex-end n text at v (ltb-false at (length text) q)
+    go : (t : Bool) → ltb d 16 ≡ t → cond (leb 16 d) None w ≡ cond (t && o) x None
+    go true q = rw (lt-leb 16 d (ltb-true d 16 q)) e
+    go false q = rw (le-leb 16 d (ltb-false d 16 q))
 
-pub hex-short : (text : List ℕ) (at : ℕ) → length text < at + 16 → hex_at text at ≡ Broken
-unfolding hex_at
-hex-short text at h = hex-short-from 16 text at 0 (omega arith) h
+module _ (text : List ℕ) where
+  ok-front : (n at : ℕ) → digits_ok text at (suc n) ≡ ltb (digit_of (byte_at text at)) 16 && digits_ok text (at + 1) n
+  unfolding digits_ok digit_of
+  ok-front zero at = let z : at + 0 ≡ at = omega arith in rw (z, and-true (ltb (digit_of (byte_at text at)) 16))
+  ok-front (suc n) at =
+      let q : at + suc n ≡ at + 1 + n = omega arith in
+      rw (ok-front n at, q) (and_assoc (ltb (digit_of (byte_at text at)) 16) (digits_ok text (at + 1) n) (ltb (digit_of (byte_at text (at + 1 + n))) 16))
 
--- one digit more of a list of them
-pub more-digits : (of : List ℕ) (n : ℕ) (f : ℕ → ℕ) {d : ℕ} → n < length of → d ≡ f n → ((i : ℕ) → i < n → get_or of i 0 ≡ f i)
-    → (i : ℕ) → i < n + 1 → get_or (set of n d) i 0 ≡ f i
-more-digits of n f {d} l e h i k = go (eqb i n) refl
-  where
-    go : (t : Bool) → eqb i n ≡ t → get_or (set of n d) i 0 ≡ f i
-    go true q = rw (eqb-true i n q, ← e) (get_or-set_same of n d 0 l)
-    go false q = let z = eqb-false i n q in get_or-set_other of n i d 0 z ∙ h i (omega (arith, k, z))
+  value-front : (n at : ℕ) → digits_value text at (suc n) ≡ digit_of (byte_at text at) * 16 ^ n + digits_value text (at + 1) n
+  unfolding digits_value digit_of
+  value-front zero at = let z : at + 0 ≡ at = omega arith in rw z (omega arith)
+  value-front (suc n) at =
+      let q : at + suc n ≡ at + 1 + n = omega arith in
+      rw (value-front n at, q, pow-suc) (power-more (16 ^ n) (digit_of (byte_at text at)) (digits_value text (at + 1) n) (digit_of (byte_at text (at + 1 + n))))
+
+  abbrev read : ℕ → ℕ → ℕ → Option Span
+  read n at v = Some (span_of (v * 16 ^ n + digits_value text at n) (at + n))
+
+  hex-none : (at v : ℕ) → hex_from 0 text at v ≡ cond (digits_ok text at 0) (read 0 at v) None
+  unfolding hex_from digits_ok digits_value
+  hex-none at v =
+      let e : at + 0 ≡ at = omega arith in
+      let f : v * 1 + 0 ≡ v = omega arith in
+      rw (e, f)
+
+  read-next : (n at v : ℕ) → read n (at + 1) (v * 16 + digit_of (byte_at text at)) ≡ read (suc n) at v
+  read-next n at v =
+      let q : at + 1 + n ≡ at + suc n = omega arith in
+      rw (q, value-front n at, pow-suc, power-front (16 ^ n) v (digit_of (byte_at text at)) (digits_value text (at + 1) n))
+
+  pub hex-digits : (n at v : ℕ) → hex_from n text at v ≡ cond (digits_ok text at n) (read n at v) None
+  unfolding hex_from
+  hex-digits zero at v = hex-none at v
+  hex-digits (suc n) at v =
+      rw (ok-front n at)
+      (by-digit (digit_of (byte_at text at)) (digits_ok text (at + 1) n) (read (suc n) at v) (hex-digits n (at + 1) (v * 16 + digit_of (byte_at text at)) ∙ ap (λ (x : Option Span). cond (digits_ok text (at + 1) n) x None) (read-next n at v)))
+
+-- an f64, by the number of its sixteen digits
+module _ (text : List ℕ) (at : ℕ) where
+  pub hex-broken : digits_at 16 text at ≡ None → None ≡ hex_at text at
+  unfolding digits_at hex_at
+  hex-broken e = rw (hex-digits text 16 at 0) (go (digits_ok text at 16) (digits_value text at 16) _ e)
+    where
+      go : (b : Bool) (v : ℕ) (x : Option Span) → cond b (Some v) None ≡ None → None ≡ cond b x None
+      go true v x f = absurd (none-some v (sym f))
+      go false v x f = refl
+
+  pub hex-read : {v : ℕ} → digits_at 16 text at ≡ Some v → Some (span_of v (at + 16)) ≡ hex_at text at
+  unfolding digits_at hex_at
+  hex-read {v} e =
+      let p = cond_some (digits_ok text at 16) (digits_value text at 16) v e in
+      let z : 0 * 16 ^ 16 + v ≡ v = omega arith in
+      rw (hex-digits text 16 at 0, p.0, p.1, z)
 
 -- a digit more fits in 64 bits
 pub fits : (b n m v d : ℕ) → n < m → 0 < b → b ^ m ≤ 2 ^ 64 → v < b ^ n → d < b → v * b + d < 2 ^ 64

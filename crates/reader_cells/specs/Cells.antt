@@ -1,13 +1,12 @@
 -- Document 01, "The job text": the cells of a line. "An f64 is its 16 lowercase hexadecimal digits; a whole number is decimal, up to 4 digits,
 -- no leading zeros, `-` if negative. A word outside a column's listed ones is 1." Read `cell_at` first, at the end.
 -- A cell ends where its digits or its word end; that a space or an LF stands there is the line's rule and is tested by the line.
-use Rattle.std.specs.Prelude.{ℕ, zero, suc, ◌+◌, ◌-◌, ◌*◌, cond, List, leb, ltb, eqb}
+use Rattle.std.specs.Prelude.{ℕ, zero, suc, ◌+◌, ◌-◌, ◌*◌, cond, List, Option, Some, None, leb, ltb, eqb}
 pub use Rattle.reader_hex.specs.Hex.{byte_at}
 unfoldable pub use Rattle.reader_hex.specs.Hex.{digit_of}
-use Rattle.reader_schema.specs.Schema.{an_f64, a_whole, kind_by, word_count, place_of}
+use Rattle.reader_schema.specs.declared.tables.Kind.TheVariants.{Number, Whole}
+use Rattle.reader_schema.specs.Schema.{kind_by, word_count, place_of}
 use Rattle.reader_cells.specs.declared.names.Span.{Span}
-use Rattle.reader_cells.specs.declared.values.Cell.{Cell}
-use Rattle.reader_cells.specs.declared.values.Cell.TheVariants.{Value, Broken}
 
 -- a value, and the place after it
 abbrev pub span_of : ℕ → ℕ → Span
@@ -37,32 +36,32 @@ abbrev pub whole_bias : ℕ
 whole_bias = 10000
 
 -- "`-` if negative": zero is not, so `-0` is broken, and so is `-` alone; no digit at all is.
-abbrev pub negative : Span → Cell
-negative n = cond (eqb n.value 0) Broken (Value (whole_bias - n.value) n.next)
+abbrev pub negative : Span → Option Span
+negative n = cond (eqb n.value 0) None (Some (span_of (whole_bias - n.value) n.next))
 
-abbrev pub positive : ℕ → Span → Cell
-positive at n = cond (eqb n.next at) Broken (Value (whole_bias + n.value) n.next)
+abbrev pub positive : ℕ → Span → Option Span
+positive at n = cond (eqb n.next at) None (Some (span_of (whole_bias + n.value) n.next))
 
 -- "a whole number is decimal, up to 4 digits, no leading zeros, `-` if negative"
-unfoldable pub whole_at : List ℕ → ℕ → Cell
+unfoldable pub whole_at : List ℕ → ℕ → Option Span
 whole_at text at = cond (eqb (byte_at text at) 45) (negative (natural_at text (at + 1))) (positive at (natural_at text at))
 
 -- "An f64 is its 16 lowercase hexadecimal digits": its bit pattern, kept as a number
-unfoldable pub hex_from : ℕ → List ℕ → ℕ → ℕ → Cell
-hex_from zero text at v = Value v at
+unfoldable pub hex_from : ℕ → List ℕ → ℕ → ℕ → Option Span
+hex_from zero text at v = Some (span_of v at)
 hex_from (suc n) text at v =
-    cond (leb 16 (digit_of (byte_at text at))) Broken (hex_from n text (at + 1) (v * 16 + digit_of (byte_at text at)))
+    cond (leb 16 (digit_of (byte_at text at))) None (hex_from n text (at + 1) (v * 16 + digit_of (byte_at text at)))
 
-unfoldable pub hex_at : List ℕ → ℕ → Cell
+unfoldable pub hex_at : List ℕ → ℕ → Option Span
 hex_at text at = hex_from 16 text at 0
 
 -- "A word outside a column's listed ones is 1": one of the list's words, kept as its place there, else broken
-abbrev pub listed_in : ℕ → Span → Cell
-listed_in list w = cond (ltb (place_of list w.value) (word_count list)) (Value (place_of list w.value) w.next) Broken
+abbrev pub listed_in : ℕ → Span → Option Span
+listed_in list w = cond (ltb (place_of list w.value) (word_count list)) (Some (span_of (place_of list w.value) w.next)) None
 
-unfoldable pub listed_at : List ℕ → ℕ → ℕ → Cell
+unfoldable pub listed_at : List ℕ → ℕ → ℕ → Option Span
 listed_at text at list = listed_in list (name_span text at)
 
 -- a cell by its column's kind: an f64, a whole number, else one of that list's words
-unfoldable pub cell_at : List ℕ → ℕ → ℕ → Cell
-cell_at text at kind = cond (eqb kind (kind_by an_f64)) (hex_at text at) (cond (eqb kind (kind_by a_whole)) (whole_at text at) (listed_at text at kind))
+unfoldable pub cell_at : List ℕ → ℕ → ℕ → Option Span
+cell_at text at kind = cond (eqb kind (kind_by Number)) (hex_at text at) (cond (eqb kind (kind_by Whole)) (whole_at text at) (listed_at text at kind))

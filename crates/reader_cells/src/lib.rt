@@ -2,8 +2,7 @@
 #![tactic(auto)]
 
 mod names;
-mod sixteen;
 mod values;
 
 pub use names::{Span, name_at};
-pub use values::{Cell, WHOLE_BIAS, cell_at};
+pub use values::{WHOLE_BIAS, cell_at};

@@ -5,31 +5,32 @@ ghost use Rattle.reader_cells.specs.Cells.{name_span};
 use reader_hex::byte_at;
 
 // A number that was read, and the place after it.
-#[derive(Clone, Copy)]
+#[derive(Clone, Copy, Debug, PartialEq, Eq)]
 pub struct Span {
     pub value: u64,
     pub next: usize,
 }
 
-// The word at a place: its bytes up to one that is at most 32, or the end, at most eight. What stands after it is the caller's to test.
+// The most bytes of a word.
+const WORD_MOST: usize = 8;
+
+// The word at a place: its bytes up to one that is at most a space, or the end, at most eight. What stands after it is the caller's to test.
 pub fn name_at(text: &[u8], at: usize) -> Span
     ensures { result ≡ name_span text.now at }
 {
     let mut value: u64 = 0;
-    let mut n = 0;
-    while n < 8 {
+    for n in 0..WORD_MOST {
         let b = byte_at(text, at + n);
-        if b <= 32 {
+        if b <= b' ' {
             return Span {
                 value,
                 next: at + n,
             };
         }
         value = value * 256 + b as u64;
-        n += 1;
     }
     Span {
         value,
-        next: at + n,
+        next: at + WORD_MOST,
     }
 }

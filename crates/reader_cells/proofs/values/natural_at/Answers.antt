@@ -2,7 +2,7 @@ use mathlib.Core.Path.{sym, ◌∙◌}
 use Prim.Native.Nat.{◌+◌}
 use native.Mathlib.Omega.{arith}
 use Rattle.reader_cells.proofs.Inside.{inside, digit-inside}
-use Rattle.reader_cells.proofs.Digits.{decimal-stop, decimal-next, decimal-whole, natural-zero, natural-is, fits, more-below, four-digits}
+use Rattle.reader_cells.proofs.Digits.{decimal-stop, decimal-next, decimal-whole, natural-zero, natural-is, more-below, four-digits}
 use borrow.Author.Rules.{rules}
 use Rattle.reader_cells.proofs.values.natural_at.Goals as goal
 
@@ -16,31 +16,24 @@ pub returns-then-byte_at-eq48 : goal.returns-then-byte_at-eq48
 returns-then-byte_at-eq48 c = let a = c.args in (sym (natural-zero a.text.now a.at c.byte_at.ensures c.if-byte_at-eq48.true), search rules)
 
 pub loop-n-init : goal.loop-n-init
-loop-n-init c = let a = c.args in (search rules, search rules, search rules, natural-is a.text.now a.at c.byte_at.ensures c.if-byte_at-eq48.false)
+loop-n-init c = let a = c.args in (search rules, search rules, natural-is a.text.now a.at c.byte_at.ensures c.if-byte_at-eq48.false)
 
 pub returns-then-d-ge10 : goal.returns-then-d-ge10
 returns-then-d-ge10 c =
     let a = c.args in let at = c.loop-n in
-    let e = at.invariant.3 ∙ decimal-stop a.text.now a.at at.n at.value c.byte_at-in-loop-n.ensures c.digit-d.ensures c.loop-n-test.true c.if-d-ge10.true in
-    (sym e, four-digits at.n _ at.invariant.0 at.invariant.1)
-
-pub overflow_mul-value : goal.overflow_mul-value
-overflow_mul-value c = let at = c.loop-n in record { fits = omega (arith, fits 10 at.n 4 at.value 0 (omega arith) (omega arith) (omega arith) at.invariant.1 (omega arith)) }
-
-pub overflow_add-value : goal.overflow_add-value
-overflow_add-value c = let at = c.loop-n in record { fits = fits 10 at.n 4 at.value c.digit-d.result (omega arith) (omega arith) (omega arith) at.invariant.1 c.if-d-ge10.false }
+    let e = at.invariant.2 ∙ decimal-stop a.text.now a.at at.n at.value c.byte_at-in-loop-n.ensures c.digit-d.ensures c.loop-n-test.true c.if-d-ge10.true in
+    (sym e, four-digits at.n _ at.auto.n-end at.invariant.0)
 
 pub loop-n-preserved : goal.loop-n-preserved
 loop-n-preserved c =
     let a = c.args in let at = c.loop-n in
     let h = digit-inside a.text.now (a.at + at.n) c.byte_at-in-loop-n.ensures c.digit-d.ensures (omega arith) in (
-      search rules,
-      more-below 10 at.n at.value _ at.invariant.1 c.if-d-ge10.false,
+      more-below 10 at.n at.value _ at.invariant.0 c.if-d-ge10.false,
       omega (arith, h),
-      at.invariant.3 ∙ decimal-next a.text.now a.at at.n at.value c.byte_at-in-loop-n.ensures c.digit-d.ensures c.loop-n-test.true c.if-d-ge10.false,
+      at.invariant.2 ∙ decimal-next a.text.now a.at at.n at.value c.byte_at-in-loop-n.ensures c.digit-d.ensures c.loop-n-test.true c.if-d-ge10.false,
     )
 
 pub returns : goal.returns
 returns c =
     let a = c.args in let at = c.loop-n in
-    (sym (at.invariant.3 ∙ decimal-whole a.text.now a.at at.n at.value c.loop-n-test.false), four-digits at.n _ at.invariant.0 at.invariant.1)
+    (sym (at.invariant.2 ∙ decimal-whole a.text.now a.at at.n at.value at.auto.n-end c.loop-n-test.false), four-digits at.n _ at.auto.n-end at.invariant.0)

@@ -1,11 +1,8 @@
 -- The invariant: the digits read on from digit n give the whole number. A digit stands in the text, so the place after it fits.
 use mathlib.Core.Path.{◌≡◌}
-use Prim.Native.Nat.{◌≤◌, ◌<◌, ◌-◌, ◌+◌, ◌^◌}
+use Prim.Native.Nat.{◌<◌, ◌-◌, ◌+◌, ◌^◌}
 use Rattle.reader_cells.specs.Cells.{decimal_from, natural_at}
 use Rattle.reader_cells.proofs.values.natural_at.Given as goal
 
 abbrev pub invariant-loop-n : goal.invariant-loop-n
-invariant-loop-n l = (l.n ≤ 4) × (l.value < 10 ^ l.n) × (l.at + l.n < 2 ^ 64) × (natural_at l.text l.at ≡ decimal_from (4 - l.n) l.text (l.at + l.n) l.value)
-
-abbrev pub decreases-loop-n : goal.decreases-loop-n
-decreases-loop-n l = 4 - l.n
+invariant-loop-n l = (l.value < 10 ^ l.n) × (l.at + l.n < 2 ^ 64) × (natural_at l.text l.at ≡ decimal_from (4 - l.n) l.text (l.at + l.n) l.value)
