@@ -1,3 +1,1 @@
-pub mod LineLaws
-pub mod SumLaws
 pub mod TextLaws

@@ -1,22 +1,27 @@
--- A line of a list of cases: a letter, a space, 16 digits, a space, 16 digits, LF. Read `case_line` first.
-use Rattle.std.specs.Prelude.{ℕ, ◌+◌, true, false, cond, List, length, ◌==◌, nat_le}
+-- A line of a list of cases: a letter, a space, 16 digits, a space, 16 digits, LF. Read `line_of` first.
+use Rattle.std.specs.Prelude.{ℕ, cond, List, length, ◌==◌, nat_le, Option, Some, None}
 use Rattle.reader_hex.specs.Hex.{byte_at, hex_word_at}
 use Rattle.reader_hex.specs.declared.digits.Word.{Word}
 use Rattle.reader_hex.specs.declared.digits.Word.TheVariants.{Number, Broken}
 use Rattle.test_support.specs.declared.lines.Line.{Line}
 
-abbrev pub broken_line : Line
-broken_line = record { good = false; letter = 0; a = 0; b = 0 }
+abbrev pub number_of_word : Word → Option ℕ
+number_of_word (Number n) = Some n
+number_of_word Broken = None
 
--- a letter and two numbers, each of which may be broken
-abbrev pub step_of : ℕ → Word → Word → Line
-step_of letter (Number a) (Number b) = record { good = true; letter = letter; a = a; b = b }
-step_of letter (Number a) Broken = broken_line
-step_of letter Broken second = broken_line
+-- the sixteen digits at a place, where a byte ends them
+abbrev pub number_in : List ℕ → ℕ → ℕ → Option ℕ
+number_in list at stop = number_of_word (hex_word_at list at stop)
 
-unfoldable pub line_within : List ℕ → ℕ → Line
-line_within list at = cond (byte_at list (at + 1) == 32) (step_of (byte_at list at) (hex_word_at list (at + 2) 32) (hex_word_at list (at + 19) 10)) broken_line
+-- a letter and two numbers
+abbrev pub line_with : ℕ → Option ℕ → Option ℕ → Option Line
+line_with letter (Some a) (Some b) = Some (record { letter = letter; a = a; b = b })
+line_with letter (Some a) None = None
+line_with letter None b = None
 
--- the line that begins at a place; broken where the list ends before it does
-unfoldable pub case_line : List ℕ → ℕ → Line
-case_line list at = cond (nat_le (at + 36) (length list)) (line_within list at) broken_line
+-- the line that a list begins with, if it has the form
+unfoldable pub line_of : List ℕ → Option Line
+line_of list =
+    cond (nat_le 36 (length list))
+    (cond (byte_at list 1 == 32) (line_with (byte_at list 0) (number_in list 2 32) (number_in list 19 10)) None)
+    None

@@ -5,6 +5,6 @@ mod lines;
 mod sums;
 mod texts;
 
-pub use lines::{Line, line_at};
+pub use lines::{LINE_LENGTH, Line, line_of};
 pub use sums::checksum;
-pub use texts::{append, extend};
+pub use texts::Text;

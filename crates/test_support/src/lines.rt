@@ -1,69 +1,41 @@
 // A line of a list is 36 bytes: a letter, a space, 16 digits, a space, 16 digits, LF.
-ghost use Rattle.std.specs.Prelude.{◌≡◌, ◌+◌, ◌≤◌, length};
-ghost use Rattle.test_support.specs.Lines.{broken_line, step_of, line_within, case_line};
+ghost use Rattle.std.specs.Prelude.{◌≡◌};
+ghost use Rattle.test_support.specs.Lines.{number_in, line_of};
 
 use reader_hex::{Word, word_at};
 
+pub const LINE_LENGTH: usize = 36;
+
 #[derive(Clone, Copy)]
 pub struct Line {
-    // whether it has the form; if not, all else is 0
-    pub good: bool,
     pub letter: u8,
     pub a: u64,
     pub b: u64,
 }
 
-fn broken() -> Line
-    ensures { result ≡ broken_line }
+// The sixteen digits at a place, if the byte `stop` ends them.
+fn number_at(bytes: &[u8], at: usize, stop: u8) -> Option<u64>
+    ensures { result ≡ number_in bytes.now at stop }
 {
-    Line {
-        good: false,
-        letter: 0,
-        a: 0,
-        b: 0,
+    match word_at(bytes, at, stop) {
+        Word::Number(n) => Some(n),
+        Word::Broken => None,
     }
 }
 
-fn step(letter: u8, first: Word, second: Word) -> Line
-    ensures { result ≡ step_of letter first second }
+// The line that a list begins with, if it has the form.
+#[tactic(auto, unfolding(crate::specs::Lines::line_of))]
+pub fn line_of(list: &[u8]) -> Option<Line>
+    ensures { result ≡ line_of list.now }
 {
-    let Word::Number(a) = first else {
-        return broken();
-    };
-    let Word::Number(b) = second else {
-        return broken();
-    };
-    Line {
-        good: true,
-        letter,
+    if list.len() < LINE_LENGTH || list[1] != b' ' {
+        return None;
+    }
+    let a = number_at(list, 2, b' ')?;
+    let b = number_at(list, 19, b'\n')?;
+    Some(Line {
+        letter: list[0],
         a,
         b,
-    }
-}
-
-fn line_within(list: &[u8], at: usize) -> Line
-    requires { at + 36 ≤ length list.now }
-    ensures { result ≡ line_within list.now at }
-{
-    if list[at + 1] != b' ' {
-        return broken();
-    }
-    step(
-        list[at],
-        word_at(list, at + 2, b' '),
-        word_at(list, at + 19, b'\n'),
-    )
-}
-
-// The line that begins at a place; broken where the list ends before it does.
-pub fn line_at(list: &[u8], at: usize) -> Line
-    ensures { result ≡ case_line list.now at }
-{
-    if list.len() < 36 {
-        return broken();
-    }
-    if list.len() - 36 < at {
-        return broken();
-    }
-    line_within(list, at)
+    })
 }

@@ -1,83 +1,98 @@
-// A text that is put together in a slice: it fills the first `held` bytes, and a piece is appended to it. What does not fit is left off.
-ghost use Rattle.std.specs.Prelude.{◌≡◌, ◌+◌, ◌-◌, ◌≤◌, length, drop};
-ghost use Rattle.std.proofs.Math.Seq.{paste};
-ghost use Rattle.test_support.specs.Texts.{appended, held_then, part_of, word_bytes, piece_of};
+// A text that is put together piece by piece.
+ghost use Rattle.std.specs.Prelude.{◌≡◌, ◌≤◌, ℕ, List, [], ◌++◌, take};
+ghost use Rattle.test_support.specs.declared.texts.TheConstants.{TEXT_ROOM};
+ghost use Rattle.test_support.specs.Texts.{appended, part_of, word_bytes, piece_of};
 
 use crate::lines::Line;
-use arithmetic_ranges::{least, less};
+use std::marker::Model;
 
-fn copy(text: &mut [u8], held: usize, piece: &[u8], n: usize)
-    requires { (n ≤ length piece.now) × (n ≤ length text.old - held) }
-    ensures { text.new ≡ paste text.old held piece.now n }
+// Some more than the longest job, so that a text may be too long for one.
+const TEXT_ROOM: usize = 66000;
+
+// What does not fit is left off.
+#[derive(Drop)]
+pub struct Text {
+    bytes: [u8; TEXT_ROOM],
+    count: usize,
+}
+
+// Clauses see the bytes that stand there.
+impl Model for Text {
+    ghost Value = { List ℕ };
+
+    ghost view = { λ t. take t.count t.bytes };
+
+    ghost invariant = { λ t. t.count ≤ TEXT_ROOM };
+}
+
+// The sixteen bytes of a line's numbers, the most significant of each first.
+fn words_of(line: Line) -> [u8; 16]
+    ensures { result ≡ word_bytes line.a ++ word_bytes line.b }
 {
-    let mut i = 0;
-    while i < n {
-        text[held + i] = piece[i];
-        i += 1;
+    let mut words = [0; 16];
+    words[..8].copy_from_slice(&line.a.to_be_bytes());
+    words[8..].copy_from_slice(&line.b.to_be_bytes());
+    words
+}
+
+// The bytes from `first` up to `last`, those of them that there are.
+fn part(bytes: &[u8], first: u64, last: u64) -> &[u8]
+    ensures { result.now ≡ part_of bytes.now first last }
+{
+    let end = bytes.len().min(last as usize);
+    &bytes[end.min(first as usize)..end]
+}
+
+// What a line appends: t the sixteen bytes of its numbers, x so many low bytes of the second as the first says, c the bytes of another
+// text from the first up to the second. Any other letter appends nothing.
+#[tactic(auto, unfolding(crate::specs::Texts::piece_of))]
+fn piece_of<'a>(line: Line, words: &'a [u8], base: &'a [u8]) -> &'a [u8]
+    requires { words.now ≡ word_bytes line.a ++ word_bytes line.b }
+    ensures { result.now ≡ piece_of line base.now }
+{
+    match line.letter {
+        b't' => words,
+        b'x' => &words[16 - line.a.min(8) as usize..],
+        b'c' => part(base, line.a, line.b),
+        _ => &[],
     }
 }
 
-// Appends a piece. Answers how many bytes are held then.
-pub fn append(text: &mut [u8], held: usize, piece: &[u8]) -> usize
-    ensures value { result ≡ held_then text.old held piece.now }
-    ensures text_after { text.new ≡ appended text.old held piece.now }
-{
-    let n = least(piece.len(), less(text.len(), held));
-    copy(text, held, piece, n);
-    held + n
-}
-
-// The bytes from `first` up to `last` of another slice, those of them that there are.
-fn append_part(text: &mut [u8], held: usize, from: &[u8], first: usize, last: usize) -> usize
-    ensures value { result ≡ held_then text.old held (part_of from.now first last) }
-    ensures text_after { text.new ≡ appended text.old held (part_of from.now first last) }
-{
-    let end = least(last, from.len());
-    let start = least(first, end);
-    append(text, held, &from[start..end])
-}
-
-fn bytes_of(word: u64) -> [u8; 8]
-    ensures { result ≡ word_bytes word }
-{
-    [
-        (word / 0x100_0000_0000_0000) as u8,
-        (word / 0x1_0000_0000_0000 % 256) as u8,
-        (word / 0x100_0000_0000 % 256) as u8,
-        (word / 0x1_0000_0000 % 256) as u8,
-        (word / 0x100_0000 % 256) as u8,
-        (word / 0x1_0000 % 256) as u8,
-        (word / 256 % 256) as u8,
-        (word % 256) as u8,
-    ]
-}
-
-// The low k of a word's eight bytes, the most significant of them first; all eight where k is more.
-fn append_word(text: &mut [u8], held: usize, k: usize, word: u64) -> usize
-    ensures value { result ≡ held_then text.old held (drop (8 - k) (word_bytes word)) }
-    ensures text_after { text.new ≡ appended text.old held (drop (8 - k) (word_bytes word)) }
-{
-    let bytes = bytes_of(word);
-    let start = less(8, k);
-    append(text, held, &bytes[start..])
-}
-
-// Appends what a line says: t the sixteen bytes of its numbers, x so many low bytes of the second as the first says, c the bytes of
-// another text from the first up to the second. Any other letter appends nothing.
-pub fn extend(line: Line, text: &mut [u8], held: usize, base: &[u8]) -> usize
-    ensures value { result ≡ held_then text.old held (piece_of line base.now) }
-    ensures text_after { text.new ≡ appended text.old held (piece_of line base.now) }
-{
-    let letter = line.letter;
-    if letter == b't' {
-        let then = append_word(text, held, 8, line.a);
-        return append_word(text, then, 8, line.b);
+impl Text {
+    pub fn new() -> Self
+        ensures { result ≡ [] }
+    {
+        Text {
+            bytes: [0; TEXT_ROOM],
+            count: 0,
+        }
     }
-    if letter == b'x' {
-        return append_word(text, held, line.a as usize, line.b);
+
+    pub fn as_slice(&self) -> &[u8]
+        ensures { result.now ≡ self.now }
+    {
+        &self.bytes[..self.count]
     }
-    if letter == b'c' {
-        return append_part(text, held, base, line.a as usize, line.b as usize);
+
+    pub fn clear(&mut self)
+        ensures { self.new ≡ [] }
+    {
+        self.count = 0;
     }
-    append(text, held, &base[..0])
+
+    pub fn append(&mut self, piece: &[u8])
+        ensures { self.new ≡ appended self.old piece.now }
+    {
+        let n = piece.len().min(TEXT_ROOM - self.count);
+        let end = self.count + n;
+        self.bytes[self.count..end].copy_from_slice(&piece[..n]);
+        self.count = end;
+    }
+
+    // Appends what a line says, of itself and of another text.
+    pub fn extend(&mut self, line: Line, base: &[u8])
+        ensures { self.new ≡ appended self.old (piece_of line base.now) }
+    {
+        self.append(piece_of(line, &words_of(line), base));
+    }
 }

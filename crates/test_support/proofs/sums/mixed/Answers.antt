@@ -1,8 +1,8 @@
--- The product of the sum's halves, modulo 2^64.
-use Rattle.test_support.proofs.SumLaws.{mix-is}
+-- Modulo 2^64 the product may be taken before the element is added.
+use native.Mathlib.Nat.{mod-add-mod}
+use Rattle.test_support.specs.Sums.{mix_of}
 use Rattle.test_support.proofs.sums.mixed.Goals as goal
 
 pub returns : goal.returns
-returns c =
-    let a = c.args in
-    mix-is a.sum a.element c.wrapping_add_u64.result _ c.wrapping_add_u64.ensures.value c.wrapping_add_u64-2.ensures.value
+unfolding mix_of
+returns c = rw c.rotate_left.ensures (mod-add-mod _ _ _)
