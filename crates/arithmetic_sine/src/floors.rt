@@ -42,6 +42,7 @@ pub(crate) fn below(x: f64) -> WholePart
 }
 
 // The greatest whole number that is at most x: 2.5 gives 2, -2.5 gives -3; a NaN, the infinities and -0 are their own.
+#[tactic(auto, using(crate::proofs::FloorLaws::floor_is))]
 pub fn floor(x: f64) -> f64
     ensures { result ≡ floor_of binary64 x }
 {
