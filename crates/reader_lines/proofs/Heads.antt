@@ -5,52 +5,47 @@ use mathlib.Core.Bool.{Bool, true, false}
 use mathlib.Core.List.{List}
 use native.Mathlib.Omega.{arith}
 use borrow.Author.Tests.{eq-eqb, ne_eqb}
-use Rattle.reader_schema.specs.Schema.{word_count, place_of}
-use Rattle.reader_cells.specs.Cells.{byte_at, name_span}
-use Rattle.reader_cells.specs.declared.names.Span.{Span}
+use Rattle.reader_schema.specs.Schema.{word_count}
+use Rattle.reader_cells.specs.Cells.{byte_at}
+use Rattle.std.specs.Prelude.{Option, Some, None}
 use Rattle.reader_lines.specs.Columns.{no_order, all_due, is_due, met_in, ordered_by}
-use Rattle.reader_lines.specs.NamesLine.{no_head, column_at, names_from, head_at}
+use Rattle.reader_lines.specs.NamesLine.{column_at, names_from, head_at}
 use Rattle.reader_lines.specs.declared.columns.Order.{Order}
 use Rattle.reader_lines.specs.declared.columns.Due.{Due}
 use Rattle.reader_lines.specs.declared.names_line.Named.{Named}
 
-module _ (text : List ℕ) (at table : ℕ) {b : ℕ} (e : b ≡ byte_at text at) where
-  pub column-none : (b ≡ 32 → ⊥) → record { column = 255; next = at } ≡ column_at text at table
-  unfolding column_at
-  column-none h = rw (← e, ne_eqb b 32 h)
-
-  pub column-some : {w : Span} {column : ℕ} → b ≡ 32 → w ≡ name_span text (at + 1) → column ≡ place_of table w.value
-      → record { column = column; next = w.next } ≡ column_at text at table
-  unfolding column_at
-  column-some {w} h f g = rw (← e, eq-eqb b 32 h, g, f)
-
-pub head-is : (text : List ℕ) (at table : ℕ) {n : ℕ} {due : Due} {order : Order} → n ≡ word_count table → due ≡ all_due n → order ≡ no_order
-    → head_at text at table ≡ names_from (n - 0) text at table 0 due order
-unfolding head_at
-head-is text at table {n} e f g = let z : n - 0 ≡ n = omega arith in rw (z, f, g, e)
+module _ (text : List ℕ) (at table : ℕ) where
+  pub head-is : {n : ℕ} {due : Due} {order : Order} → n ≡ word_count table → due ≡ all_due n → order ≡ no_order → head_at text at table ≡ names_from (n - 0) text at table 0 due order
+  unfolding head_at
+  head-is {n} e f g = let z : n - 0 ≡ n = omega arith in rw (z, f, g, e)
 
 module _ (text : List ℕ) (at table i n : ℕ) (due : Due) (order : Order) where
-  module _ {w : Named} {d : Bool} (f : w ≡ column_at text at table) (h : d ≡ is_due due w.column) (l : i < n) where
+  module _ {x : Option Named} (f : x ≡ column_at text at table) (l : i < n) where
     more : n - i ≡ suc (n - (i + 1))
     more = omega arith
 
-    pub names-stop : d ≡ false → names_from (n - i) text at table i due order ≡ no_head
+    pub names-broken : x ≡ None → names_from (n - i) text at table i due order ≡ None
     unfolding names_from
-    names-stop k = rw (more, ← f, ← h, k)
+    names-broken k = rw (more, ← f, k)
 
-    pub names-next : {due' : Due} {order' : Order} → d ≡ true → due' ≡ met_in due w.column → order' ≡ ordered_by order i w.column
-        → names_from (n - i) text at table i due order ≡ names_from (n - (i + 1)) text w.next table (i + 1) due' order'
-    unfolding names_from
-    names-next k p q = rw (more, ← f, ← h, k, p, q)
+    module _ {w : Named} (k : x ≡ Some w) {d : Bool} (h : d ≡ is_due due w.column) where
+      pub names-stop : d ≡ false → names_from (n - i) text at table i due order ≡ None
+      unfolding names_from
+      names-stop p = rw (more, ← f, k, ← h, p)
+
+      pub names-next : {due' : Due} {order' : Order} → d ≡ true → due' ≡ met_in due w.column → order' ≡ ordered_by order i w.column
+          → names_from (n - i) text at table i due order ≡ names_from (n - (i + 1)) text w.next table (i + 1) due' order'
+      unfolding names_from
+      names-next p q r = rw (more, ← f, k, ← h, p, q, r)
 
   module _ {b : ℕ} (e : b ≡ byte_at text at) (l : n ≤ i) where
     none : n - i ≡ 0
     none = omega arith
 
-    pub names-end : b ≡ 10 → names_from (n - i) text at table i due order ≡ record { good = true; next = at + 1; order = order }
+    pub names-end : b ≡ 10 → names_from (n - i) text at table i due order ≡ Some (record { next = at + 1; order = order })
     unfolding names_from
     names-end h = rw (none, ← e, eq-eqb b 10 h)
 
-    pub names-cut : (b ≡ 10 → ⊥) → names_from (n - i) text at table i due order ≡ no_head
+    pub names-cut : (b ≡ 10 → ⊥) → names_from (n - i) text at table i due order ≡ None
     unfolding names_from
     names-cut h = rw (none, ← e, ne_eqb b 10 h)

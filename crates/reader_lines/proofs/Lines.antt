@@ -1,19 +1,17 @@
 -- A line of values, one cell at a time: a law for each way out of the loop that reads it. The byte that stops a cell stands in the text.
 use Prim.Native.Nat.{ℕ, zero, suc, ◌+◌, ◌-◌, ◌<◌, ◌≤◌}
 use mathlib.Core.Path.{◌≡◌}
-use mathlib.Core.Bool.{true}
 use mathlib.Core.List.{List}
 use native.Mathlib.Omega.{arith}
 use borrow.Author.Tests.{eq-eqb, ne_eqb}
 use lib.ListN.{length}
 use Rattle.reader_schema.specs.Schema.{word_count, column_kind}
 use Rattle.reader_cells.specs.Cells.{byte_at, cell_at}
-use Rattle.reader_cells.specs.declared.values.Cell.{Cell}
-use Rattle.reader_cells.specs.declared.values.Cell.TheVariants.{Value, Broken}
+use Rattle.reader_cells.specs.declared.names.Span.{Span}
+use Rattle.std.specs.Prelude.{Option, Some, None}
 use Rattle.reader_cells.proofs.Inside.{inside}
-use Rattle.reader_lines.proofs.Past.{set_past}
 use Rattle.reader_lines.specs.Columns.{no_cells, ordered_column, valued_by}
-use Rattle.reader_lines.specs.ValuesLine.{no_values, stop_of, values_read, values_at}
+use Rattle.reader_lines.specs.ValuesLine.{stop_of, values_read, values_at}
 use Rattle.reader_lines.specs.declared.columns.Order.{Order}
 use Rattle.reader_lines.specs.declared.columns.Cells.{Cells}
 
@@ -36,32 +34,28 @@ unfolding values_at
 row_is text at table order {n} e f = let z : n - 0 ≡ n = omega arith in rw (z, f, e)
 
 pub row-end : (text : List ℕ) (at table : ℕ) (order : Order) (i n : ℕ) (cells : Cells) → n ≤ i
-    → values_read (n - i) text at table order i cells ≡ record { good = true; next = at; cells = cells }
+    → values_read (n - i) text at table order i cells ≡ Some (record { next = at; cells = cells })
 unfolding values_read
 row-end text at table order i n cells h = let z : n - i ≡ 0 = omega arith in rw z
 
-module _ (text : List ℕ) (at table : ℕ) (order : Order) (i n : ℕ) (cells : Cells) {col kind : ℕ} {x : Cell}
+module _ (text : List ℕ) (at table : ℕ) (order : Order) (i n : ℕ) (cells : Cells) {col kind : ℕ} {x : Option Span}
     (f : col ≡ ordered_column order i) (g : kind ≡ column_kind table col) (h : x ≡ cell_at text at kind) (l : i < n) where
   next : n - i ≡ suc (n - (i + 1))
   next = omega arith
 
-  pub row-broken : x ≡ Broken → values_read (n - i) text at table order i cells ≡ no_values
+  pub row-broken : x ≡ None → values_read (n - i) text at table order i cells ≡ None
   unfolding values_read
   row-broken k = rw (next, ← f, ← g, ← h, k)
 
-  module _ {v q b s : ℕ} (k : x ≡ Value v q) (e : b ≡ byte_at text q) (st : s ≡ stop_of (n - (i + 1))) where
-    pub row-stop : (b ≡ s → ⊥) → values_read (n - i) text at table order i cells ≡ no_values
+  module _ {w : Span} {b s : ℕ} (k : x ≡ Some w) (e : b ≡ byte_at text w.next) (st : s ≡ stop_of (n - (i + 1))) where
+    pub row-stop : (b ≡ s → ⊥) → values_read (n - i) text at table order i cells ≡ None
     unfolding values_read
     row-stop p = rw (next, ← f, ← g, ← h, k, ← e, ← st, ne_eqb b s p)
 
-    pub row_next : {cells' : Cells} → b ≡ s → cells' ≡ valued_by cells col v
-        → values_read (n - i) text at table order i cells ≡ values_read (n - (i + 1)) text (q + 1) table order (i + 1) cells'
+    pub row_next : {cells' : Cells} → b ≡ s → cells' ≡ valued_by cells col w.value
+        → values_read (n - i) text at table order i cells ≡ values_read (n - (i + 1)) text (w.next + 1) table order (i + 1) cells'
     unfolding values_read
     row_next p y = rw (next, ← f, ← g, ← h, k, ← e, ← st, eq-eqb b s p, y)
-
--- past the eighth place nothing is kept
-pub valued_past : (cells : Cells) (col v : ℕ) → length cells.of ≡ 8 → 8 ≤ col → valued_by cells col v ≡ cells
-valued_past cells col v e h = let l : length cells.of ≤ col = omega (arith, e) in rw (set_past cells.of col v l)
 
 pub stop-inside : (text : List ℕ) (q m : ℕ) {b s : ℕ} → b ≡ byte_at text q → s ≡ stop_of m → b ≡ s → q < length text
 stop-inside text q m e st p = inside text q e (rw (p, st) (stop-positive m))

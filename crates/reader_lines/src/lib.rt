@@ -5,6 +5,6 @@ mod columns;
 mod names_line;
 mod values_line;
 
-pub use columns::{Cells, Order, cell_of};
+pub use columns::{Cells, Order, put};
 pub use names_line::{Head, head_at};
 pub use values_line::{Values, values_at};

@@ -1,41 +1,31 @@
 use mathlib.Core.Path.{sym, ◌∙◌}
-use native.Mathlib.Omega.{arith}
-use borrow.Author.Tests.{not-true, not-false}
-use Rattle.reader_cells.proofs.Inside.{inside}
-use Rattle.reader_lines.proofs.Heads.{head-is, names-stop, names-next, names-end, names-cut}
-use borrow.Author.Rules.{rules}
+use Rattle.reader_lines.proofs.Heads.{head-is, names-broken, names-stop, names-next, names-end, names-cut}
 use Rattle.reader_lines.proofs.names_line.head_at.Goals as goal
 
 pub loop-i-init : goal.loop-i-init
-loop-i-init c = let a = c.args in (search rules, head-is a.text.now a.at a.table c.count_of-n.ensures c.all_due-due.ensures c.no_order-order.ensures)
+loop-i-init c = head-is c.args.text.now c.args.at c.args.table c.count_of-n.ensures c.all-due.ensures c.none-order.ensures
 
-pub returns-then-not-is_due : goal.returns-then-not-is_due
-returns-then-not-is_due c =
+pub returns-in_err-named : goal.returns-in_err-named
+returns-in_err-named c =
     let a = c.args in let at = c.loop-i in
-    c.no_head.ensures ∙ sym (at.invariant.1 ∙ names-stop a.text.now at.p a.table at.i _ at.due at.order c.column_at-named.ensures.0 c.is_due.ensures c.loop-i-test.true (not-true _ c.if-not-is_due.true-raw))
+    c.from_residual.ensures ∙ sym (at.invariant ∙ names-broken a.text.now at.next a.table at.i _ at.due at.order c.column_at.ensures c.loop-i-test.true c.in_err-named.was)
 
-pub overflow_cast-named : goal.overflow_cast-named
-overflow_cast-named c = record { fits = omega (arith, c.column_at-named.ensures.1) }
+pub returns-then-not-has : goal.returns-then-not-has
+returns-then-not-has c =
+    let a = c.args in let at = c.loop-i in
+    sym (at.invariant ∙ names-stop a.text.now at.next a.table at.i _ at.due at.order c.column_at.ensures c.loop-i-test.true c.in_ok-named.was c.has.ensures c.if-not-has.true)
 
 pub loop-i-preserved : goal.loop-i-preserved
 loop-i-preserved c =
-    let a = c.args in let at = c.loop-i in (
-      search rules,
-      at.invariant.1 ∙ names-next a.text.now at.p a.table at.i _ at.due at.order c.column_at-named.ensures.0 c.is_due.ensures c.loop-i-test.true (not-false _ c.if-not-is_due.false-raw) c.met-due.ensures c.ordered-order.ensures,
-    )
-
-pub overflow_add-result : goal.overflow_add-result
-overflow_add-result c =
     let a = c.args in let at = c.loop-i in
-    let h = inside a.text.now at.p c.byte_at.ensures (omega arith) in
-    record { fits = omega (arith, h) }
+    at.invariant ∙ names-next a.text.now at.next a.table at.i _ at.due at.order c.column_at.ensures c.loop-i-test.true c.in_ok-named.was c.has.ensures c.if-not-has.false (rw c.put-in-loop-i.ensures) (rw c.put.ensures)
 
-pub returns-then-byte_at-eq10 : goal.returns-then-byte_at-eq10
-returns-then-byte_at-eq10 c =
+pub returns-then-byte_at-ne10 : goal.returns-then-byte_at-ne10
+returns-then-byte_at-ne10 c =
     let a = c.args in let at = c.loop-i in
-    sym (at.invariant.1 ∙ names-end a.text.now at.p a.table at.i _ at.due at.order c.byte_at.ensures c.loop-i-test.false c.if-byte_at-eq10.true)
+    sym (at.invariant ∙ names-cut a.text.now at.next a.table at.i _ at.due at.order c.byte_at.ensures c.loop-i-test.false c.if-byte_at-ne10.true)
 
-pub returns-else-byte_at-eq10 : goal.returns-else-byte_at-eq10
-returns-else-byte_at-eq10 c =
+pub returns : goal.returns
+returns c =
     let a = c.args in let at = c.loop-i in
-    c.no_head-else-byte_at-eq10.ensures ∙ sym (at.invariant.1 ∙ names-cut a.text.now at.p a.table at.i _ at.due at.order c.byte_at.ensures c.loop-i-test.false c.if-byte_at-eq10.false)
+    sym (at.invariant ∙ names-end a.text.now at.next a.table at.i _ at.due at.order c.byte_at.ensures c.loop-i-test.false c.if-byte_at-ne10.false)

@@ -1,11 +1,8 @@
--- The invariant: the names read on from name i give the whole line. The LF after the last stands in the text, so the place after it fits.
+-- The invariant: the names read on from name i give the whole line.
 use mathlib.Core.Path.{◌≡◌}
-use Prim.Native.Nat.{◌≤◌, ◌-◌}
+use Prim.Native.Nat.{◌-◌}
 use Rattle.reader_lines.specs.NamesLine.{names_from, head_at}
 use Rattle.reader_lines.proofs.names_line.head_at.Given as goal
 
 abbrev pub invariant-loop-i : goal.invariant-loop-i
-invariant-loop-i l = (l.i ≤ l.n) × (head_at l.text l.at l.table ≡ names_from (l.n - l.i) l.text l.p l.table l.i l.due l.order)
-
-abbrev pub decreases-loop-i : goal.decreases-loop-i
-decreases-loop-i l = l.n - l.i
+invariant-loop-i l = head_at l.text l.at l.table ≡ names_from (l.n - l.i) l.text l.next l.table l.i l.due l.order
