@@ -1,17 +1,19 @@
 -- Hexadecimal digits, one at a time: each more multiplies the number by sixteen, and the first byte that is none breaks the word.
 use Prim.Native.Nat.{ℕ, zero, suc, ◌+◌, ◌*◌, ◌^◌, ◌<◌, ◌≤◌}
-use mathlib.Core.Path.{◌≡◌, refl}
-use mathlib.Core.Bool.{Bool, true, false, ◌&&◌}
+use Prim.Native.Nat.{◌-◌}
+use mathlib.Core.Path.{◌≡◌, refl, sym, ◌∙◌}
+use mathlib.Core.Bool.{Bool, true, false, ◌&&◌, cond}
 use mathlib.Core.List.{List}
 use mathlib.Core.Logic.{⊎_elim}
 use native.Mathlib.Numerals.{add-one}
-use native.Mathlib.Nat.{pow-suc, pow-le-pow_right, le_of_suc-le-suc, eq-or-lt_of_le, le_antisymm}
+use native.Mathlib.Nat.{pow-suc, pow-le-pow_right, le_of_suc-le-suc, eq-or-lt_of_le}
 use native.Mathlib.Omega.{arith}
-use lib.ListN.{length}
-use borrow.Author.Tests.{lt-ltb, le-ltb, eq-eqb, ne_eqb}
-use Rattle.reader_hex.specs.Hex.{digit_of, byte_at, digits_ok, digits_value, word_within, hex_word_at}
-use Rattle.reader_hex.specs.declared.digits.Word.{Word}
-use Rattle.reader_hex.specs.declared.digits.Word.TheVariants.{Number, Broken}
+use lib.Dec.{ltb, eqb}
+use lib.ListN.{length, get_or-eq_default}
+use borrow.Author.Tests.{lt-ltb, le-ltb, eq-eqb, ne_eqb, ltb-true, ltb-false}
+use Rattle.std.specs.Prelude.{Some, None}
+use Rattle.std.proofs.lemmas.Option.{none-some, cond_some}
+use Rattle.reader_hex.specs.Hex.{digit_of, byte_at, digits_ok, digits_value, digits_at, word_within, hex_word_at}
 
 and-false : (a : Bool) → a && false ≡ false
 and-false true = refl
@@ -62,29 +64,54 @@ module _ (text : List ℕ) (at : ℕ) where
       (λ lt. rw (digits-keep m n (le_of_suc-le-suc lt) h))
       (eq-or-lt_of_le l)
 
-  pub stopped : (n stop : ℕ) {d : ℕ} → d ≡ digit_of (byte_at text (at + n)) → n < 16 → 16 ≤ d → Broken ≡ word_within text at stop
-  unfolding word_within
-  stopped n stop f l k = rw (digits-keep (suc n) 16 l (digits-stop n f k))
+  -- a byte that is none among the first n
+  pub digits-broken : (m n : ℕ) {d : ℕ} → d ≡ digit_of (byte_at text (at + m)) → m < n → 16 ≤ d → None ≡ digits_at n text at
+  unfolding digits_at
+  digits-broken m n f l k = rw (digits-keep (suc m) n l (digits-stop m f k))
 
--- all sixteen read: the byte after them decides
-module _ (text : List ℕ) (at stop : ℕ) {n : ℕ} (h : n ≤ 16) (k : 16 ≤ n) (ok : digits_ok text at n ≡ true) where
-  all_read : digits_ok text at 16 ≡ true
-  all_read = rw (le_antisymm h k) at ok
+  -- a text that ends within them: the byte past its end is no digit
+  pub digits-short : (n : ℕ) → 0 < n → length text < at + n → None ≡ digits_at n text at
+  unfolding digit_of
+  digits-short n o h = digits-broken (n - 1) n refl (omega (arith, o)) (past (omega (arith, h, o)))
+    where
+      past : length text ≤ at + (n - 1) → 16 ≤ digit_of (byte_at text (at + (n - 1)))
+      past l = rw (get_or-eq_default text 0 l) (omega arith)
 
-  pub word-ends : {v : ℕ} → v ≡ digits_value text at n → byte_at text (at + 16) ≡ stop → Number v ≡ word_within text at stop
-  unfolding word_within
-  word-ends p r = rw (all_read, eq-eqb (byte_at text (at + 16)) stop r, p, le_antisymm h k)
+  pub digits-all : (n : ℕ) {v : ℕ} → digits_ok text at n ≡ true → v ≡ digits_value text at n → Some v ≡ digits_at n text at
+  unfolding digits_at
+  digits-all n e f = rw (e, f)
 
-  pub word-breaks : (byte_at text (at + 16) ≡ stop → ⊥) → Broken ≡ word_within text at stop
-  unfolding word_within
-  word-breaks r = rw (all_read, ne_eqb (byte_at text (at + 16)) stop r)
+  pub digits-inside : (n : ℕ) {v : ℕ} → 0 < n → digits_at n text at ≡ Some v → at + n ≤ length text
+  digits-inside n {v} o e = go (ltb (length text) (at + n)) refl
+    where
+      go : (b : Bool) → ltb (length text) (at + n) ≡ b → at + n ≤ length text
+      go true q = absurd (none-some v (digits-short n o (ltb-true (length text) (at + n) q) ∙ e))
+      go false q = ltb-false (length text) (at + n) q
 
--- at any place: by whether the text reaches past it
+-- sixteen digits and the byte after them
 module _ (text : List ℕ) (at stop : ℕ) where
-  pub word-inside : {r : Word} → at + 16 < length text → r ≡ word_within text at stop → r ≡ hex_word_at text at stop
-  unfolding hex_word_at
-  word-inside h e = rw (lt-ltb (at + 16) (length text) h, e)
+  pub word-none : digits_at 16 text at ≡ None → None ≡ hex_word_at text at stop
+  unfolding digits_at hex_word_at word_within
+  word-none = go (digits_value text at 16) (digits_ok text at 16) (ltb (at + 16) (length text)) (eqb (byte_at text (at + 16)) stop)
+    where
+      go : (v : ℕ) (a b c : Bool) → cond a (Some v) None ≡ None → None ≡ cond b (cond (a && c) (Some v) None) None
+      go v true b c e = absurd (none-some v (sym e))
+      go v false true c e = refl
+      go v false false c e = refl
 
-  pub word-outside : length text ≤ at + 16 → Broken ≡ hex_word_at text at stop
+  pub word-outside : length text ≤ at + 16 → None ≡ hex_word_at text at stop
   unfolding hex_word_at
   word-outside h = rw (le-ltb (at + 16) (length text) h)
+
+  module _ {v b : ℕ} (e : digits_at 16 text at ≡ Some v) (h : at + 16 < length text) (f : b ≡ byte_at text (at + 16)) where
+    all : (digits_ok text at 16 ≡ true) × (digits_value text at 16 ≡ v)
+    unfolding digits_at
+    all = cond_some (digits_ok text at 16) (digits_value text at 16) v e
+
+    pub word-ends : b ≡ stop → Some v ≡ hex_word_at text at stop
+    unfolding hex_word_at word_within
+    word-ends r = rw (lt-ltb (at + 16) (length text) h, all.0, ← f, eq-eqb b stop r, all.1)
+
+    pub word-breaks : (b ≡ stop → ⊥) → None ≡ hex_word_at text at stop
+    unfolding hex_word_at word_within
+    word-breaks r = rw (lt-ltb (at + 16) (length text) h, all.0, ← f, ne_eqb b stop r)

@@ -1,7 +1,5 @@
--- Lowercase hexadecimal digits, and a number of sixteen of them.
-use Rattle.std.specs.Prelude.{ℕ, zero, suc, ◌+◌, ◌-◌, ◌*◌, Bool, true, ◌&&◌, cond, List, get_or, length, leb, ltb, eqb}
-use Rattle.reader_hex.specs.declared.digits.Word.{Word}
-use Rattle.reader_hex.specs.declared.digits.Word.TheVariants.{Number, Broken}
+-- Lowercase hexadecimal digits, and a number of some of them.
+use Rattle.std.specs.Prelude.{ℕ, zero, suc, ◌+◌, ◌-◌, ◌*◌, Bool, true, ◌&&◌, cond, List, Option, Some, None, get_or, length, leb, ltb, eqb}
 
 -- the value of a digit, 0-9 or a-f; 16 for any other byte
 unfoldable pub digit_of : ℕ → ℕ
@@ -23,12 +21,17 @@ unfolding digit_of
 digits_value text at zero = 0
 digits_value text at (suc n) = digits_value text at n * 16 + digit_of (byte_at text (at + n))
 
--- the number at a place, with a given byte after it
-unfoldable pub word_within : List ℕ → ℕ → ℕ → Word
+-- the number of n digits at a place; none where a byte is no digit
+unfoldable pub digits_at : ℕ → List ℕ → ℕ → Option ℕ
+unfolding digits_ok digits_value
+digits_at n text at = cond (digits_ok text at n) (Some (digits_value text at n)) None
+
+-- the number of sixteen digits at a place, with a given byte after it
+unfoldable pub word_within : List ℕ → ℕ → ℕ → Option ℕ
 unfolding digits_ok digits_value
 word_within text at stop =
-    cond (digits_ok text at 16 && eqb (byte_at text (at + 16)) stop) (Number (digits_value text at 16)) Broken
+    cond (digits_ok text at 16 && eqb (byte_at text (at + 16)) stop) (Some (digits_value text at 16)) None
 
--- the same at any place; broken where the text ends before it
-unfoldable pub hex_word_at : List ℕ → ℕ → ℕ → Word
-hex_word_at text at stop = cond (ltb (at + 16) (length text)) (word_within text at stop) Broken
+-- the same at any place; none where the text ends before that byte
+unfoldable pub hex_word_at : List ℕ → ℕ → ℕ → Option ℕ
+hex_word_at text at stop = cond (ltb (at + 16) (length text)) (word_within text at stop) None

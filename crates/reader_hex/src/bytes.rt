@@ -6,19 +6,17 @@ ghost use Rattle.reader_hex.specs.Hex.{byte_at, digit_of};
 pub fn byte_at(text: &[u8], at: usize) -> u8
     ensures { result ≡ byte_at text.now at }
 {
-    if at < text.len() { text[at] } else { 0 }
+    text.get(at).copied().unwrap_or(0)
 }
 
-// The value of a hexadecimal digit in lower case, 16 for any other byte. Both ends are tested together, so that no branch of the
-// machine's goes by what digits the text has.
+// The value of a hexadecimal digit in lower case, 16 for any other byte: a number in both cases, so that digits are worked out side by side.
+#[tactic(auto, unfolding(crate::specs::Hex::digit_of))]
 pub fn digit(b: u8) -> u8
     ensures { result ≡ digit_of b }
 {
-    if (48 <= b) & (b <= 57) {
-        return b - 48;
+    match b {
+        b'0'..=b'9' => b - b'0',
+        b'a'..=b'f' => b - b'a' + 10,
+        _ => 16,
     }
-    if (97 <= b) & (b <= 102) {
-        return b - 87;
-    }
-    16
 }

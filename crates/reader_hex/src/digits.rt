@@ -1,46 +1,46 @@
-// Sixteen hexadecimal digits as a number.
-ghost use Rattle.std.specs.Prelude.{◌≡◌, ◌+◌, ◌<◌, length};
-ghost use Rattle.reader_hex.specs.Hex.{word_within, hex_word_at};
+// Hexadecimal digits as a number.
+ghost use Rattle.std.specs.Prelude.{◌≡◌, ℕ, ◌+◌, ◌<◌, ◌≤◌, length, get_or};
+ghost use Rattle.reader_hex.specs.Hex.{byte_at, digit_of, digits_at, hex_word_at};
 
 use crate::bytes::digit;
 
-#[derive(Clone, Copy)]
-pub enum Word {
-    Number(u64),
-    Broken,
-}
-
-// The number at a place, with the byte `stop` after it.
-fn word_within(text: &[u8], at: usize, stop: u8) -> Word
-    requires { at + 16 < length text.now }
-    ensures { result ≡ word_within text.now at stop }
+// The values of N bytes as digits, good or not: with no way out between them, they are worked out together.
+fn values_at<const N: usize>(text: &[u8], at: usize) -> [u8; N]
+    requires { at + N ≤ length text.now }
+    ensures { (i : ℕ) → i < N → get_or result i 0 ≡ digit_of (byte_at text.now (at + i)) }
 {
-    let mut bits: u64 = 0;
-    let mut n = 0;
-    while n < 16 {
-        let d = digit(text[at + n]);
-        if 16 <= d {
-            return Word::Broken;
-        }
-        bits = bits * 16 + d as u64;
-        n += 1;
+    let mut values = [0; N];
+    for i in 0..N {
+        values[i] = digit(text[at + i]);
     }
-    if text[at + 16] == stop {
-        Word::Number(bits)
-    } else {
-        Word::Broken
-    }
+    values
 }
 
-// The same at any place; broken where the text ends before it.
-pub fn word_at(text: &[u8], at: usize, stop: u8) -> Word
+// The number that N digits stand for; none where a byte is no digit, or the text ends before.
+pub fn digits_at<const N: usize>(text: &[u8], at: usize) -> Option<u64>
+    requires { (0 < N) × (N ≤ 16) }
+    ensures { result ≡ digits_at N text.now at }
+{
+    if text.len().saturating_sub(at) < N {
+        return None;
+    }
+    let values = values_at::<N>(text, at);
+    let mut number: u64 = 0;
+    for i in 0..N {
+        let d = values[i] as u64;
+        if 16 <= d {
+            return None;
+        }
+        number = number * 16 + d;
+    }
+    Some(number)
+}
+
+// The number of sixteen digits with the byte `stop` after them; none where the text ends before it.
+pub fn word_at(text: &[u8], at: usize, stop: u8) -> Option<u64>
     ensures { result ≡ hex_word_at text.now at stop }
 {
-    if text.len() < 17 {
-        return Word::Broken;
-    }
-    if text.len() - 17 < at {
-        return Word::Broken;
-    }
-    word_within(text, at, stop)
+    let number = digits_at::<16>(text, at)?;
+    let after = *text.get(at + 16)?;
+    if after == stop { Some(number) } else { None }
 }

@@ -1,13 +1,35 @@
--- By the two tests that the text reaches past the word.
+-- By the digits, and by the byte after them. The digits stand in the text, so the place after them fits.
+use mathlib.Core.Path.{sym, ◌∙◌}
+use native.Mathlib.Omega.{arith}
 use borrow.Author.Rules.{rules}
-use Rattle.reader_hex.proofs.HexDigits.{word-inside, word-outside}
+use Rattle.reader_hex.proofs.HexDigits.{digits-inside, word-none, word-outside, word-ends, word-breaks}
 use Rattle.reader_hex.proofs.digits.word_at.Goals as goal
 
-pub returns-then-text-lt17 : goal.returns-then-text-lt17
-returns-then-text-lt17 c = word-outside c.args.text.now c.args.at c.args.stop (search rules)
+pub returns-in_err-number : goal.returns-in_err-number
+returns-in_err-number c =
+    let a = c.args in
+    c.from_residual.ensures ∙ word-none a.text.now a.at a.stop (sym c.digits_at.ensures ∙ c.in_err-number.was)
 
-pub returns-then-text-at : goal.returns-then-text-at
-returns-then-text-at c = word-outside c.args.text.now c.args.at c.args.stop (search rules)
+pub overflow_add-at : goal.overflow_add-at
+overflow_add-at c =
+    let a = c.args in
+    let h = digits-inside a.text.now a.at 16 (omega arith) (sym c.digits_at.ensures ∙ c.in_ok-number.was) in
+    search (rules, h)
 
-pub returns : goal.returns
-returns c = word-inside c.args.text.now c.args.at c.args.stop (search rules) c.word_within.ensures
+pub returns-in_err-after : goal.returns-in_err-after
+returns-in_err-after c =
+    let a = c.args in
+    let h = c.in_err-after.ensures in
+    c.from_residual-in_err-after.ensures ∙ word-outside a.text.now a.at a.stop (search rules)
+
+pub returns-then-after-stop : goal.returns-then-after-stop
+returns-then-after-stop c =
+    let a = c.args in
+    let r = c.in_ok-after.ensures.lookup.3 in
+    word-ends a.text.now a.at a.stop (sym c.digits_at.ensures ∙ c.in_ok-number.was) r.0 (r.1 0) c.if-after-stop.true
+
+pub returns-else-after-stop : goal.returns-else-after-stop
+returns-else-after-stop c =
+    let a = c.args in
+    let r = c.in_ok-after.ensures.lookup.3 in
+    word-breaks a.text.now a.at a.stop (sym c.digits_at.ensures ∙ c.in_ok-number.was) r.0 (r.1 0) c.if-after-stop.false
