@@ -5,7 +5,4 @@ mod points;
 mod vectors;
 
 pub use points::{coordinate, point};
-pub use vectors::{
-    Vector, dot, from_to, horizontal, left_normal, length, moved, place_between, scaled, sum, unit,
-    vector_between,
-};
+pub use vectors::{Vector, place_between, vector_between};

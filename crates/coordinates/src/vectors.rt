@@ -4,9 +4,7 @@ ghost use Rattle.coordinates.specs.Vectors.{from_to, moved_by, sum_of, differenc
 
 use arithmetic::root32;
 use records::Point;
-
-// The largest finite f32.
-const LARGEST: f32 = 340282346638528859811704183484516925440.0;
+use std::ops::{Add, Mul, Sub};
 
 // A displacement between places, or a direction: metres, or a number where it is a direction.
 #[derive(Clone, Copy)]
@@ -16,131 +14,152 @@ pub struct Vector {
     pub z: f32,
 }
 
-// From a to b.
-pub fn from_to(a: Point, b: Point) -> Vector
-    ensures { result ≡ from_to a b }
-{
-    Vector {
-        x: b.x - a.x,
-        y: b.y - a.y,
-        z: b.z - a.z,
+// The place that v leads to.
+impl Add<Vector> for Point {
+    type Output = Point;
+
+    fn add(self, v: Vector) -> Point
+        ensures { result ≡ moved_by self v }
+    {
+        Point {
+            x: self.x + v.x,
+            y: self.y + v.y,
+            z: self.z + v.z,
+        }
     }
 }
 
-// The place that v leads to from p.
-pub fn moved(p: Point, v: Vector) -> Point
-    ensures { result ≡ moved_by p v }
-{
-    Point {
-        x: p.x + v.x,
-        y: p.y + v.y,
-        z: p.z + v.z,
+impl Add for Vector {
+    type Output = Vector;
+
+    fn add(self, b: Vector) -> Vector
+        ensures { result ≡ sum_of self b }
+    {
+        Vector {
+            x: self.x + b.x,
+            y: self.y + b.y,
+            z: self.z + b.z,
+        }
     }
 }
 
-pub fn sum(a: Vector, b: Vector) -> Vector
-    ensures { result ≡ sum_of a b }
-{
-    Vector {
-        x: a.x + b.x,
-        y: a.y + b.y,
-        z: a.z + b.z,
+impl Sub for Vector {
+    type Output = Vector;
+
+    fn sub(self, b: Vector) -> Vector
+        ensures { result ≡ difference_of self b }
+    {
+        Vector {
+            x: self.x - b.x,
+            y: self.y - b.y,
+            z: self.z - b.z,
+        }
     }
 }
 
-// a less b.
-fn difference(a: Vector, b: Vector) -> Vector
-    ensures { result ≡ difference_of a b }
-{
-    Vector {
-        x: a.x - b.x,
-        y: a.y - b.y,
-        z: a.z - b.z,
+impl Mul<f32> for Vector {
+    type Output = Vector;
+
+    fn mul(self, k: f32) -> Vector
+        ensures { result ≡ scaled_by self k }
+    {
+        Vector {
+            x: self.x * k,
+            y: self.y * k,
+            z: self.z * k,
+        }
     }
 }
 
-pub fn scaled(v: Vector, k: f32) -> Vector
-    ensures { result ≡ scaled_by v k }
-{
-    Vector {
-        x: v.x * k,
-        y: v.y * k,
-        z: v.z * k,
-    }
-}
-
-pub fn dot(a: Vector, b: Vector) -> f32
-    ensures { result ≡ dot_of a b }
-{
-    a.x * b.x + a.y * b.y + a.z * b.z
-}
-
-// Right-handed: of x and y it is z.
-fn cross(a: Vector, b: Vector) -> Vector
-    ensures { result ≡ cross_of a b }
-{
-    Vector {
-        x: a.y * b.z - a.z * b.y,
-        y: a.z * b.x - a.x * b.z,
-        z: a.x * b.y - a.y * b.x,
-    }
-}
-
-// The root of the squares' sum: (3, 4, 0) gives 5.
-pub fn length(v: Vector) -> f32
-    ensures { result ≡ length_of v }
-{
-    root32(dot(v, v))
-}
-
-// v over its length, by one quotient; zero where the length is 0 or not finite.
-pub fn unit(v: Vector) -> Vector
-    ensures { result ≡ unit_of v }
-{
-    let len = length(v);
-    if (0.0 < len) & (len <= LARGEST) {
-        return scaled(v, 1.0 / len);
-    }
-    Vector {
+impl Vector {
+    // No displacement.
+    pub const ZERO: Vector = Vector {
         x: 0.0,
         y: 0.0,
         z: 0.0,
-    }
-}
+    };
 
-// v onto the ground plane.
-pub fn horizontal(v: Vector) -> Vector
-    ensures { result ≡ horizontal_of v }
-{
-    Vector {
-        x: v.x,
-        y: v.y,
-        z: 0.0,
-    }
-}
-
-// The unit left-hand normal of a heading, about z up: of +x it is +y; zero where the heading has no horizontal extent.
-pub fn left_normal(heading: Vector) -> Vector
-    ensures { result ≡ left_normal_of heading }
-{
-    let up = Vector {
+    const UP: Vector = Vector {
         x: 0.0,
         y: 0.0,
         z: 1.0,
     };
-    unit(cross(up, horizontal(heading)))
+
+    // From a to b. No `Sub` of Point: the type is another crate's, so the impl would be too.
+    pub fn from_to(a: Point, b: Point) -> Vector
+        ensures { result ≡ from_to a b }
+    {
+        Vector {
+            x: b.x - a.x,
+            y: b.y - a.y,
+            z: b.z - a.z,
+        }
+    }
+
+    #[tactic(auto, unfolding(crate::specs::Vectors::dot_of))]
+    pub fn dot(self, b: Vector) -> f32
+        ensures { result ≡ dot_of self b }
+    {
+        self.x * b.x + self.y * b.y + self.z * b.z
+    }
+
+    // Right-handed: of x and y it is z.
+    fn cross(self, b: Vector) -> Vector
+        ensures { result ≡ cross_of self b }
+    {
+        Vector {
+            x: self.y * b.z - self.z * b.y,
+            y: self.z * b.x - self.x * b.z,
+            z: self.x * b.y - self.y * b.x,
+        }
+    }
+
+    // The root of the squares' sum: (3, 4, 0) gives 5.
+    #[tactic(auto, unfolding(crate::specs::Vectors::length_of))]
+    pub fn length(self) -> f32
+        ensures { result ≡ length_of self }
+    {
+        root32(self.dot(self))
+    }
+
+    // The vector over its length, by one quotient; zero where the length is 0 or not finite.
+    #[tactic(auto, unfolding(crate::specs::Vectors::unit_of))]
+    pub fn unit(self) -> Vector
+        ensures { result ≡ unit_of self }
+    {
+        let len = self.length();
+        if (0.0 < len) & (len <= f32::MAX) {
+            return self * (1.0 / len);
+        }
+        Vector::ZERO
+    }
+
+    // Onto the ground plane.
+    pub fn horizontal(self) -> Vector
+        ensures { result ≡ horizontal_of self }
+    {
+        Vector { z: 0.0, ..self }
+    }
+
+    // The unit left-hand normal of a heading, about z up: of +x it is +y; zero where the heading has no horizontal extent.
+    #[tactic(auto, unfolding(crate::specs::Vectors::left_normal_of))]
+    pub fn left_normal(self) -> Vector
+        ensures { result ≡ left_normal_of self }
+    {
+        Vector::UP.cross(self.horizontal()).unit()
+    }
 }
 
 // The place t of the way from a to b; t is not clamped.
 pub fn place_between(a: Point, b: Point, t: f32) -> Point
     ensures { result ≡ place_between a b t }
 {
-    moved(a, scaled(from_to(a, b), t))
+    a + Vector::from_to(a, b) * t
 }
 
 // The displacement t of the way from a to b; t is not clamped.
 pub fn vector_between(a: Vector, b: Vector, t: f32) -> Vector
     ensures { result ≡ vector_between a b t }
 {
-    sum(a, scaled(difference(b, a), t))
+    a + (b - a) * t
 }

@@ -1,22 +1,22 @@
 -- The walk to the segment that holds s. While the walk stands at segment i, the segment looked for is i and the leading ones of the points after it (`Walked`); it ends at the last segment, or where the next point lies beyond s.
 use Prim.Native.Nat.{ℕ, zero, suc, ◌+◌, ◌-◌, ◌≤◌, ◌<◌, min}
-use native.Mathlib.Nat.{min-eq_left, min-eq_right, min-le_right, zero-min}
+use native.Mathlib.Nat.{min-eq_left, min-eq_right, zero-min}
 use native.Mathlib.Omega.{arith}
+use native.Mathlib.Numerals.{add-one}
 use mathlib.Core.Path.{◌≡◌, refl, sym, ap, ◌∙◌}
 use mathlib.Core.Bool.{Bool, true, false, ◌&&◌}
-use lib.Dec.{ltb}
-use borrow.Author.Tests.{ltb-true, ltb-false}
 use lib.Ieee.{Float, le}
 use Rattle.float_laws.specs.Binary32.{zero32, clamp_of}
 use Rattle.float_laws.proofs.Nearest.{apart}
 use Rattle.records.specs.declared.points.Point.{Point}
 use Rattle.tracks.specs.Lengths.{length_to}
-use Rattle.tracks.specs.Poses.{leading_from, segment_of, fraction_along, spot_of, position_at, heading_at, track_pose_of}
+use Rattle.coordinates.specs.declared.vectors.Vector.{Vector}
+use Rattle.coordinates.specs.Vectors.{place_between}
 use Rattle.tracks.specs.declared.poses.Spot.{Spot}
 use Rattle.tracks.specs.declared.poses.TrackPose.{TrackPose}
-use Rattle.coordinates.specs.declared.vectors.Vector.{Vector}
-
--- ---- leading values
+use Rattle.tracks.specs.declared.segments.Segment.{Segment}
+use Rattle.tracks.specs.Lines.{segment_at}
+use Rattle.tracks.specs.Poses.{leading_from, segment_of, fraction_along, spot_of, position_at, heading_at, track_pose_of}
 
 module _ (c : ℕ → Float) (s : Float) where
   pub lead-stop : (j k : ℕ) → le (c j) s ≡ false → leading_from c s j k ≡ 0
@@ -60,64 +60,51 @@ module _ (p : ℕ → Point) (n : ℕ) (s : Float) where
   pub walk_none : Walked 0
   walk_none = record { within = omega arith; on = first_on_lem n refl; off = λ _. refl }
 
-  sum-suc : (i a b : ℕ) → a ≡ suc b → i + a ≡ i + 1 + b
+  sum-suc : (i a b : ℕ) → a ≡ suc b → i + a ≡ suc i + b
   sum-suc i a b e = omega arith
 
-  walk_turn : (i : ℕ) {to : Float} → Walked i → to ≡ length_to p (suc i) → i + 2 < n → le to s ≡ true → le zero32 s ≡ true → Walked (i + 1)
+  walk_turn : (i : ℕ) {to : Float} → Walked i → to ≡ length_to p (suc i) → i + 2 < n → le to s ≡ true → le zero32 s ≡ true → Walked (suc i)
   walk_turn i {to} w t l e z =
-      let g : n - suc i - 1 ≡ n - suc (i + 1) = omega arith in
-      let h : suc (i + 1) ≡ suc (suc i) = omega arith in
-      let k : after (suc i) ≡ suc (after (suc (i + 1))) =
-      lead-step (length_to p) s (suc i) (n - suc i) (omega arith) (ap (λ (x : Float). le x s) (sym t) ∙ e) ∙ ap (λ (x : ℕ). suc (leading_from (length_to p) s (suc (suc i)) x)) g ∙ ap (λ (x : ℕ). suc (leading_from (length_to p) s x (n - suc (i + 1)))) (sym h) in
+      let g : n - suc i - 1 ≡ n - suc (suc i) = omega arith in
+      let k : after (suc i) ≡ suc (after (suc (suc i))) =
+      lead-step (length_to p) s (suc i) (n - suc i) (omega arith) (ap (λ (x : Float). le x s) (sym t) ∙ e) ∙ ap (λ (x : ℕ). suc (leading_from (length_to p) s (suc (suc i)) x)) g in
       record {
         within = omega arith;
-        on = λ o. w.on o ∙ ap (λ (x : ℕ). min x (n - 2)) (sum-suc i (after (suc i)) (after (suc (i + 1))) k);
+        on = λ o. w.on o ∙ ap (λ (x : ℕ). min x (n - 2)) (sum-suc i (after (suc i)) (after (suc (suc i))) k);
         off = λ o. absurd (apart (sym z ∙ o));
       }
 
-  -- the test passes: its three parts
-  pub walk_more : (i : ℕ) (to : Float) → ltb (i + 2) n && le to s && le zero32 s ≡ true → i + 2 < n
-  walk_more i to = go (ltb (i + 2) n) (le to s) (le zero32 s) refl
+  pub walk_next : (i : ℕ) {to : Float} → Walked i → to ≡ length_to p (suc i) → i + 2 < n → le zero32 s && le to s ≡ true → Walked (suc i)
+  walk_next i {to} w t l = go (le zero32 s) (le to s) refl refl
     where
-      go : (a b c : Bool) → ltb (i + 2) n ≡ a → a && b && c ≡ true → i + 2 < n
-      go true b c ea e = ltb-true (i + 2) n ea
-      go false b c ea e = absurd (apart (sym e))
+      go : (z b : Bool) → le zero32 s ≡ z → le to s ≡ b → z && b ≡ true → Walked (suc i)
+      go true true ez eb e = walk_turn i w t l eb ez
+      go true false ez eb e = absurd (apart (sym e))
+      go false b ez eb e = absurd (apart (sym e))
 
-  pub walk-again : (i : ℕ) {to : Float} → Walked i → to ≡ length_to p (suc i) → ltb (i + 2) n && le to s && le zero32 s ≡ true → Walked (i + 1)
-  walk-again i {to} w t = go (ltb (i + 2) n) (le to s) (le zero32 s) refl refl refl
+  -- at the last segment the walk is there
+  pub walk_ends : (i : ℕ) → Walked i → n ≤ i + 2 → i ≡ segment_of p n s
+  walk_ends i w l = go (le zero32 s) refl
     where
-      go : (a b c : Bool) → ltb (i + 2) n ≡ a → le to s ≡ b → le zero32 s ≡ c → a && b && c ≡ true → Walked (i + 1)
-      go true true true ea eb ec e = walk_turn i w t (ltb-true (i + 2) n ea) eb ec
-      go true true false ea eb ec e = absurd (apart (sym e))
-      go true false c ea eb ec e = absurd (apart (sym e))
-      go false b c ea eb ec e = absurd (apart (sym e))
+      go : (c : Bool) → le zero32 s ≡ c → i ≡ segment_of p n s
+      go true e = let h = w.within in sym (w.on e ∙ min-eq_right (omega arith) ∙ (omega arith))
+      go false e = w.off e ∙ sym (segment-off e)
 
-  -- the walk is at the segment
-  at_last : (i : ℕ) → Walked i → n ≤ i + 2 → (c : Bool) → le zero32 s ≡ c → i ≡ segment_of p n s
-  at_last i w l true e = let h = w.within in sym (w.on e ∙ min-eq_right (omega arith) ∙ (omega arith))
-  at_last i w l false e = w.off e ∙ sym (segment-off e)
-
-  at-stop : (i : ℕ) {to : Float} → Walked i → to ≡ length_to p (suc i) → le to s ≡ false → (c : Bool) → le zero32 s ≡ c → i ≡ segment_of p n s
-  at-stop i w t l true e =
+  -- where the next point lies beyond s, too
+  at-stop : (i : ℕ) {to : Float} → Walked i → to ≡ length_to p (suc i) → le zero32 s ≡ true → le to s ≡ false → i ≡ segment_of p n s
+  at-stop i w t e l =
       let h = w.within in
       let z : after (suc i) ≡ 0 = lead-stop (length_to p) s (suc i) (n - suc i) (ap (λ (x : Float). le x s) (sym t) ∙ l) in
       let y : i + after (suc i) ≡ i = omega arith in
       sym (w.on e ∙ ap (λ (x : ℕ). min x (n - 2)) y ∙ min-eq_left h)
-  at-stop i w t l false e = w.off e ∙ sym (segment-off e)
 
-  pub walk_ends : (i : ℕ) {to : Float} → Walked i → to ≡ length_to p (suc i) → ltb (i + 2) n && le to s && le zero32 s ≡ false → i ≡ segment_of p n s
-  walk_ends i {to} w t = go (ltb (i + 2) n) (le to s) (le zero32 s) refl refl refl
+  pub walk_stops : (i : ℕ) {to : Float} → Walked i → to ≡ length_to p (suc i) → le zero32 s && le to s ≡ false → i ≡ segment_of p n s
+  walk_stops i {to} w t = go (le zero32 s) (le to s) refl refl
     where
-      go : (a b c : Bool) → ltb (i + 2) n ≡ a → le to s ≡ b → le zero32 s ≡ c → a && b && c ≡ false → i ≡ segment_of p n s
-      go true true true ea eb ec e = absurd (apart e)
-      go true true false ea eb ec e = w.off ec ∙ sym (segment-off ec)
-      go true false c ea eb ec e = at-stop i w t eb c ec
-      go false b c ea eb ec e = at_last i w (ltb-false (i + 2) n ea) c ec
-
-  -- no segment lies beyond the last
-  pub segment-le : segment_of p n s ≤ n - 2
-  unfolding segment_of
-  segment-le = min-le_right (leading_from (length_to p) s 0 n - 1) (n - 2)
+      go : (z b : Bool) → le zero32 s ≡ z → le to s ≡ b → z && b ≡ false → i ≡ segment_of p n s
+      go true true ez eb e = absurd (apart e)
+      go true false ez eb e = at-stop i w t ez eb
+      go false b ez eb e = w.off ez ∙ sym (segment-off ez)
 
 -- ---- the spot, and the pose there
 
@@ -133,11 +120,9 @@ module _ (p : ℕ → Point) (n : ℕ) (s : Float) where
   unfolding spot_of
   spot_is hl hd hi hf ht h = rw (h, hf, ht, hi, hd, hl)
 
-  pub spot-le : (spot_of p n s).segment ≤ n - 2
-  unfolding spot_of
-  spot-le = segment-le p n (clamp_of zero32 (length_to p (n - 1)) s)
-
-  pub pose-is : {at : Spot} {x : Point} {h : Vector} → at ≡ spot_of p n s → x ≡ position_at p at.segment at.t → h ≡ heading_at p n at.segment at.t
-      → ◌≡◌ {A = TrackPose} (record { position = x; heading = h }) (track_pose_of p n s)
+  pub pose_is : {at : Spot} {on : Segment} {x : Point} {h : Vector} → at ≡ spot_of p n s → on ≡ segment_at p at.segment → x ≡ place_between on.from on.to at.t → h ≡ heading_at p n at.segment at.t
+      → posed x h ≡ track_pose_of p n s
   unfolding track_pose_of
-  pose-is e hx hh = joined hx hh ∙ ap (λ (y : Spot). posed (position_at p y.segment y.t) (heading_at p n y.segment y.t)) e
+  pose_is {at} e ho hx hh =
+      let there : at.segment + 1 ≡ suc at.segment = add-one at.segment in
+      joined (rw (hx, ho, there)) hh ∙ ap (λ (y : Spot). posed (position_at p y.segment y.t) (heading_at p n y.segment y.t)) e

@@ -2,10 +2,12 @@
 #![tactic(auto)]
 
 mod lengths;
+mod lines;
 mod poses;
 mod projections;
+mod segments;
 mod tangents;
 
-pub use poses::{Spot, TrackPose, pose_on};
-pub use projections::{Projection, project_on};
-pub use tangents::list_tangents;
+pub use lines::Track;
+pub use poses::{Spot, TrackPose};
+pub use projections::Projection;

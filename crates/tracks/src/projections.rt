@@ -1,15 +1,15 @@
 // The place of a track nearest to a given one.
-ghost use Rattle.std.specs.Prelude.{◌≡◌, ◌-◌, ◌/◌, length};
+ghost use Rattle.std.specs.Prelude.{◌≡◌, ◌-◌, ◌<◌, ◌^◌};
 ghost use Rattle.coordinates.specs.Vectors.{from_to};
 ghost use Rattle.coordinates.specs.Points.{point_at};
-ghost use Rattle.tracks.specs.Projections.{foot_of, candidate_of, closest_of, project_of};
-ghost use Rattle.tracks.specs.ProjectionChoice.{better_of, chosen_of};
+ghost use Rattle.tracks.specs.Lines.{count_of};
+ghost use Rattle.tracks.specs.Projections.{foot_of, candidate_of, project_of};
+ghost use Rattle.tracks.specs.ProjectionChoice.{closest_on, better_of, chosen_of};
 
-use crate::lengths::length_over;
+use crate::lines::Track;
 use crate::poses::clamped;
-use coordinates::{
-    Vector, dot, from_to, horizontal, left_normal, length, moved, point, scaled, unit,
-};
+use crate::segments::Segment;
+use coordinates::Vector;
 use records::Point;
 
 // The arc length of the nearest place, that place, and the signed distance from the line in plan, positive to the left of travel.
@@ -20,11 +20,11 @@ pub struct Projection {
     pub offset: f32,
 }
 
-// The nearest segment so far, by the point it ends at, 0 where there is none yet; with the square of its distance in space.
+// The nearest segment so far, where there is one yet, with the square of its distance in space.
 #[derive(Clone, Copy)]
 struct Chosen {
     square: f32,
-    end: usize,
+    segment: Option<usize>,
 }
 
 // The place of a segment closest to another place, how far along it lies, and the way from it to that place.
@@ -39,92 +39,96 @@ struct Closest {
 const LEAST_SQUARE: f32 = 0.000000001;
 
 // How far along a segment ab the foot lies of a place that is ap from its start: 0 to 1, and 0 where the segment is short of 3.2e-5 or so.
+#[tactic(auto, unfolding(crate::specs::Projections::foot_of))]
 fn foot(ab: Vector, ap: Vector) -> f32
     ensures { result ≡ foot_of ab ap }
 {
-    let square = dot(ab, ab);
+    let square = ab.dot(ab);
     if LEAST_SQUARE < square {
-        return clamped(0.0, 1.0, dot(ap, ab) / square);
+        return clamped(0.0, 1.0, ap.dot(ab) / square);
     }
     0.0
 }
 
-// The projection on one segment ab, which starts at the arc length from: its place closest at t, from which the projected place is apart.
-fn candidate(ab: Vector, t: f32, closest: Point, apart: Vector, from: f32) -> Projection
-    ensures { result ≡ candidate_of ab t closest apart from }
-{
-    let left = left_normal(unit(horizontal(ab)));
-    Projection {
-        s: from + length(ab) * t,
-        point: closest,
-        offset: dot(horizontal(apart), left),
+impl Segment {
+    // The place of it closest to `at`.
+    #[tactic(auto, unfolding(crate::specs::ProjectionChoice::closest_on))]
+    fn closest(self, at: Point) -> Closest
+        ensures { result ≡ closest_on self at }
+    {
+        let ab = self.way();
+        let t = foot(ab, Vector::from_to(self.from, at));
+        let point = self.from + ab * t;
+        Closest {
+            t,
+            point,
+            apart: Vector::from_to(point, at),
+        }
+    }
+
+    // The projection on it, by its closest place; it starts at the arc length `from`.
+    #[tactic(auto, unfolding(crate::specs::Projections::candidate_of))]
+    fn projection(self, on: Closest, from: f32) -> Projection
+        ensures { result ≡ candidate_of (from_to self.from self.to) on.t on.point on.apart from }
+    {
+        let way = self.way();
+        let left = way.horizontal().unit().left_normal();
+        Projection {
+            s: from + way.length() * on.t,
+            point: on.point,
+            offset: on.apart.horizontal().dot(left),
+        }
     }
 }
 
-// The place closest to `at` on the segment from a to b.
-fn closest_on(a: Point, b: Point, at: Point) -> Closest
-    ensures { (result.t ≡ foot_of (from_to a b) (from_to a at)) × (result.point ≡ closest_of a b at) × (result.apart ≡ from_to (closest_of a b at) at) }
-{
-    let ab = from_to(a, b);
-    let t = foot(ab, from_to(a, at));
-    let point = moved(a, scaled(ab, t));
-    Closest {
-        t,
-        point,
-        apart: from_to(point, at),
+impl Chosen {
+    // The nearer of the best so far and segment i; at equal distances the best so far.
+    #[tactic(auto, unfolding(crate::specs::ProjectionChoice::better_of, crate::specs::ProjectionChoice::closest_on))]
+    fn or_nearer(self, on: Segment, at: Point, i: usize) -> Chosen
+        ensures { result ≡ better_of self on at i }
+    {
+        let apart = on.closest(at).apart;
+        let square = apart.dot(apart);
+        if square < self.square {
+            return Chosen {
+                square,
+                segment: Some(i),
+            };
+        }
+        self
     }
 }
 
-// The nearer of the best so far and the segment from a to b, point `end`; at equal distances the best so far.
-fn nearer(best: Chosen, a: Point, b: Point, at: Point, end: usize) -> Chosen
-    ensures { result ≡ better_of best a b at end }
-{
-    let apart = closest_on(a, b, at).apart;
-    let square = dot(apart, apart);
-    if square < best.square {
-        return Chosen { square, end };
-    }
-    best
-}
-
-// The nearest of all segments, the first of them where several are as near. No arc length is summed here: every segment's takes a root, and only those up to the chosen one count.
-fn choose(points: &[f32], at: Point) -> Chosen
-    ensures { result ≡ chosen_of (point_at points.now) at (length points.now / 3 - 1) }
-{
-    let n = points.len() / 3;
-    let mut best = Chosen {
-        // the infinity
-        square: f32::from_bits(0x7f80_0000),
-        end: 0,
-    };
-    let mut i = 1;
-    while i < n {
-        best = nearer(best, point(points, i - 1), point(points, i), at, i);
-        i += 1;
-    }
-    best
-}
-
-// The projection of a place on the track: on its nearest segment, or the first point where none is at a distance below the infinity.
-pub fn project_on(points: &[f32], at: Point) -> Projection
-    ensures { result ≡ project_of (point_at points.now) (length points.now / 3) at }
-{
-    let end = choose(points, at).end;
-    if end == 0 {
-        return Projection {
-            s: 0.0,
-            point: point(points, 0),
-            offset: 0.0,
+impl<'a> Track<'a> {
+    // The nearest of all segments, the first of them where several are as near. No arc length is summed here: every segment's takes a root, and only those up to the chosen one count.
+    fn choose(&self, at: Point) -> Chosen
+        ensures value { result ≡ chosen_of (point_at self.now) at (count_of self.now - 1) }
+        ensures upper_bound { count_of self.now < 2 ^ 63 }
+    {
+        let mut best = Chosen {
+            square: f32::INFINITY,
+            segment: None,
         };
+        for i in 0..self.len().saturating_sub(1) {
+            best = best.or_nearer(self.segment(i), at, i);
+        }
+        best
     }
-    let a = point(points, end - 1);
-    let b = point(points, end);
-    let on = closest_on(a, b, at);
-    candidate(
-        from_to(a, b),
-        on.t,
-        on.point,
-        on.apart,
-        length_over(points, end),
-    )
+
+    // The projection of a place on the track: on its nearest segment, or the first point where none is at a distance below the infinity.
+    pub fn project_on(&self, at: Point) -> Projection
+        ensures { result ≡ project_of (point_at self.now) (count_of self.now) at }
+    {
+        match self.choose(at).segment {
+            Some(i) => {
+                let on = self.segment(i);
+                on.projection(on.closest(at), self.length_to(i))
+            }
+            None => Projection {
+                s: 0.0,
+                point: self.point(0),
+                offset: 0.0,
+            },
+        }
+    }
 }

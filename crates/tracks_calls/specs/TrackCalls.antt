@@ -1,13 +1,11 @@
 -- Document 02, Point 1: the three calls on a track. "Answers: 13, fewer than 2 or more than 512 points, a slice that is not three f32 a point, or a list lent for tangents shorter than the points, checked first;
 -- 14, a coordinate outside or NaN, the projected point's included, checked next". What the Rust turns down or panics on beyond these: nothing (tracks_laws, TrackLaws).
-use Rattle.std.specs.Prelude.{ℕ, ◌/◌, ◌%◌, Bool, true, ◌&&◌, List, [], ◌∷◌, length, get_or, leb, eqb, Float}
-use Rattle.std.specs.Float.{nan}
+use Rattle.std.specs.Prelude.{ℕ, ◌/◌, ◌%◌, Bool, true, ◌&&◌, List, [], ◌∷◌, length, leb, eqb, Float}
+use Rattle.std.specs.List.{list_all}
 use Rattle.std.specs.Float.Ieee.{neg, le}
 use Rattle.float_laws.specs.Binary32.{f32}
 use Rattle.refusals.specs.Answer.{Answer, value, refused, Row, row, checked}
-use Rattle.refusals.specs.Refusal.{number_of}
 use Rattle.refusals.specs.declared.refusals.Refusal.TheVariants.{TrackCount, TrackRange}
-use Rattle.records_lent.specs.Lists.{all_below}
 use Rattle.records.specs.declared.points.Point.{Point}
 use Rattle.coordinates.specs.Points.{point_at}
 use Rattle.tracks.specs.declared.poses.TrackPose.{TrackPose}
@@ -15,12 +13,6 @@ use Rattle.tracks.specs.declared.projections.Projection.{Projection}
 use Rattle.tracks.specs.Tangents.{tangents_left}
 use Rattle.tracks.specs.Poses.{track_pose_of}
 use Rattle.tracks.specs.Projections.{project_of}
-use Rattle.tracks_calls.specs.declared.calls.Traced.{Traced}
-use Rattle.tracks_calls.specs.declared.calls.Traced.TheVariants as tangents
-use Rattle.tracks_calls.specs.declared.calls.TrackPosed.{TrackPosed}
-use Rattle.tracks_calls.specs.declared.calls.TrackPosed.TheVariants as posed
-use Rattle.tracks_calls.specs.declared.calls.Projected.{Projected}
-use Rattle.tracks_calls.specs.declared.calls.Projected.TheVariants as projected
 
 -- ---- the rows
 
@@ -44,8 +36,7 @@ abbrev pub inside_size : Float → Bool
 inside_size x = le (neg greatest_coordinate) x && le x greatest_coordinate
 
 unfoldable pub all_inside : List Float → Bool
-unfolding all_below
-all_inside xs = all_below (λ (i : ℕ). inside_size (get_or xs i nan)) (length xs)
+all_inside xs = list_all inside_size xs
 
 abbrev pub point_inside : Point → Bool
 point_inside p = inside_size p.x && inside_size p.y && inside_size p.z
@@ -63,6 +54,11 @@ abbrev pub project_rows : List Float → Point → List Row
 project_rows xs at = row TrackCount (track_counted (length xs)) ∷ row TrackRange (all_inside xs && point_inside at) ∷ []
 
 -- ---- the answers
+
+-- the numbers of a slice that is a track
+unfoldable pub track_call : List Float → Answer (List Float)
+unfolding all_inside
+track_call xs = checked (track_rows xs) (value xs)
 
 -- the points whose tangents are written
 unfoldable pub tangents_call : List Float → ℕ → Answer ℕ
@@ -86,16 +82,3 @@ track_pose_call xs s = checked (track_rows xs) (value (track_pose_of (point_at x
 unfoldable pub project_call : List Float → Point → Answer Projection
 unfolding all_inside project_of
 project_call xs at = checked (project_rows xs at) (value (project_of (point_at xs) (length xs / 3) at))
-
--- "this paper's number and values for each case of the enum"
-abbrev pub tangents_answer : Traced → Answer ℕ
-tangents_answer (tangents.Written n) = value n
-tangents_answer (tangents.Refused r) = refused (number_of r)
-
-abbrev pub track_pose_answer : TrackPosed → Answer TrackPose
-track_pose_answer (posed.Pose p) = value p
-track_pose_answer (posed.Refused r) = refused (number_of r)
-
-abbrev pub project_answer : Projected → Answer Projection
-project_answer (projected.Found p) = value p
-project_answer (projected.Refused r) = refused (number_of r)

@@ -4,4 +4,4 @@
 mod calls;
 mod rows;
 
-pub use calls::{Projected, Traced, TrackPosed, pose_at, project, tangents};
+pub use calls::{pose_at, project, tangents};

@@ -1,18 +1,19 @@
 -- What rows 13 and 14 say of a track's points: 2 to 512 of them, each coordinate a finite f32 of at most 2,000,000 in size.
 -- Every number of a lent slice is a value of its format; `AllF32` says it.
-use Prim.Native.Nat.{ℕ, ◌+◌, ◌*◌, ◌/◌, ◌%◌, ◌≤◌, ◌<◌}
+use Prim.Native.Nat.{ℕ, zero, suc, ◌+◌, ◌*◌, ◌/◌, ◌%◌, ◌≤◌, ◌<◌}
 use native.Mathlib.Omega.{arith}
 use mathlib.Core.Path.{◌≡◌}
-use mathlib.Core.Bool.{true, ◌&&◌}
-use mathlib.Core.List.{List}
+use mathlib.Core.Bool.{Bool, true, ◌&&◌}
+use mathlib.Core.List.{List, [], ◌∷◌}
 use lib.ListN.{length, get_or}
+use Rattle.std.specs.List.{list_all}
 use lib.Dec.{leb, eqb}
 use borrow.Author.Tests.{leb-true, eqb-true}
 use lib.Ieee.{Float, nan, binary32, of_bits, fits, neg, le}
 use Rattle.float_laws.proofs.Value.{Real}
 use Rattle.float_laws.proofs.Interval.{In, in-of_le}
 use Rattle.float_laws.proofs.Checker.{good-real}
-use Rattle.records_lent.proofs.TestLaws.{true-T, and-fst, and-snd, all-at}
+use Rattle.records_lent.proofs.TestLaws.{true-T, and-fst, and-snd}
 use Rattle.records.specs.declared.points.Point.{Point}
 use Rattle.coordinates.specs.Points.{point_at}
 use Rattle.tracks_calls.specs.TrackCalls.{greatest_coordinate, track_counted, inside_size, all_inside, point_inside}
@@ -45,10 +46,15 @@ inside_is x f e =
 
 -- ---- the points
 
+passes-at : (p : Float → Bool) (xs : List Float) → list_all p xs ≡ true → (k : ℕ) → k < length xs → p (get_or xs k nan) ≡ true
+passes-at p [] e k h = absurd (omega arith)
+passes-at p (x ∷ xs) e zero h = and-fst (p x) (list_all p xs) e
+passes-at p (x ∷ xs) e (suc k) h = passes-at p xs (and-snd (p x) (list_all p xs) e) k (omega arith)
+
 module _ (xs : List Float) (fitting : AllF32 xs) (ok : all_inside xs ≡ true) where
   coordinate-at : (k : ℕ) → k < length xs → Coordinate (get_or xs k nan)
   unfolding all_inside
-  coordinate-at k h = inside_is (get_or xs k nan) (fitting k) (all-at (λ (i : ℕ). inside_size (get_or xs i nan)) (length xs) ok k h)
+  coordinate-at k h = inside_is (get_or xs k nan) (fitting k) (passes-at inside_size xs ok k h)
 
   pub placed : (i : ℕ) → i < length xs / 3 → Placed (point_at xs i)
   placed i h = record { x = coordinate-at (i * 3) (omega arith); y = coordinate-at (i * 3 + 1) (omega arith); z = coordinate-at (i * 3 + 2) (omega arith) }

@@ -1,5 +1,5 @@
 -- Arc lengths are finite, not below 0, and never fall from one point to the next: a distance is a root of at most 2^46 (`squares-in`), so at most 2^23 m, and sums of 511 such stay far below the largest f32.
-use Prim.Native.Nat.{ℕ, zero, suc, ◌+◌, ◌-◌, ◌*◌, ◌^◌, ◌≤◌, ◌<◌}
+use Prim.Native.Nat.{ℕ, zero, suc, ◌+◌, ◌*◌, ◌^◌, ◌≤◌, ◌<◌}
 use native.Mathlib.Nat.{le_trans, le_of_eq, lt_of_le_of_lt, le_of_suc-le-suc, eq-or-lt_of_le, mul-le-mul_right}
 use native.Mathlib.Omega.{arith}
 use mathlib.Core.Path.{◌≡◌, refl, sym, subst}
@@ -8,7 +8,7 @@ use mathlib.Core.List.{[], ◌∷◌}
 use lib.Dec.{T}
 use lib.Pow.{pow-add, pow-lt}
 use lib.Ieee.{Float, binary32, size, round, units, odd, of_bits, fits, neg, le, lt, eq, add, sub, mul}
-use lib.Ieee.Scale.{finite, overflow}
+use lib.Ieee.Scale.{overflow}
 use Rattle.float_laws.specs.Binary32.{f32}
 use Rattle.float_laws.proofs.Value.{mag, pl, mi, Real, mag_is, le_refl as float-refl, le_trans'}
 use Rattle.float_laws.proofs.Interval.{In, nil, nil-real, from_zero, le→parts, least, most, sq-low}

@@ -1,5 +1,5 @@
 -- Every number that a track answers with is finite, but for a NaN s: the sizes of `Within` carried through the operations, with bounds that are computed. They are crude where nothing finer is owed (a unit vector is at most 2^77 here).
-use Prim.Native.Nat.{ℕ, zero, suc, ◌+◌, ◌-◌, ◌≤◌, ◌<◌}
+use Prim.Native.Nat.{ℕ, zero, suc, ◌+◌, ◌≤◌, ◌<◌}
 use native.Mathlib.Omega.{arith}
 use mathlib.Core.Path.{◌≡◌, refl}
 use mathlib.Core.Bool.{Bool, true, false, cond}

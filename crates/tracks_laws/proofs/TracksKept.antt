@@ -20,7 +20,7 @@ use Rattle.tracks.specs.Tangents.{tangent_of, tangent_numbers}
 use Rattle.tracks.specs.Poses.{least_span, spot_of, position_at, heading_at, track_pose_of}
 use Rattle.tracks.specs.Projections.{project_of}
 use Rattle.tracks_calls.specs.TrackCalls.{track_counted, all_inside, point_inside, tangents_call, tangents_list, track_pose_call, project_call}
-use Rattle.tracks_calls.proofs.CallSteps.{list-by}
+use Rattle.tracks_calls.proofs.CallSteps.{list_by}
 use Rattle.tracks_laws.specs.TrackLaws.{IsF32, AllF32, PointIsF32, is_track, FinitePoint, Direction, TangentKept, TrackPoseKept, SpotKept, NanPose, ProjectionKept, TrackKept, TrackLaws}
 use Rattle.tracks_laws.proofs.Admitted.{Placed, placed, point-placed, counted_is}
 use Rattle.tracks_laws.proofs.ArcLengths.{lengths, lengths_rise}
@@ -79,7 +79,7 @@ module _ (xs : List Float) (fit : AllF32 xs) (ok : is_track xs ≡ true) where
     tangents-is = passes (track_counted (length xs) && leb n (length list / 3)) (all_inside xs) n 13 14 (rw (counted, le-leb n (length list / 3) room)) inside
 
     list-is : tangents_list xs list ≡ tangent_numbers p n n ++ drop (n * 3) list
-    list-is = sym (list-by xs list {a = value n} (sym tangents-is) refl)
+    list-is = sym (list_by xs list {a = value n} (sym tangents-is) refl)
 
     tangent-kept : (i : ℕ) → i < n → TangentKept (tangents_list xs list) i (tangent_of p n i)
     tangent-kept i h =

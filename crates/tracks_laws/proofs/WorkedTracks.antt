@@ -11,7 +11,6 @@ use Rattle.records.specs.declared.points.Point.{Point}
 use Rattle.coordinates.specs.declared.vectors.Vector.{Vector}
 use Rattle.coordinates.specs.Vectors.{place, dot_of, length_of, unit_of, left_normal_of}
 use Rattle.coordinates.specs.Points.{point_at}
-use Rattle.records_lent.specs.Lists.{all_below}
 use Rattle.tracks_calls.specs.TrackCalls.{all_inside}
 use Rattle.tracks.specs.Lengths.{length_to}
 use Rattle.tracks.specs.Tangents.{tangent_of}
@@ -75,5 +74,5 @@ all [] = true
 all (b ∷ bs) = b && all bs
 
 pub worked-tracks : all tests ≡ true
-unfolding all tests all_inside all_below tangent_of track_pose_of spot_of segment_of leading_from length_to heading_at project_of nearest_of nearer_of candidate_of foot_of left_normal_of unit_of length_of dot_of root_of root_units whole_root size span climb round units odd sum add sub mul div neg lt eq le of_bits of_fields count_trailing_zeros
+unfolding all tests all_inside tangent_of track_pose_of spot_of segment_of leading_from length_to heading_at project_of nearest_of nearer_of candidate_of foot_of left_normal_of unit_of length_of dot_of root_of root_units whole_root size span climb round units odd sum add sub mul div neg lt eq le of_bits of_fields count_trailing_zeros
 worked-tracks = refl

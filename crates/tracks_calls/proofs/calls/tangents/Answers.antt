@@ -1,42 +1,36 @@
--- Rows 13 and 14, then the list.
-use mathlib.Core.Path.{refl, ap}
-use mathlib.Core.Bool.{Bool, ◌&&◌}
+-- There is no room, the track is refused, or the tangents are written.
+use mathlib.Core.Path.{refl, ◌∙◌}
 use Prim.Native.Nat.{◌/◌}
-use lib.Dec.{leb}
 use lib.ListN.{length}
-use Rattle.refusals.specs.Answer.{value}
-use Rattle.coordinates.specs.Points.{point_at}
-use Rattle.tracks_calls.specs.TrackCalls.{track_counted, all_inside, tangents_call}
-use Rattle.tracks_calls.proofs.CallSteps.{row-13, row-14, rows_pass, list-by, left-made}
+use Rattle.tracks_calls.proofs.CallSteps.{told, no_room, room, passed, tangents_refused, tangents_passed, list_by, list_written}
 use Rattle.tracks_calls.proofs.calls.tangents.Goals as goal
 
-pub returns-then-not-counted-room : goal.returns-then-not-counted-room
-unfolding tangents_call
-returns-then-not-counted-room c =
-    let a = c.args in
-    let xs = a.points.now in
-    let ys = a.list.now in
-    let room = leb (length xs / 3) (length ys / 3) in
-    let e = row-13 (value (length xs / 3)) (track_counted (length xs) && room) (all_inside xs) (ap (λ (x : Bool). x && room) c.counted.ensures) c.if-not-counted-room.true-raw in
-    record { result_value = e; list_after = list-by xs ys e refl }
+pub returns-then-list-points-clause-result_value : goal.returns-then-list-points-clause-result_value
+returns-then-list-points-clause-result_value c = no_room c.args.points.now (length c.args.list.now) c.if-list-points.true
 
-pub returns-then-not-all_inside : goal.returns-then-not-all_inside
-unfolding tangents_call
-returns-then-not-all_inside c =
+pub returns-then-list-points-clause-list_after : goal.returns-then-list-points-clause-list_after
+returns-then-list-points-clause-list_after c =
     let a = c.args in
-    let xs = a.points.now in
-    let ys = a.list.now in
-    let room = leb (length xs / 3) (length ys / 3) in
-    let e = row-14 (value (length xs / 3)) (track_counted (length xs) && room) (all_inside xs) (ap (λ (x : Bool). x && room) c.counted.ensures) c.if-not-counted-room.false-raw c.all_inside.ensures c.if-not-all_inside.true-raw in
-    record { result_value = e; list_after = list-by xs ys e refl }
+    list_by a.points.now a.list.now (no_room a.points.now (length a.list.now) c.if-list-points.true) refl
 
-pub returns : goal.returns
-unfolding tangents_call
-returns c =
-    let m = c.list_tangents in
+pub returns-in_err-track-clause-result_value : goal.returns-in_err-track-clause-result_value
+returns-in_err-track-clause-result_value c =
     let a = c.args in
-    let xs = a.points.now in
-    let ys = a.list.now in
-    let room = leb (length xs / 3) (length ys / 3) in
-    let e = rows_pass (value (length xs / 3)) (track_counted (length xs) && room) (all_inside xs) (ap (λ (x : Bool). x && room) c.counted.ensures) c.if-not-counted-room.false-raw c.all_inside.ensures c.if-not-all_inside.false-raw in
-    record { result_value = e; list_after = list-by xs ys e (left-made (point_at xs) (length xs / 3) (length ys) ys c.counted.result c.if-not-counted-room.false-raw m.ensures.value m.ensures.list_after) }
+    told c.from_residual.result _ c.from_residual.ensures.1 ∙ tangents_refused a.points.now c.checked_track.ensures (length a.list.now) (room (length a.points.now / 3) (length a.list.now) c.if-list-points.false) c.in_err-track.was
+
+pub returns-in_err-track-clause-list_after : goal.returns-in_err-track-clause-list_after
+returns-in_err-track-clause-list_after c =
+    let a = c.args in
+    list_by a.points.now a.list.now (tangents_refused a.points.now c.checked_track.ensures (length a.list.now) (room (length a.points.now / 3) (length a.list.now) c.if-list-points.false) c.in_err-track.was) refl
+
+pub returns-clause-result_value : goal.returns-clause-result_value
+returns-clause-result_value c =
+    let a = c.args in
+    tangents_passed a.points.now c.checked_track.ensures (length a.list.now) (room (length a.points.now / 3) (length a.list.now) c.if-list-points.false) c.in_ok-track.was c.len.ensures.value
+
+pub returns-clause-list_after : goal.returns-clause-list_after
+returns-clause-list_after c =
+    let a = c.args in
+    let there = room (length a.points.now / 3) (length a.list.now) c.if-list-points.false in
+    let ok = passed a.points.now c.checked_track.ensures c.in_ok-track.was in
+    list_by a.points.now a.list.now (tangents_passed a.points.now c.checked_track.ensures (length a.list.now) there c.in_ok-track.was c.len.ensures.value) (list_written a.points.now a.list.now ok.0 there c.list_tangents.ensures.value c.list_tangents.ensures.list_after)

@@ -1,23 +1,17 @@
-use mathlib.Core.Path.{sym, ap, ◌∙◌}
-use native.Mathlib.Omega.{arith}
-use lib.ListN.{length}
-use Rattle.records_lent.proofs.TableLaws.{all_none, all-next, all_done}
+use Rattle.std.proofs.Common.{◌≡◌, refl, sym, ap, ◌∙◌, Bool, true, false, ◌&&◌, List, [], ◌∷◌, rules}
+use Rattle.std.specs.List.{fold, list_all}
+use Rattle.std.proofs.lemmas.Iterator.{YieldsList-from_slice}
+use Rattle.std.proofs.lemmas.Iterator.Consumers.{fold_from_yields_List}
 use Rattle.tracks_calls.specs.TrackCalls.{inside_size, all_inside}
-use Rattle.tracks_calls.proofs.rows.all_inside.Invariants.{passes}
 use Rattle.tracks_calls.proofs.rows.all_inside.Goals as goal
 
-pub loop-i-init : goal.loop-i-init
-loop-i-init c = (omega arith, sym (all_none (passes c.args.points.now)))
-
-pub loop-i-preserved : goal.loop-i-preserved
-loop-i-preserved c =
-    let at = c.loop-i in
-    let a = c.args in
-    (omega arith, all-next (passes a.points.now) at.i at.invariant.1 (c.inside-ok.ensures ∙ ap inside_size c.coordinate.ensures))
+-- that all passed so far and the rest does, one after the other
+folded : {X : Type 0} (p : X → Bool) (b : Bool) (xs : List X) → fold (λ ok x. ok && p x) b xs ≡ b && list_all p xs
+folded p true [] = refl
+folded p false [] = refl
+folded p true (x ∷ xs) = folded p (p x) xs
+folded p false (x ∷ xs) = folded p false xs
 
 pub returns : goal.returns
 unfolding all_inside
-returns c =
-    let at = c.loop-i in
-    let xs = c.args.points.now in
-    all_done (passes xs) at.i (length xs) at.invariant.0 c.loop-i-test.false at.invariant.1
+returns c = fold_from_yields_List _ (λ ok x. ok && inside_size x) true _ c.fold.ensures.ran (YieldsList-from_slice c.args.points.now cc) (λ a x b q k. search rules) ∙ folded inside_size true c.args.points.now
