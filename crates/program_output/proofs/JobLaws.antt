@@ -1,15 +1,12 @@
--- A job answered: the samples of an admitted road are made in full, what was read decides the text, and the text fits in 986 bytes.
-use Prim.Native.Nat.{ℕ, ◌+◌, ◌*◌, ◌≤◌, ◌<◌}
+-- A job answered: the samples of an admitted road are made in full, and what was read decides the text.
+use Prim.Native.Nat.{ℕ, ◌*◌, ◌≤◌}
 use native.Mathlib.Omega.{arith}
-use native.Mathlib.Nat.{zero-add}
 use mathlib.Core.Path.{◌≡◌, refl, sym, ◌∙◌, ap}
-use mathlib.Core.Bool.{Bool, true, false, cond}
-use mathlib.Core.List.{List, ◌++◌}
-use lib.Dec.{leb}
-use lib.ListN.{length, take, drop, replicate, length-append, length-replicate}
-use lib.Seq.{sets, sets-eq, take_at}
+use mathlib.Core.Bool.{true}
+use mathlib.Core.List.{List}
+use lib.ListN.{length, take, drop, replicate, length-replicate}
+use lib.Seq.{take_at}
 use lib.Ieee.{Float, binary64, of_bits}
-use borrow.Author.Tests.{le-leb, lt-leb, leb-true}
 use Rattle.refusals.specs.Answer.{Answer, value, refused}
 use Rattle.records.specs.Roads.{road_of}
 use Rattle.line_samples.specs.Samples.{samples_needed, samples_of}
@@ -20,12 +17,8 @@ use Rattle.admission.proofs.AdmissionLaws.{value-admitted, admitted-samples}
 use Rattle.line_calls.proofs.SampleCalls.{samples-made, samples_written_lem, made-needed}
 use Rattle.reader_calls.specs.Reading.{Outcome, done, stop, reading_of, verdict_of, words_held, numbers_held, wants_held}
 use Rattle.reader_laws.proofs.ReadTables.{accepted}
-use Rattle.reader_hex.specs.Digits.{bytes_of}
-use Rattle.program_output.specs.Lines.{names_line, number_line, refused_line}
-use Rattle.program_output.specs.Output.{want_lines, wants_text, written_for, output_of, answered_in, bytes_written}
-use Rattle.program_output.proofs.Writing.{after}
-use Rattle.program_output.proofs.LineLaws.{length-number}
-use Rattle.program_output.proofs.OutputLaws.{lines-few}
+use Rattle.program_output.specs.Lines.{refused_line}
+use Rattle.program_output.specs.Output.{wants_text, written_for}
 use Rattle.program_output.proofs.WantsFew.{wants-few}
 
 no_value : {m n : ℕ} → ◌≡◌ {A = Answer ℕ} (refused m) (value n) → ⊥
@@ -68,17 +61,6 @@ module _ (words : List ℕ) (numbers : List Float) (ok : admitted words numbers 
       let room : 4 * samples_needed (road_of words numbers) ≤ length xs = omega arith in
       no_value (e ∙ samples-made words numbers ok (length xs) room)
 
--- the names, then the wants
-pub text-put : (words : List ℕ) (numbers : List Float) (wants l : List ℕ) (n : ℕ) (samples : List Float) {r : ℕ} {xs ys : List ℕ} → samples ≡ samples_of (road_of words numbers)
-    → xs ≡ sets l 0 names_line → r ≡ 10 + length (want_lines words numbers samples wants n) → ys ≡ sets xs 10 (want_lines words numbers samples wants n)
-    → (r ≡ length (wants_text words numbers wants n)) × (ys ≡ sets l 0 (wants_text words numbers wants n))
-unfolding wants_text
-text-put words numbers wants l n samples {r} {xs} {ys} e f g h =
-    let a : want_lines words numbers samples wants n ≡ want_lines words numbers (samples_of (road_of words numbers)) wants n = ap (λ (z : List Float). want_lines words numbers z wants n) e in
-    let b = length-append names_line (want_lines words numbers (samples_of (road_of words numbers)) wants n) in
-    let c = ap length a in
-    (omega arith, after names_line (want_lines words numbers (samples_of (road_of words numbers)) wants n) l 0 10 refl f (h ∙ ap (λ (z : List ℕ). sets xs 10 z) a))
-
 -- ---- what was read
 
 module _ (text : List ℕ) where
@@ -111,44 +93,3 @@ module _ (text : List ℕ) where
 
   pub refused-job : {l m k n : ℕ} → l ≡ 1891 → m ≡ 8449 → k ≡ 32 → refused n ≡ verdict_of (reading_of text l m k) → refused_line n ≡ written_for (reading_of text 1891 8449 32)
   refused-job p q w e = refused-by (reading_of text 1891 8449 32) (rw (p, q, w) at e)
-
-  -- ---- "the names and 16 wants of 61 bytes"
-
-  few-by : (o : Outcome) → reading_of text 1891 8449 32 ≡ o → length (written_for o) ≤ 986
-  unfolding wants_text refused_line
-  few-by (done at count progress us xs ys) r =
-      let a = wants-few text 1891 8449 32 at count progress us xs ys r in
-      let s = samples_of (road_of us xs) in
-      let b = lines-few us xs s ys count in
-      let c = length-append names_line (want_lines us xs s ys count) in
-      omega arith
-  few-by (stop m) r = let a = length-number m in let b = length-append (bytes_of "refused ") (number_line m) in omega arith
-
-  pub output-few : length (output_of text) ≤ 986
-  unfolding output_of
-  output-few = few-by (reading_of text 1891 8449 32) refl
-
-  -- ---- the contract of `answer`
-
-  pub answered-short : (out : List ℕ) → length out < 986 → (0 ≡ bytes_written text out) × (out ≡ answered_in text out)
-  answered-short out h = rw (lt-leb 986 (length out) h) (refl, refl)
-
-  put_is : (out vs : List ℕ) → length vs ≤ length out → sets out 0 vs ≡ vs ++ drop (length vs) out
-  put_is out vs h = let l : 0 + length vs ≤ length out = omega arith in sets-eq vs out 0 l ∙ ap (λ (k : ℕ). vs ++ drop k out) (zero-add (length vs))
-
-  pub answered : (out : List ℕ) {r : ℕ} {t ys : List ℕ} → 986 ≤ length out → t ≡ written_for (reading_of text 1891 8449 32) → r ≡ length t → ys ≡ sets out 0 t → (r ≡ bytes_written text out) × (ys ≡ answered_in text out)
-  unfolding output_of
-  answered out {r} {t} {ys} h e f g =
-      let k = few-by (reading_of text 1891 8449 32) refl in
-      let w : ys ≡ written_for (reading_of text 1891 8449 32) ++ drop (length (written_for (reading_of text 1891 8449 32))) out =
-      g ∙ ap (λ (z : List ℕ). sets out 0 z) e ∙ put_is out (written_for (reading_of text 1891 8449 32)) (omega arith) in
-      rw (le-leb 986 (length out) h) (f ∙ ap length e, w)
-
-  -- what was written lies within out
-  pub count_fits : (out : List ℕ) → bytes_written text out ≤ length out
-  unfolding output_of
-  count_fits out = go (leb 986 (length out)) refl
-    where
-      go : (b : Bool) → leb 986 (length out) ≡ b → cond b (length (written_for (reading_of text 1891 8449 32))) 0 ≤ length out
-      go true e = let h = leb-true 986 (length out) e in let k = few-by (reading_of text 1891 8449 32) refl in omega arith
-      go false e = omega arith

@@ -19,7 +19,7 @@ use Rattle.program_output.specs.Lines.{FiniteAnswer}
 
 -- a finite number is no NaN, so it has one pattern
 pub finite_number : (x : Float) → T (finite x) → T (not (is_nan x))
-unfolding finite is_nan
+unfolding is_nan
 finite_number nan h = h
 finite_number (inf s) h = tt
 finite_number (fin s m e) h = tt

@@ -1,54 +1,46 @@
 // A job text answered: read, its road's samples made, and a line for each want.
-ghost use Rattle.std.specs.Prelude.{◌+◌, ◌*◌, ◌≤◌, ◌≡◌, true, length};
-ghost use Rattle.std.proofs.lemmas.List.Edits.{sets};
+ghost use Rattle.std.specs.Prelude.{◌+◌, ◌*◌, ◌≤◌, ◌≡◌, ◌++◌, true, length};
 ghost use Rattle.refusals.specs.Refusal.{number_of};
 ghost use Rattle.records.specs.Layout.{want_stride, wants_needed};
 ghost use Rattle.records.specs.Roads.{road_of};
 ghost use Rattle.line_samples.specs.Samples.{samples_of};
 ghost use Rattle.admission.specs.Admission.{admitted};
+ghost use Rattle.program_output.specs.declared.text.TheConstants.{OUTPUT_NEEDED};
 ghost use Rattle.program_output.specs.Lines.{refused_line};
-ghost use Rattle.program_output.specs.Output.{output_needed, want_lines, wants_text, bytes_written, answered_in};
+ghost use Rattle.program_output.specs.Output.{want_lines, wants_text, output_of, bytes_written, answered_in};
 
-use crate::digits::put_bytes;
-use crate::lines::{put_line, put_number};
+use crate::text::{OUTPUT_NEEDED, Text};
 use line_calls::Sampled;
 use reader_calls::Read;
 use records::layout::{NUMBERS_NEEDED, WANT_STRIDE, WANTS_NEEDED, WORDS_NEEDED};
 use refusals::Refusal;
 
-// The most bytes that are written: the names' 10, and 61 for each of 16 wants.
-pub const OUTPUT_NEEDED: usize = 986;
-
 // The line of a refused job.
-fn refuse(out: &mut [u8], r: Refusal) -> usize
-    requires { output_needed ≤ length out.old }
-    ensures value { result ≡ length (refused_line (number_of r)) }
-    ensures out_after { out.new ≡ sets out.old 0 (refused_line (number_of r)) }
+fn refused(r: Refusal) -> Text
+    ensures { result ≡ refused_line (number_of r) }
 {
-    put_bytes(out, 0, b"refused ");
-    put_number(out, 8, r)
+    let mut text = Text::new();
+    text.push_bytes(b"refused ");
+    text.push_number(r);
+    text
 }
 
-// The lines of n wants, from a place on: of an admitted road with its own samples, so that every point is finite.
-fn put_wants(
+// The lines of n wants: of an admitted road with its own samples, so that every point is finite.
+fn push_wants(
+    text: &mut Text,
     words: &[u16],
     numbers: &[f64],
     samples: &[f64],
     wants: &[u64],
     n: usize,
-    out: &mut [u8],
-    from: usize,
-) -> usize
-    requires n_in_bounds { from + 61 * n ≤ length out.old }
+)
+    requires room { length text.old + 61 * n ≤ OUTPUT_NEEDED }
     requires want_stride_in_bounds { n * want_stride ≤ length wants.now }
     requires numbers_value { admitted words.now numbers.now ≡ true }
     requires samples_value { samples.now ≡ samples_of (road_of words.now numbers.now) }
-    ensures value { result ≡ from + length (want_lines words.now numbers.now samples.now wants.now n) }
-    ensures out_after { out.new ≡ sets out.old from (want_lines words.now numbers.now samples.now wants.now n) }
+    ensures { text.new ≡ text.old ++ want_lines words.now numbers.now samples.now wants.now n }
 {
-    let mut at = from;
-    let mut k = 0;
-    while k < n {
+    for k in 0..n {
         let s = wants[k * WANT_STRIDE];
         let t = wants[k * WANT_STRIDE + 1];
         let answer = surface_calls::surface(
@@ -58,47 +50,54 @@ fn put_wants(
             reader_hex::of_bits(s),
             reader_hex::of_bits(t),
         );
-        at = put_line(out, at, s, t, answer);
-        k += 1;
+        text.push_want(s, t, answer);
     }
-    at
 }
 
 // The text of an admitted road's wants. Its samples are made here: 2,000 is the most that an admitted road needs.
-fn answer_wants(words: &[u16], numbers: &[f64], wants: &[u64], n: usize, out: &mut [u8]) -> usize
+fn wants_text(words: &[u16], numbers: &[f64], wants: &[u64], n: usize) -> Text
     requires numbers_value { admitted words.now numbers.now ≡ true }
     requires n_bound { n ≤ 16 }
     requires wants_needed_in_bounds { wants_needed ≤ length wants.now }
-    requires output_needed_in_bounds { output_needed ≤ length out.old }
-    ensures value { result ≡ length (wants_text words.now numbers.now wants.now n) }
-    ensures out_after { out.new ≡ sets out.old 0 (wants_text words.now numbers.now wants.now n) }
+    ensures { result ≡ wants_text words.now numbers.now wants.now n }
 {
     let mut samples = [0.0; 8000];
-    let made = line_calls::samples(words, numbers, &mut samples);
-    match made {
+    let mut text = Text::new();
+    match line_calls::samples(words, numbers, &mut samples) {
         Sampled::Made(count) => {
-            put_bytes(out, 0, b"s t x y z\n");
-            put_wants(words, numbers, &samples[..count * 4], wants, n, out, 10)
+            text.push_bytes(b"s t x y z\n");
+            push_wants(&mut text, words, numbers, &samples[..count * 4], wants, n);
         }
         // an admitted road has no more samples than there is room for
-        Sampled::Refused(_) => 0,
+        Sampled::Refused(_) => (),
+    }
+    text
+}
+
+fn output_of(job: &[u8]) -> Text
+    ensures { result ≡ output_of job.now }
+{
+    let mut words = [0; WORDS_NEEDED];
+    let mut numbers = [0.0; NUMBERS_NEEDED];
+    let mut wants = [0; WANTS_NEEDED];
+    match reader_calls::read(job, &mut words, &mut numbers, &mut wants) {
+        Read::Accepted(n) => wants_text(&words, &numbers, &wants, n),
+        Read::Refused(r) => refused(r),
     }
 }
 
 // The text that the program writes for a job text, put at the start of out, and its length. Nothing is written and the answer is 0 where out has
 // fewer bytes than the longest takes.
 pub fn answer(text: &[u8], out: &mut [u8]) -> usize
+    ensures in_bounds { result ≤ length out.new }
     ensures value { result ≡ bytes_written text.now out.old }
     ensures out_after { out.new ≡ answered_in text.now out.old }
 {
     if out.len() < OUTPUT_NEEDED {
         return 0;
     }
-    let mut words = [0; WORDS_NEEDED];
-    let mut numbers = [0.0; NUMBERS_NEEDED];
-    let mut wants = [0; WANTS_NEEDED];
-    match reader_calls::read(text, &mut words, &mut numbers, &mut wants) {
-        Read::Accepted(n) => answer_wants(&words, &numbers, &wants, n, out),
-        Read::Refused(r) => refuse(out, r),
-    }
+    let output = output_of(text);
+    let bytes = output.as_slice();
+    out[..bytes.len()].copy_from_slice(bytes);
+    bytes.len()
 }

@@ -2,7 +2,8 @@
 #![tactic(auto)]
 
 mod answers;
-mod digits;
 mod lines;
+mod text;
 
-pub use answers::{OUTPUT_NEEDED, answer};
+pub use answers::answer;
+pub use text::OUTPUT_NEEDED;

@@ -5,21 +5,22 @@
 use program_input::read_full;
 use program_output::OUTPUT_NEEDED;
 use std::io;
-use test_support::{Line, line_at};
+use test_support::{LINE_LENGTH, Line, line_of};
 
-#[derive(Clone, Copy)]
-pub(crate) struct State {
-    // how many jobs there were, and lines that break the form
+// A text may be longer than a job that is read.
+const TEXT_ROOM: usize = 66000;
+
+// How many jobs there were, and lines that break the form.
+#[derive(Drop)]
+pub(crate) struct Counts {
     pub(crate) jobs: u64,
     pub(crate) broken: u64,
-    // whether there may be more
-    more: bool,
 }
 
-fn next_line(rt: &impl Input) -> Line {
-    let mut bytes = [0; 36];
+fn next_line(rt: &impl Input) -> Option<Line> {
+    let mut bytes = [0; LINE_LENGTH];
     let n = read_full(&mut rt.reader(), &mut bytes);
-    line_at(&bytes[..n], 0)
+    line_of(&bytes[..n])
 }
 
 fn show(rt: &impl Print, number: u64, text: &[u8]) -> io::Result<()> {
@@ -29,56 +30,32 @@ fn show(rt: &impl Print, number: u64, text: &[u8]) -> io::Result<()> {
     rt.write_all(&out[..n])
 }
 
-// Whether the text was there. It may be longer than a job that is read.
-fn replayed(rt: &(impl Input + Print), line: Line) -> io::Result<bool> {
-    if line.b > 66000 {
+// Whether the text was there.
+fn replayed(rt: &(impl Input + Print), number: u64, size: u64) -> io::Result<bool> {
+    if size > TEXT_ROOM as u64 {
         return Ok(false);
     }
-    let size = line.b as usize;
-    let mut text = [0; 66000];
-    let n = read_full(&mut rt.reader(), &mut text[..size]);
-    show(rt, line.a, &text[..n])?;
-    Ok(n == size)
+    let mut text = [0; TEXT_ROOM];
+    let n = read_full(&mut rt.reader(), &mut text[..size as usize]);
+    show(rt, number, &text[..n])?;
+    Ok(n as u64 == size)
 }
 
-fn broken(state: State) -> State {
-    let mut r = state;
-    r.broken = std::num::wrapping_add_u64(state.broken, 1);
-    r.more = false;
-    r
-}
-
-fn step(rt: &(impl Input + Print), line: Line, state: State) -> io::Result<State> {
-    let letter = line.letter;
-    let mut r = state;
-    match letter {
-        b'j' => {
-            if !replayed(rt, line)? {
-                return Ok(broken(state));
-            }
-            r.jobs = std::num::wrapping_add_u64(state.jobs, 1);
-            Ok(r)
+// The list ends with its last line, or with one that breaks the form.
+pub(crate) fn run(rt: &(impl Input + Print)) -> io::Result<Counts> {
+    // a proved loop has to end, and nothing says that the input does: the turns are more than any run takes
+    for jobs in 0..u64::MAX {
+        let done = match next_line(rt) {
+            Some(Line { letter: b'j', a, b }) => replayed(rt, a, b)?,
+            Some(Line { letter: b'e', .. }) => return Ok(Counts { jobs, broken: 0 }),
+            _ => false,
+        };
+        if !done {
+            return Ok(Counts { jobs, broken: 1 });
         }
-        b'e' => {
-            r.more = false;
-            Ok(r)
-        }
-        // a line that breaks the form has the letter 0
-        _ => Ok(broken(state)),
     }
-}
-
-// A proved loop has to end, and nothing says that the input does: the turns are more than any run takes.
-pub(crate) fn run(rt: &(impl Input + Print)) -> io::Result<State> {
-    let mut state = State {
-        jobs: 0,
+    Ok(Counts {
+        jobs: u64::MAX,
         broken: 0,
-        more: true,
-    };
-    let mut turns = u64::MAX;
-    while turns > 0 && state.more {
-        state = step(rt, next_line(rt), state)?;
-        turns -= 1;
-    }
-    Ok(state)
+    })
 }

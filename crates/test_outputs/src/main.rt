@@ -8,6 +8,6 @@ mod jobs;
 use std::io;
 
 fn main(rt: HostRuntime) -> io::Result<()> {
-    let state = jobs::run(&rt)?;
-    println!(rt; "{} jobs, {} broken lines", state.jobs, state.broken)
+    let counts = jobs::run(&rt)?;
+    println!(rt; "{} jobs, {} broken lines", counts.jobs, counts.broken)
 }

@@ -2,9 +2,11 @@
 #![tactic(auto)]
 
 mod lines;
+mod slots;
 mod sums;
 mod texts;
 
 pub use lines::{LINE_LENGTH, Line, line_of};
+pub use slots::put;
 pub use sums::checksum;
 pub use texts::Text;

@@ -1,0 +1,17 @@
+-- One digit below 10, else two; a refusal's number has no more.
+use Rattle.std.proofs.Common.{ℕ, ◌≤◌, ◌<◌, List, ◌++◌, ap, arith, append_assoc}
+use Rattle.refusals.specs.Refusal.{number_of}
+use Rattle.program_output.proofs.LineLaws.{number-short, number-long}
+use Rattle.program_output.proofs.text.Text.push_number.Goals as goal
+use Rattle.program_output.proofs.text.Text.push_number.Goals.{then-n-ge10, else-n-ge10}
+
+pub returns : goal.returns
+returns c =
+    elim c.if-n-ge10.branch [
+      | then-n-ge10 w ↦ let h : 10 ≤ number_of c.args.r = omega arith in
+          rw (c.push-3.ensures, c.push-2.ensures, w.self-is, w.push.ensures, append_assoc, append_assoc, c.from-n.ensures)
+          (ap (λ (l : List ℕ). c.args.self.now ++ l) (number-long (number_of c.args.r) h))
+      | else-n-ge10 w ↦ let h : number_of c.args.r < 10 = omega arith in
+          rw (c.push-3.ensures, c.push-2.ensures, w.self-is, append_assoc, c.from-n.ensures)
+          (ap (λ (l : List ℕ). c.args.self.now ++ l) (number-short (number_of c.args.r) h))
+    ]
