@@ -36,6 +36,7 @@ fn lift(p: SurfacePoint, up: Axis, height: f64) -> SurfacePoint
 }
 
 // The point at s and t, with the lent samples, stood off by height; at a height of 0 the axes are not asked for. bank is of the road at s.
+#[tactic(auto, unfolding(crate::specs::Raised::raised_at, crate::specs::Raised::plain_at, surface_station::specs::Axes::axes_at, surface_station::specs::Axes::axes_by))]
 pub(crate) fn raised_xyz(
     road: &LentRoad,
     samples: &[f64],

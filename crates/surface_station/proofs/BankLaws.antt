@@ -1,6 +1,4 @@
 -- The bank of a road without banks.
-use Prim.Native.Nat.{◌<◌}
-use native.Mathlib.Omega.{arith}
 use mathlib.Core.Path.{◌≡◌, refl, sym, ap, ◌∙◌}
 use mathlib.Core.List.{List}
 use lib.ListN.{length}
@@ -9,8 +7,6 @@ use Rattle.float_laws.specs.Binary64.{f64, zero64}
 use Rattle.arithmetic_sine.specs.Floor.{floor_of, quarter_of}
 use Rattle.arithmetic_sine.specs.Sine.{in_sine_range, turn, turns, rest, factorial, quotient, horner, sine_kernel, cosine_kernel, sine_by, cosine_by, sine_of, cosine_of}
 use Rattle.records_cubic.specs.declared.cubics.Cubic.{Cubic}
-use Rattle.records_cubic.specs.Cubics.{cubics_of}
-use Rattle.records_cubic.proofs.CubicTables.{cubic-count}
 use Rattle.records.specs.Active.{last_start, active_in, value_in}
 
 sine-zero : sine_of zero64 ≡ zero64
@@ -25,15 +21,5 @@ none-active : (cs : List Cubic) (s : Float) → length cs ≡ 0 → value_in cs 
 unfolding value_in active_in last_start
 none-active cs s e = rw e
 
-module _ (xs : List Float) (s : Float) {cs : List Cubic} (e : cubics_of xs ≡ cs) (l : length xs < 5) where
-  level : value_in cs s ≡ zero64
-  level =
-      let h = cubic-count xs in
-      let k : length (cubics_of xs) ≡ 0 = omega (arith, h) in
-      none-active cs s (ap length (sym e) ∙ k)
-
-  pub bank-none : (zero64 ≡ sine_of (value_in cs s)) × (f64 0x3ff0_0000_0000_0000 ≡ cosine_of (value_in cs s))
-  bank-none = (sym (ap sine_of level ∙ sine-zero), sym (ap cosine_of level ∙ cosine-zero))
-
-pub bank-some : (s : Float) {cs ds : List Cubic} {bank sin cos : Float} → ds ≡ cs → bank ≡ value_in ds s → sin ≡ sine_of bank → cos ≡ cosine_of bank → (sin ≡ sine_of (value_in cs s)) × (cos ≡ cosine_of (value_in cs s))
-bank-some s e f g h = (rw (g, f, e), rw (h, f, e))
+pub no_bank : (cs : List Cubic) (s : Float) → length cs ≡ 0 → (zero64 ≡ sine_of (value_in cs s)) × (f64 0x3ff0_0000_0000_0000 ≡ cosine_of (value_in cs s))
+no_bank cs s e = let level = none-active cs s e in (sym (ap sine_of level ∙ sine-zero), sym (ap cosine_of level ∙ cosine-zero))

@@ -10,6 +10,7 @@ use records::LentRoad;
 use records_active::slope;
 
 // Along the reference line, up its grade; h is of the heading.
+#[tactic(auto, unfolding(crate::specs::Axes::along_by))]
 pub fn along_by(h: SinCos, grade: f64) -> Axis
     ensures { result ≡ along_by h.sin h.cos grade }
 {
@@ -21,6 +22,7 @@ pub fn along_by(h: SinCos, grade: f64) -> Axis
 }
 
 // Square to the reference line and to the banked cross section; h is of the heading, p of the bank.
+#[tactic(auto, unfolding(crate::specs::Axes::up_by))]
 pub fn up_by(h: SinCos, grade: f64, p: SinCos) -> Axis
     ensures { result ≡ up_by h.sin h.cos grade p.sin p.cos }
 {
@@ -33,6 +35,7 @@ pub fn up_by(h: SinCos, grade: f64, p: SinCos) -> Axis
 }
 
 // The three of them. The second is the cross product of the other two, not brought to length 1 again.
+#[tactic(auto, unfolding(crate::specs::Axes::axes_by))]
 fn axes_by(h: SinCos, grade: f64, p: SinCos) -> Axes
     ensures { result ≡ axes_by h.sin h.cos grade p.sin p.cos }
 {
@@ -43,6 +46,7 @@ fn axes_by(h: SinCos, grade: f64, p: SinCos) -> Axes
 }
 
 // The axes at s, with the lent samples.
+#[tactic(auto, unfolding(crate::specs::Axes::axes_at))]
 pub fn axes_at(road: &LentRoad, samples: &[f64], s: f64) -> Axes
     ensures { result ≡ axes_at road.now samples.now s }
 {

@@ -12,6 +12,7 @@ use records::{LentRoad, RefPoint};
 use records_active::{geom_at, slope, value};
 
 // The pose at s of the geometry in use there, with the lent samples.
+#[tactic(auto, unfolding(crate::specs::Station::pose_at))]
 pub fn pose_at(road: &LentRoad, samples: &[f64], s: f64) -> Pose
     ensures { result ≡ pose_at road.now samples.now s }
 {
@@ -19,6 +20,7 @@ pub fn pose_at(road: &LentRoad, samples: &[f64], s: f64) -> Pose
 }
 
 // The same with the sine and the cosine of its heading.
+#[tactic(auto, unfolding(crate::specs::Station::pose_at))]
 pub fn bearing_at(road: &LentRoad, samples: &[f64], s: f64) -> Bearing
     ensures { result ≡ bearing_of (pose_at road.now samples.now s) }
 {
@@ -37,6 +39,7 @@ pub fn bank_at(road: &LentRoad, s: f64) -> SinCos
 }
 
 // The eight numbers of the reference line at s: elevation and bank are 0, and so are their rates, where no record is active.
+#[tactic(auto, unfolding(crate::specs::Station::station_of))]
 pub fn station_at(road: &LentRoad, samples: &[f64], s: f64) -> RefPoint
     ensures { result ≡ station_of road.now samples.now s }
 {
