@@ -15,7 +15,7 @@ use lib.Ieee.Positive.{positive_of_value}
 use borrow.Author.Tests.{leb-false, lt-leb, ne_eqb, eqb-false}
 use Rattle.float_laws.proofs.Pattern.{infinite}
 use Rattle.arithmetic.specs.Root.{root_units, root_of}
-use Rattle.arithmetic.specs.RootSteps.{RootsTo}
+use Rattle.arithmetic.specs.RootSteps.{RootsTo, Width, format_of}
 use Rattle.arithmetic.proofs.Fields.{value-fields, value_low}
 use Rattle.arithmetic.proofs.RootValues.{root_of-value}
 
@@ -91,26 +91,32 @@ unfolding of_bits
 quiet binary32 = refl
 quiet binary64 = refl
 
--- ---- by what the code tests, with l for 2 ^ (P - 1) and o for the field of ones
+-- ---- by what the code tests, with p for the width's digits, o for its field of ones and l for 2 ^ (p - 1)
 
-module _ (f : Format) (l o b : ℕ) (L : l ≡ hid f) (O : o ≡ ones f) where
+module _ (p o l b : ℕ) (W : Width p o) (P : l ≡ 2 ^ (p - 1)) where
+  abbrev f : Format
+  f = format_of p
+
+  L : l ≡ hid f
+  L = P ∙ ap (λ (k : ℕ). 2 ^ (k - 1)) W.0
+
   infinity-is : o * l ≡ ones f * hid f
-  infinity-is = rw (L, O) refl
+  infinity-is = rw (L, W.1) refl
 
   step-is : o * l + l ≡ top f
-  step-is = rw (L, O) (top-is f)
+  step-is = ap (λ (k : ℕ). k + l) infinity-is ∙ ap (λ (k : ℕ). ones f * hid f + k) L ∙ top-is f
 
-  pub zero-bits : b % (o * l + l) ≡ 0 → of_bits f b ≡ root_of f (of_bits f b)
-  zero-bits h = zero-root f b (rw step-is at h)
+  pub zero_bits : b % (o * l + l) ≡ 0 → of_bits f b ≡ root_of f (of_bits f b)
+  zero_bits h = zero-root f b (rw step-is at h)
 
-  pub over-bits : (b % (o * l + l) ≡ 0 → ⊥) → o * l < b → of_bits f (o * l + 1) ≡ root_of f (of_bits f b)
-  over-bits n h =
+  pub over_bits : (r : ℕ) → (b % (o * l + l) ≡ 0 → ⊥) → o * l < b → r ≡ o * l + 1 → of_bits f r ≡ root_of f (of_bits f b)
+  over_bits r n h e =
       let z : 0 < b % (o * l + l) = omega arith in
-      ap (λ (i : ℕ). of_bits f (i + 1)) infinity-is ∙ quiet f ∙ sym (root-over f b (rw step-is at z) (rw infinity-is at h))
+      ap (of_bits f) (e ∙ ap (λ (i : ℕ). i + 1) infinity-is) ∙ quiet f ∙ sym (root-over f b (rw step-is at z) (rw infinity-is at h))
 
-  pub infinite-bits : b ≡ o * l → of_bits f b ≡ root_of f (of_bits f b)
+  pub infinite_bits : b ≡ o * l → of_bits f b ≡ root_of f (of_bits f b)
   unfolding root_of
-  infinite-bits e = let i : of_bits f b ≡ inf false = ap (of_bits f) (e ∙ infinity-is ∙ sym (zero-add (ones f * hid f))) ∙ infinite f false in rw i refl
+  infinite_bits e = let i : of_bits f b ≡ inf false = ap (of_bits f) (e ∙ infinity-is ∙ sym (zero-add (ones f * hid f))) ∙ infinite f false in rw i refl
 
   -- above 0 and below the infinity: the value by its fields
   module _ (h : b ≤ o * l) (n : b ≡ o * l → ⊥) (z : b % (o * l + l) ≡ 0 → ⊥) where
@@ -131,8 +137,8 @@ module _ (f : Format) (l o b : ℕ) (L : l ≡ hid f) (O : o ≡ ones f) where
     low-fraction e = let q : b / l * l + b % l ≡ b = div-add-mod' b l in let s = some in let k : b / l * l ≡ 0 = rw e (zero-mul l) in omega arith
 
     -- a subnormal
-    pub low-bits : (r : ℕ) → b / l ≡ 0 → RootsTo f (b % l) 0 r → of_bits f r ≡ root_of f (of_bits f b)
-    low-bits r e R =
+    pub low_bits : (r : ℕ) → b / l ≡ 0 → RootsTo f (b % l) 0 r → of_bits f r ≡ root_of f (of_bits f b)
+    low_bits r e R =
         let t = b % hid f in
         let a = t * 2 ^ 0 in
         let q : 0 < a = rw (mul-one t) (rw L at (low-fraction e)) in
@@ -140,8 +146,8 @@ module _ (f : Format) (l o b : ℕ) (L : l ≡ hid f) (O : o ≡ ones f) where
         rw L at R.is ∙ sym (root_of-value f (of_bits f b) a (positive_of_value (of_bits f b) a (2 ^ low f) v q) v)
 
     -- a normal value
-    pub high-bits : (r : ℕ) → (b / l ≡ 0 → ⊥) → RootsTo f (b % l + l) (b / l - 1) r → of_bits f r ≡ root_of f (of_bits f b)
-    high-bits r e R = go (b / hid f) refl
+    pub high_bits : (r : ℕ) → (b / l ≡ 0 → ⊥) → RootsTo f (b % l + l) (b / l - 1) r → of_bits f r ≡ root_of f (of_bits f b)
+    high_bits r e R = go (b / hid f) refl
       where
         t : ℕ
         t = b % hid f
@@ -161,3 +167,5 @@ module _ (f : Format) (l o b : ℕ) (L : l ≡ hid f) (O : o ≡ ones f) where
 -- ---- the root of a value, read off the pattern v that `root_bits` makes of the value's own pattern b
 pub root_read : (f : Format) (x y : Float) (b v : ℕ) → T (fits f x) → b ≡ to_bits f x → of_bits f v ≡ root_of f (of_bits f b) → y ≡ of_bits f v → y ≡ root_of f x
 root_read f x y b v fit e h i = i ∙ h ∙ ap (root_of f) (ap (of_bits f) e ∙ of_bits-to_bits f x fit)
+
+pub ruleset answers = (zero_bits, over_bits, infinite_bits, low_bits, high_bits)

@@ -38,6 +38,7 @@ fn pattern<const P: u64, const ONES: u64>(m: u64, j: u64) -> u64
 }
 
 // The root of the value that a pattern stands for: a zero and the infinity are their own, below 0 and of a NaN it is a NaN.
+#[tactic(auto, using(crate::proofs::RootBits::answers))]
 fn root_bits<const P: u64, const ONES: u64>(bits: u64) -> u64
     requires width { Width P ONES }
     requires bound { bits < 2 * top (format_of P) }
