@@ -2,8 +2,9 @@ pub mod Fields
 pub mod RootDigits
 pub mod RootLower
 pub mod RootRounded
-pub mod RootTests
+pub mod RootValues
 pub mod RootCases
+pub mod RootBits
 pub mod RootNearest
 pub mod RootLaws
 pub mod NarrowBits

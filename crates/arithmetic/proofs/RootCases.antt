@@ -1,23 +1,13 @@
--- What the functions of one width need, at any format: the places to the leading digit, the pattern, and the cases of a value.
+-- What `places` and `pattern` need, at any format: the places to the leading digit, and the pattern.
 use mathlib.Core.Path.{◌≡◌, refl, sym, ap, ◌∙◌, subst}
-use mathlib.Core.Bool.{false, not}
 use Prim.Native.Nat.{ℕ, zero, suc, ◌+◌, ◌-◌, ◌*◌, ◌/◌, ◌%◌, ◌^◌, ◌≤◌, ◌<◌}
-use native.Mathlib.Nat.{le_trans, le_of_eq, lt_of_lt_of_le, lt_of_not-le, not-le_of_lt, mod-le, mul-le-mul_right, mul-lt-mul_of_pos_right, mul_assoc, mul-one, add_comm, pow-suc}
+use native.Mathlib.Nat.{le_trans, le_of_eq, lt_of_lt_of_le, lt_of_not-le, not-le_of_lt, mul-le-mul_right, mul-lt-mul_of_pos_right, mul_assoc, pow-suc}
 use native.Mathlib.Numerals.{add-one}
 use native.Mathlib.Omega.{arith}
-use lib.Dec.{T}
 use lib.Pow.{pow-add, pow_pos, pow_mono}
-use lib.Ieee.{Float, Format, binary32, binary64, prec, emax, of_bits, to_bits, fits, nan_bits, lt, eq, low, hid, ones, top}
-use lib.Ieee.Bits.{nan_bits_above}
-use lib.Ieee.Exact.{HasValue}
-use lib.Ieee.Positive.{positive, value_pos}
-use borrow.Author.Tests.{le-ltb}
-use Rattle.float_laws.proofs.Interval.{nil}
-use Rattle.arithmetic.specs.Root.{root_units, root_of}
+use lib.Ieee.{Format, binary32, binary64, prec, emax, of_bits, low, hid, ones}
 use Rattle.arithmetic.specs.RootSteps.{RootOf, RootsTo}
 use Rattle.arithmetic.proofs.RootRounded.{root-pattern, pattern_lt}
-use Rattle.arithmetic.proofs.Fields.{fields_value, fields-low}
-use Rattle.arithmetic.proofs.RootTests.{positive-is, sign-plus, root_of-value}
 
 -- ---- the places from the leading digit of m up to the p-th, by the zeros of a word of v digits that stand before it
 
@@ -97,43 +87,28 @@ pattern-is f m j z w r q J Z E lo hi R =
       is = ap (λ (x : ℕ). of_bits f (x * hid f + (r + 1) / 2)) (add-one t) ∙ a;
     }
 
--- ---- the cases of a value
+-- the exponent's offset by the infinity's field, and the base's square by the number of digits
+offset : (f : Format) → ones f / 2 - 3 ≡ low f - suc (prec f)
+offset binary32 = refl
+offset binary64 = refl
 
--- a pattern below the infinity's is no NaN's
-pub no_nan-bits : (f : Format) (r : ℕ) → r < ones f * hid f → T (not (nan_bits f r))
-no_nan-bits f r h = let m : r % top f ≤ ones f * hid f = le_trans (mod-le r (top f)) (omega arith) in rw (nan_bits_above, le-ltb _ _ m) tt
+base : (f : Format) → (2 - prec f % 2) * (2 * 2 ^ (prec f - (prec f / 2 + 1)) * (2 * 2 ^ (prec f - (prec f / 2 + 1)))) ≡ 2 ^ suc (prec f)
+base binary32 = refl
+base binary64 = refl
 
-module _ (f : Format) (x : Float) (fit : T (fits f x)) (notbelow : lt x nil ≡ false) (notzero : eq x nil ≡ false) where
-  low_value : to_bits f x % top f / hid f ≡ 0 → T (positive x) × HasValue x false (to_bits f x % hid f * 2 ^ 0) (2 ^ low f)
-  low_value e =
-      let v = fields-low f x fit e in
-      let p = positive-is x _ _ _ v notbelow notzero in
-      (p, sign-plus x _ _ _ p v)
+-- the same by the numbers that the code has: p digits, the field o of ones, and l for 2 ^ (p - 1)
+module _ (f : Format) (p o l m j z w h r q : ℕ) (P : p ≡ prec f) (O : o ≡ ones f) (L : l ≡ 2 ^ (p - 1)) (H : h ≡ 2 ^ (p - (p / 2 + 1))) where
+  abbrev places-off : ℕ
+  places-off = j + (o / 2 - 3) - z
 
-  -- a subnormal that is not 0 has a fraction
-  pub low-pos : to_bits f x % top f / hid f ≡ 0 → 0 < to_bits f x % hid f
-  low-pos e =
-      let v = low_value e in
-      subst (λ (z : ℕ). 0 < z) (mul-one (to_bits f x % hid f)) (value_pos x _ (2 ^ low f) v.0 (pow_pos (low f)) v.1)
-
-  -- the root of a subnormal
-  pub low-root : (r : ℕ) → to_bits f x % top f / hid f ≡ 0 → RootsTo f (to_bits f x % hid f) 0 r → of_bits f r ≡ root_of f x
-  low-root r e h = let v = low_value e in h.is ∙ sym (root_of-value f x _ v.0 v.1)
-
-  -- the root of a normal value
-  pub high-root : (r : ℕ) → (to_bits f x % top f / hid f ≡ 0 → ⊥) → (to_bits f x % top f / hid f ≡ ones f → ⊥)
-      → RootsTo f (to_bits f x % hid f + hid f) (to_bits f x % top f / hid f - 1) r → of_bits f r ≡ root_of f x
-  high-root r n k h = go (to_bits f x % top f / hid f) refl
-    where
-      b : ℕ
-      b = to_bits f x
-
-      go : (y : ℕ) → b % top f / hid f ≡ y → of_bits f r ≡ root_of f x
-      go zero e = absurd (n e)
-      go (suc y) e =
-          let v = fields_value f x fit y e (λ i. k (e ∙ i)) in
-          let p = positive-is x _ _ _ v notbelow notzero in
-          let u = sign-plus x _ _ _ p v in
-          let i : b % top f / hid f - 1 ≡ y = rw e (omega arith) in
-          let a : (b % hid f + hid f) * 2 ^ (b % top f / hid f - 1) ≡ (hid f + b % hid f) * 2 ^ y = rw (i, add_comm (b % hid f) (hid f)) in
-          h.is ∙ ap (root_units f) a ∙ sym (root_of-value f x _ p u)
+  pub pattern-by : j + 1 < o → z < p → w ≡ 2 ^ z → 2 ^ (p - 1) ≤ m * 2 ^ z → m * 2 ^ z < 2 ^ p
+      → RootOf (m * w * (1 + places-off % 2) * (2 - p % 2) * (2 * h * (2 * h))) r q
+      → RootsTo f m j ((places-off / 2 + 1) * l + (r + 1) / 2)
+  pattern-by J Z E lo hi R =
+      let e : above f j z ≡ places-off = rw (O, offset f) refl in
+      let b : (2 - p % 2) * (2 * h * (2 * h)) ≡ 2 ^ suc (prec f) = rw (H, P) (base f) in
+      let n : ℕ → ℕ = λ x. m * w * (1 + x % 2) in
+      let k : n places-off * (2 - p % 2) * (2 * h * (2 * h)) ≡ n (above f j z) * 2 ^ suc (prec f) = mul_assoc (n places-off) (2 - p % 2) (2 * h * (2 * h)) ∙ ap (λ x. n places-off * x) b ∙ ap (λ x. n x * 2 ^ suc (prec f)) (sym e) in
+      let lead : l ≡ hid f = L ∙ ap (λ x. 2 ^ (x - 1)) P in
+      let t = pattern-is f m j z w r q (omega arith) (rw P at Z) E (rw P at lo) (rw P at hi) (subst (λ x. RootOf x r q) k R) in
+      subst (λ x. RootsTo f m j ((x / 2 + 1) * l + (r + 1) / 2)) e (rw lead t)

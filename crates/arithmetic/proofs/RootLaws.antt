@@ -23,7 +23,7 @@ use Rattle.float_laws.proofs.Interval.{In, le→parts}
 use Rattle.float_laws.proofs.UnitVector.{coarser}
 use Rattle.arithmetic.specs.Root.{whole_root, root_units, root_of}
 use Rattle.arithmetic.proofs.RootRounded.{WholePart, sq-lt, whole_is, sticky, sticky-le}
-pub use Rattle.arithmetic.proofs.RootTests.{root-fits}
+pub use Rattle.arithmetic.proofs.RootValues.{root-fits}
 use Rattle.arithmetic.proofs.RootNearest.{root-positive, root-squared, SquareNear}
 
 -- ---- the fraction that is rounded

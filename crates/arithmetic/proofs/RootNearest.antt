@@ -24,7 +24,7 @@ use Rattle.arithmetic.specs.RootSteps.{RootOf}
 use Rattle.arithmetic.specs.Root.{whole_root}
 use Rattle.arithmetic.specs.Root.{root_units, root_of, NearestRoot}
 use Rattle.arithmetic.proofs.RootRounded.{whole_is, even-or-odd, half-even, half-odd, root_ge, root-value, square-ge, square-gt, square-lt}
-use Rattle.arithmetic.proofs.RootTests.{root_of-value, root-fits}
+use Rattle.arithmetic.proofs.RootValues.{root_of-value, root-fits}
 use Rattle.arithmetic.proofs.RootCases.{wide}
 
 -- ---- a value of the format is M * 2 ^ j smallest values, M of its digits

@@ -1,7 +1,7 @@
--- What the private functions of `root_digits`, `square_root` and `square_root32` promise one another. Nothing public is said in these words: see Root.antt.
-use Rattle.std.specs.Prelude.{ℕ, ◌+◌, ◌*◌, ◌^◌, ◌≤◌, ◌<◌, ◌≡◌}
-use Rattle.std.specs.Float.{Format}
-use Rattle.std.specs.Float.Ieee.{of_bits, hid, ones}
+-- What the private functions of `root_digits` and `square_root` promise one another. Nothing public is said in these words: see Root.antt.
+use Rattle.std.specs.Prelude.{ℕ, ◌+◌, ◌*◌, ◌^◌, ◌≤◌, ◌<◌, ◌≡◌, ◌==◌, cond}
+use Rattle.std.specs.Float.{Format, binary32, binary64}
+use Rattle.std.specs.Float.Ieee.{of_bits, prec, hid, ones}
 use Rattle.arithmetic.specs.Root.{root_units}
 
 -- root is the largest number whose square is at most n, and rem what n is above that square
@@ -13,3 +13,11 @@ pub record RootOf (n root rem : ℕ) : Type 0 where
 pub record RootsTo (f : Format) (m j r : ℕ) : Type 0 where
   pub small : r < ones f * hid f
   pub is : of_bits f r ≡ root_units f (m * 2 ^ j)
+
+-- the format that keeps p digits
+abbrev pub format_of : ℕ → Format
+format_of p = cond (p == 24) binary32 binary64
+
+-- there is a format of p digits, and the exponent's field of its infinity is o
+abbrev pub Width : ℕ → ℕ → Type 0
+Width p o = (p ≡ prec (format_of p)) × (o ≡ ones (format_of p))

@@ -1,14 +1,5 @@
-// Powers of two, and the parts of a bit pattern, for integer work on it.
+// Powers of two and places, for integer work on bit patterns.
 ghost use Rattle.std.specs.Prelude.{◌≡◌, ◌-◌, ◌*◌, ◌<◌, ◌≤◌, ◌^◌};
-
-// A pattern is its sign, the exponent's field and the fraction. LEADING is one above the greatest fraction: the digit that a normal value has before it, and the place of the exponent's field. SIGN is the sign's bit.
-pub(crate) const LEADING64: u64 = 0x10_0000_0000_0000;
-
-pub(crate) const SIGN64: u64 = 0x8000_0000_0000_0000;
-
-pub(crate) const LEADING32: u64 = 0x80_0000;
-
-pub(crate) const SIGN32: u64 = 0x8000_0000;
 
 // 2^k. The only shift of this crate: everywhere else digits move by products and quotients, which the proofs read as arithmetic.
 pub(crate) fn power(k: u64) -> u64

@@ -5,8 +5,6 @@ mod bits;
 mod narrowing;
 mod root_digits;
 mod square_root;
-mod square_root32;
 
 pub use narrowing::narrow;
-pub use square_root::{hypot, root};
-pub use square_root32::root32;
+pub use square_root::{hypot, root, root32};

@@ -5,7 +5,16 @@ ghost use Rattle.std.specs.Prelude.{◌≡◌, ◌<◌, ◌^◌};
 ghost use Rattle.std.specs.Float.Ieee.Nearest.{closest};
 ghost use Rattle.arithmetic.specs.Narrow.{narrowed, NarrowsTo};
 
-use crate::bits::{LEADING32, LEADING64, SIGN32, SIGN64, power};
+use crate::bits::power;
+
+// A pattern is its sign, the exponent's field and the fraction. LEADING is one above the greatest fraction: the digit that a normal value has before it, and the place of the exponent's field. SIGN is the sign's bit.
+const LEADING64: u64 = 0x10_0000_0000_0000;
+
+const SIGN64: u64 = 0x8000_0000_0000_0000;
+
+const LEADING32: u64 = 0x80_0000;
+
+const SIGN32: u64 = 0x8000_0000;
 
 // The first field of a normal f32.
 const NORMAL: u64 = 897;

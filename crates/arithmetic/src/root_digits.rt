@@ -1,5 +1,4 @@
 // The digits of a square root, for either width: the upper ones are worked out one by one, and those below follow at once, as one digit of a large base.
-// Each width gives its numbers of digits as constants.
 ghost use Rattle.std.specs.Prelude.{◌≡◌, ◌⊎◌, ◌+◌, ◌*◌, ◌/◌, ◌%◌, ◌<◌, ◌≤◌, ◌^◌};
 ghost use Rattle.arithmetic.specs.RootSteps.{RootOf};
 
@@ -16,7 +15,7 @@ pub(crate) struct Partial {
 fn next_digit(trial: u64, rem: u64) -> u64
     ensures { ((result ≡ 1) × (trial ≤ rem)) ⊎ ((result ≡ 0) × (rem < trial)) }
 {
-    if trial <= rem { 1 } else { 0 }
+    u64::from(trial <= rem)
 }
 
 // One digit more: two digits of the number under the root come down.
@@ -47,9 +46,7 @@ fn upper(m: u64, n: u64) -> Partial
     ensures { RootOf m result.root result.rem }
 {
     let mut s = Partial { root: 0, rem: 0 };
-    let mut k = n;
-    while k > 0 {
-        k -= 1;
+    for k in (0..n).rev() {
         s = digit(s, two_at(m, k));
     }
     s

@@ -1,10 +1,7 @@
--- Invariant: with k of n places left `RootOf` holds of the digits of m that came down. One turn is `root-next`. Measure: the places left.
+-- With k of n places left `RootOf` holds of the digits of m that came down. One turn is `root-next`.
 use Rattle.arithmetic.specs.RootSteps.{RootOf}
-use Prim.Native.Nat.{◌≤◌, ◌*◌, ◌/◌, ◌^◌}
+use Prim.Native.Nat.{◌*◌, ◌/◌, ◌^◌}
 use Rattle.arithmetic.proofs.root_digits.upper.Given as goal
 
 abbrev pub invariant-loop-k : goal.invariant-loop-k
-invariant-loop-k l = (l.k ≤ l.n) × RootOf (l.m / 2 ^ (2 * l.k)) l.s.root l.s.rem
-
-abbrev pub decreases-loop-k : goal.decreases-loop-k
-decreases-loop-k l = l.k
+invariant-loop-k l = RootOf (l.m / 2 ^ (2 * l.k)) l.s.root l.s.rem

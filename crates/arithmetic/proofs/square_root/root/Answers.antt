@@ -1,56 +1,11 @@
--- Each `return` is a law of RootTests or RootCases, at the tests on its way. `fit4` to `fit6`: the argument fits its format, where a law asks for it.
-use mathlib.Core.Path.{refl}
-use native.Mathlib.Omega.{arith}
+-- The pattern is that of the argument, and what `root_bits` makes of it that of the root.
 use lib.Dec.{T}
-use lib.Ieee.{fits, binary64, of_bits, div}
-use Rattle.arithmetic.proofs.Fields.{no_nan, fields-infinite}
-use Rattle.arithmetic.proofs.RootTests.{root-nan, root_below, root-zero, root-infinite}
-use Rattle.arithmetic.proofs.RootCases.{no_nan-bits, low-pos, low-root, high-root}
+use lib.Ieee.{fits, binary64}
 use borrow.Author.Rules.{rules}
+use Rattle.arithmetic.proofs.RootBits.{root_read}
 use Rattle.arithmetic.proofs.square_root.root.Goals as goal
-use Rattle.arithmetic.proofs.square_root.root.Goals.{After-pattern-2, Then-field-eq0, Then-field-eq2047}
-
-fit4 : (c : Then-field-eq2047) → T (fits binary64 c.args.x)
-fit4 c = search rules
-
-fit5 : (c : Then-field-eq0) → T (fits binary64 c.args.x)
-fit5 c = search rules
-
-fit6 : (c : After-pattern-2) → T (fits binary64 c.args.x)
-fit6 c = search rules
-
-pub returns-then-x : goal.returns-then-x
-returns-then-x c = root-nan binary64 c.args.x c.if-x.true
-
-pub returns-then-x-2 : goal.returns-then-x-2
-unfolding of_bits div
-returns-then-x-2 c = root_below binary64 c.args.x c.if-x-2.true
-
-pub returns-then-x-3 : goal.returns-then-x-3
-unfolding of_bits
-returns-then-x-3 c = root-zero binary64 c.args.x c.if-x-3.true
-
-pub float_to_bits-bits : goal.float_to_bits-bits
-float_to_bits-bits c = no_nan c.args.x c.if-x.false
-
-pub returns-then-field-eq2047 : goal.returns-then-field-eq2047
-unfolding of_bits
-returns-then-field-eq2047 c = let x = c.args.x in root-infinite binary64 x (fields-infinite binary64 x (fit4 (goal.at.returns-then-field-eq2047 c).Then-field-eq2047) 2046 c.if-field-eq2047.true refl) c.if-x.false c.if-x-2.false
-
-pub pattern-requires : goal.pattern-requires
-unfolding of_bits
-pattern-requires c = let x = c.args.x in (low-pos binary64 x (fit5 (goal.at.pattern-requires c).Then-field-eq0) c.if-x-2.false c.if-x-3.false c.if-field-eq0.true, omega arith, omega arith)
-
-pub float_from_bits-result : goal.float_from_bits-result
-float_from_bits-result c = no_nan-bits binary64 _ c.pattern.ensures.small
-
-pub returns-then-field-eq0 : goal.returns-then-field-eq0
-unfolding of_bits
-returns-then-field-eq0 c = let x = c.args.x in low-root binary64 x (fit5 (goal.at.returns-then-field-eq0 c).Then-field-eq0) c.if-x-2.false c.if-x-3.false _ c.if-field-eq0.true c.pattern.ensures
-
-pub float_from_bits-result-2 : goal.float_from_bits-result-2
-float_from_bits-result-2 c = no_nan-bits binary64 _ c.pattern-2.ensures.small
 
 pub returns : goal.returns
-unfolding of_bits
-returns c = let x = c.args.x in high-root binary64 x (fit6 (goal.at.returns c).After-pattern-2) c.if-x-2.false c.if-x-3.false _ c.if-field-eq0.false c.if-field-eq2047.false c.pattern-2.ensures
+returns c =
+    let fit : T (fits binary64 c.args.x) = search rules in
+    root_read binary64 c.args.x c.f64_from_bits_with_nan.result c.f64_to_bits_with_nan.result c.root_bits.result fit c.f64_to_bits_with_nan.ensures c.root_bits.ensures.value c.f64_from_bits_with_nan.ensures

@@ -1,0 +1,11 @@
+-- The pattern is that of the argument, and what `root_bits` makes of it that of the root.
+use lib.Dec.{T}
+use lib.Ieee.{fits, binary32}
+use borrow.Author.Rules.{rules}
+use Rattle.arithmetic.proofs.RootBits.{root_read}
+use Rattle.arithmetic.proofs.square_root.root32.Goals as goal
+
+pub returns : goal.returns
+returns c =
+    let fit : T (fits binary32 c.args.x) = search rules in
+    root_read binary32 c.args.x c.f32_from_bits_with_nan.result c.f32_to_bits_with_nan.result c.root_bits.result fit c.f32_to_bits_with_nan.ensures c.root_bits.ensures.value c.f32_from_bits_with_nan.ensures
