@@ -1,17 +1,25 @@
 // A case: a text is read into as much memory as is lent, and what the memory then holds is summed.
-ghost use Rattle.std.specs.Prelude.{◌≡◌, ◌≤◌, ◌++◌, length, drop};
-ghost use Rattle.reader_calls.specs.Reading.{read_answer, reading_of, verdict_of, words_held, numbers_held, wants_held};
+ghost use Rattle.std.specs.Prelude.{◌≡◌};
+ghost use Rattle.reader_calls.specs.Reading.{read_answer};
 ghost use Rattle.test_jobs.specs.Case.{seen_of, case_in, case_of};
 
-use crate::memory::{lent, number_space, want_space, word_space};
 use reader_calls::Read;
+use reader_hex::of_bits;
 use test_support::checksum;
+
+// How many words, numbers and wants are lent.
+#[derive(Clone, Copy)]
+pub(crate) struct Lent {
+    pub(crate) words: usize,
+    pub(crate) numbers: usize,
+    pub(crate) wants: usize,
+}
 
 #[derive(Clone, Copy)]
 pub(crate) struct Seen {
     // 0, or the number of the refusal
-    pub(crate) answer: u64,
-    pub(crate) wants: u64,
+    pub(crate) answer: u32,
+    pub(crate) wants: usize,
 }
 
 #[derive(Clone, Copy)]
@@ -24,64 +32,40 @@ fn seen_of(read: Read) -> Seen
     ensures { result ≡ seen_of (read_answer read) }
 {
     match read {
-        Read::Accepted(n) => Seen {
-            answer: 0,
-            wants: n as u64,
-        },
+        Read::Accepted(wants) => Seen { answer: 0, wants },
         Read::Refused(why) => Seen {
-            answer: refusals::number(why) as u64,
+            answer: u32::from(why),
             wants: 0,
         },
     }
 }
 
-// Reads into the first w words, n numbers and v wants.
-fn attempt(
-    text: &[u8],
-    words: &mut [u16],
-    numbers: &mut [f64],
-    wants: &mut [u64],
-    w: usize,
-    n: usize,
-    v: usize,
-) -> Read
-    requires { (w ≤ length words.old) × (n ≤ length numbers.old) × (v ≤ length wants.old) }
-    ensures result_value { read_answer result ≡ verdict_of (reading_of text.now w n v) }
-    ensures words_after { words.new ≡ words_held w (reading_of text.now w n v) ++ drop w words.old }
-    ensures numbers_after { numbers.new ≡ numbers_held n (reading_of text.now w n v) ++ drop n numbers.old }
-    ensures wants_after { wants.new ≡ wants_held v (reading_of text.now w n v) ++ drop v wants.old }
-{
-    reader_calls::read(text, &mut words[..w], &mut numbers[..n], &mut wants[..v])
-}
-
+// As much is lent as is asked for and there is.
 fn case_in(
     text: &[u8],
     words: &mut [u16],
     numbers: &mut [f64],
     wants: &mut [u64],
-    w: usize,
-    n: usize,
-    v: usize,
+    asked: Lent,
 ) -> Case
-    ensures { result ≡ case_in text.now words.old numbers.old wants.old w n v }
+    ensures { result ≡ case_in text.now words.old numbers.old wants.old asked }
 {
-    let w_lent = lent(w, words.len());
-    let n_lent = lent(n, numbers.len());
-    let v_lent = lent(v, wants.len());
-    let read = attempt(text, words, numbers, wants, w_lent, n_lent, v_lent);
-    let sum = checksum(words, numbers, wants);
+    let w = asked.words.min(words.len());
+    let n = asked.numbers.min(numbers.len());
+    let v = asked.wants.min(wants.len());
+    let read = reader_calls::read(text, &mut words[..w], &mut numbers[..n], &mut wants[..v]);
     Case {
         seen: seen_of(read),
-        sum,
+        sum: checksum(words, numbers, wants),
     }
 }
 
-// In memory of 1,900 words, 8,500 numbers and 40 wants.
-pub(crate) fn case_of(text: &[u8], w: usize, n: usize, v: usize) -> Case
-    ensures { result ≡ case_of text.now w n v }
+// The memory is full of what no reading leaves, so that a place that is not cleared shows.
+pub(crate) fn case_of(text: &[u8], asked: Lent) -> Case
+    ensures { result ≡ case_of text.now asked }
 {
-    let mut words = word_space();
-    let mut numbers = number_space();
-    let mut wants = want_space();
-    case_in(text, &mut words, &mut numbers, &mut wants, w, n, v)
+    let mut words = [0xabcd; 1900];
+    let mut numbers = [of_bits(0x4045_abcd_abcd_abcd); 8500];
+    let mut wants = [0xabcd_abcd_abcd_abcd; 40];
+    case_in(text, &mut words, &mut numbers, &mut wants, asked)
 }

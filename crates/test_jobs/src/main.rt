@@ -4,12 +4,10 @@
 #![tactic(auto)]
 
 mod cases;
-mod memory;
 mod steps;
 
 use std::io;
 
 fn main(rt: HostRuntime) -> io::Result<()> {
-    let state = steps::run(&rt)?;
-    println!(rt; "{} cases, {} broken lines", state.cases, state.broken)
+    steps::run(&rt)
 }

@@ -1,11 +1,10 @@
--- The case, in the program's memory.
-use Rattle.test_jobs.proofs.CaseLaws.{case-before}
+use Rattle.std.proofs.Common.{ap, ◌∙◌, replicate}
+use lib.Ieee.{Float}
+use Rattle.test_jobs.specs.Case.{case_in, case_of}
 use Rattle.test_jobs.proofs.cases.case_of.Goals as goal
 
 pub returns : goal.returns
+unfolding case_of
 returns c =
-    let a = c.args in
-    let x = c.word_space-words in
-    let y = c.number_space-numbers in
-    let z = c.want_space-wants in
-    case-before a.text.now x.result y.result z.result a.w a.n a.v x.ensures.value_2 y.ensures.value_2 z.ensures.value_2 c.case_in.ensures
+    c.case_in.ensures
+    ∙ ap (λ (x : Float). case_in c.args.text.now (replicate 1900 0xabcd) (replicate 8500 x) (replicate 40 0xabcd_abcd_abcd_abcd) c.args.asked) c.of_bits-numbers.ensures
