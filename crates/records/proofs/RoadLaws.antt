@@ -11,11 +11,10 @@ use lib.Ieee.{Float, nan, eq}
 use Rattle.float_laws.specs.Binary64.{zero64}
 use Rattle.records.specs.declared.points.GeomRec.{GeomRec}
 use Rattle.records.specs.declared.points.StripKind.TheVariants.{Absent, Absolute, Relative}
-use Rattle.records.specs.declared.points.Found.TheVariants.{At, Nothing}
 use Rattle.records_lent.specs.Lists.{tabulate, span}
 use Rattle.records_cubic.specs.Cubics.{cubics_of}
-use Rattle.records.specs.Active.{last_start, found_of, or_first, active_up_to}
-use Rattle.records.specs.Roads.{Road, Section, Profile, Strip, absent, present, road_of, geom_in, unused_in, lane_in, section_in, profile_in, column_in, strip_in, cubics_in, heights_in, heights_of, word_at, geom_from, no_geom, geom_at, all_zero, unused_zero, no_section, section_of, no_lane, lane_of, no_mark, mark_at, mark_in, no_profile, profile_at, strip_at, strip_kind_of, column_of, geom_index, section_index}
+use Rattle.records.specs.Active.{last_start, or_first, active_up_to}
+use Rattle.records.specs.Roads.{Road, Section, Profile, Strip, absent, present, road_of, geom_in, unused_in, lane_in, section_in, profile_in, column_in, strip_in, cubics_in, word_at, geom_from, no_geom, geom_at, all_zero, unused_zero, no_section, section_of, no_lane, lane_of, no_mark, mark_at, mark_in, no_profile, profile_at, strip_at, strip_kind_of, column_of, geom_index, section_index}
 use Rattle.records_lent.proofs.TableLaws.{length-table, table_at, table-past, span-at}
 use Rattle.records.proofs.ScanLaws.{last_start-same}
 
@@ -37,16 +36,11 @@ module _ (words : List ℕ) (numbers : List Float) where
   abbrev road : Road
   road = road_of words numbers
 
-  -- ---- any list of cubics or of heights: what a part of the numbers holds, by the words that say where it is
+  -- ---- any list of cubics: what a part of the numbers holds, by the words that say where it is
   pub cubics-by :
       (base first count : ℕ) {f n : ℕ} {xs : List Float} → f ≡ first → n ≡ count → xs ≡ span numbers (base + f * 5) (n * 5)
       → cubics_of xs ≡ cubics_in words numbers base first count
   cubics-by base first count e g h = cc
-
-  pub heights-by :
-      (first count : ℕ) {f n : ℕ} {xs : List Float} → f ≡ first → n ≡ count → xs ≡ span numbers (4305 + f * 3) (n * 3)
-      → heights_of xs ≡ heights_in words numbers first count
-  heights-by first count e g h = cc
 
   -- ---- geometries
   pub geom_count_lem : length road.geoms ≡ get_or words 0 0
@@ -93,6 +87,17 @@ module _ (words : List ℕ) (numbers : List Float) where
   pub right_count_lem : (i : ℕ) → i < get_or words 5 0 → length (section_of road i).right ≡ get_or words (73 + i * 3) 0
   unfolding section_in
   right_count_lem i h = ap (λ (x : Section). length x.right) (section_in_lem i h) ∙ length-table _ _ ∙ ap (word_at words numbers) (plus 71 2 (i * 3))
+
+  -- a side's lanes, counted by the word that its first word's place leads to
+  pub lane_count_lem :
+      (i : ℕ) (right : Bool) {first : ℕ} → i < get_or words 5 0 → first ≡ cond right 73 72
+      → length (cond right (section_of road i).right (section_of road i).left) ≡ get_or words (first + i * 3) 0
+  lane_count_lem i true h e = rw e (right_count_lem i h)
+  lane_count_lem i false h e = rw e (left_count_lem i h)
+
+  pub lanes_none : (i : ℕ) (right : Bool) → get_or words 5 0 ≤ i → length (cond right (section_of road i).right (section_of road i).left) ≡ 0
+  lanes_none i true h = rw (section-past i h)
+  lanes_none i false h = rw (section-past i h)
 
   -- ---- the lanes of a section: the left ones from its first lane on, then the right ones
   pub left_lane-in :
@@ -177,13 +182,6 @@ module _ (words : List ℕ) (numbers : List Float) where
 abbrev there : List ℕ → List Float → ℕ → ℕ → Strip
 there words numbers i code = present (record { relative = eqb code 2; width = column_in words numbers i 0; terms = tabulate (λ j. column_in words numbers i (j + 1)) 4 })
 
--- the line of a lane is small, as the words that make it are
-pub line_small : (x : ℕ) → x < 196608 → (j : ℕ) → At x ≡ At j → j < 196608
-line_small x h j e = let g : x ≡ j = cc in omega arith
-
-pub no_line : (j : ℕ) → Nothing ≡ At j → j < 196608
-no_line j e = let z : ◌≡◌ {A = ℕ} 0 1 = cc in omega arith
-
 -- a list of columns is zero by the tests on them
 zero-tests : (p q : Bool) (x y : Float) → cond p (eq y zero64) (cond q true (eq x zero64 && eq y zero64)) ≡ all_zero (cond p (y ∷ []) (cond q [] (x ∷ y ∷ [])))
 zero-tests true q x y = sym (and-true (eq y zero64))
@@ -204,24 +202,6 @@ module _ (words : List ℕ) (numbers : List Float) where
   unused-by i h e f g =
       rw (e, f, g, ← plus 1 5 (i * 7), ← plus 1 6 (i * 7)) (zero-tests (eqb (get_or words (7 + i) 0) 1) (eqb (get_or words (7 + i) 0) 2) (get_or numbers (1 + i * 7 + 5) nan) (get_or numbers (1 + i * 7 + 6) nan))
       ∙ ap all_zero (sym (unused_in_lem words numbers i h))
-
-  pub left_lane-by :
-      (i k : ℕ) {r : Bool} {first left : ℕ} → i < get_or words 5 0 → r ≡ false → first ≡ get_or words (71 + i * 3) 0 → left ≡ get_or words (72 + i * 3) 0 → k < left
-      → lane_of (road_of words numbers) i r k ≡ lane_in words numbers (first + k)
-  left_lane-by i k h r e f l = rw (r, e) (left_lane-in words numbers i k h (rw f at l))
-
-  pub right_lane-by :
-      (i k : ℕ) {r : Bool} {first left right : ℕ} → i < get_or words 5 0 → r ≡ true → first ≡ get_or words (71 + i * 3) 0 → left ≡ get_or words (72 + i * 3) 0
-      → right ≡ get_or words (73 + i * 3) 0 → k < right → lane_of (road_of words numbers) i r k ≡ lane_in words numbers (first + left + k)
-  right_lane-by i k h r e f g l = rw (r, e, f) (right_lane-in words numbers i k h (rw g at l))
-
-  pub left-none-by :
-      (i k : ℕ) {r : Bool} {left : ℕ} → i < get_or words 5 0 → r ≡ false → left ≡ get_or words (72 + i * 3) 0 → left ≤ k → lane_of (road_of words numbers) i r k ≡ no_lane
-  left-none-by i k h r f l = rw r (left_lane-past words numbers i k h (rw f at l))
-
-  pub right-none-by :
-      (i k : ℕ) {r : Bool} {right : ℕ} → i < get_or words 5 0 → r ≡ true → right ≡ get_or words (73 + i * 3) 0 → right ≤ k → lane_of (road_of words numbers) i r k ≡ no_lane
-  right-none-by i k h r g l = rw r (right_lane-past words numbers i k h (rw g at l))
 
   pub strip_by_lem : (i : ℕ) {code : ℕ} → i < 4 → code ≡ get_or words (1303 + i * 11) 0
       → cond (eqb code 0) Absent (cond (eqb code 2) Relative Absolute) ≡ strip_kind_of (strip_at (road_of words numbers) i)
@@ -262,22 +242,20 @@ module _ (words : List ℕ) (numbers : List Float) where
       ∙ ap (λ (g : GeomRec). g.s) (sym (geom_in_lem words numbers i h))
 
   pub geom_index_lem :
-      (s : Float) (r : ℕ) {n : ℕ} → n ≡ get_or words 0 0 → found_of r ≡ last_start (λ (i : ℕ). get_or numbers (1 + i * 7) nan) (active_up_to s) n
-      → or_first (found_of r) ≡ geom_index (road_of words numbers) s
+      (s : Float) {n : ℕ} → n ≡ get_or words 0 0
+      → or_first (last_start (λ (i : ℕ). get_or numbers (1 + i * 7) nan) (active_up_to s) n) ≡ geom_index (road_of words numbers) s
   unfolding geom_index
-  geom_index_lem s r e f =
-      rw (geom_count_lem words numbers, f, e) (ap or_first (last_start-same _ _ (active_up_to s) _ geom-start))
+  geom_index_lem s e = rw (geom_count_lem words numbers, e) (ap or_first (last_start-same _ _ (active_up_to s) _ geom-start))
 
   section_start_lem : (i : ℕ) → i < get_or words 5 0 → get_or numbers (1729 + i * 1) nan ≡ (section_of (road_of words numbers) i).start
   unfolding section_in
   section_start_lem i h = ap (λ (k : ℕ). get_or numbers k nan) (once 1729 i) ∙ ap (λ (x : Section). x.start) (sym (section_in_lem words numbers i h))
 
   pub section_index_lem :
-      (s : Float) (r : ℕ) {n : ℕ} → n ≡ get_or words 5 0 → found_of r ≡ last_start (λ (i : ℕ). get_or numbers (1729 + i * 1) nan) (active_up_to s) n
-      → or_first (found_of r) ≡ section_index (road_of words numbers) s
+      (s : Float) {n : ℕ} → n ≡ get_or words 5 0
+      → or_first (last_start (λ (i : ℕ). get_or numbers (1729 + i * 1) nan) (active_up_to s) n) ≡ section_index (road_of words numbers) s
   unfolding section_index
-  section_index_lem s r e f =
-      rw (section_count_lem words numbers, f, e) (ap or_first (last_start-same _ _ (active_up_to s) _ section_start_lem))
+  section_index_lem s e = rw (section_count_lem words numbers, e) (ap or_first (last_start-same _ _ (active_up_to s) _ section_start_lem))
 
   -- ---- the profile at s
   profile_start_lem : (i : ℕ) → i < get_or words 6 0 → get_or numbers (5841 + i * 1) nan ≡ (profile_at (road_of words numbers) i).s

@@ -1,6 +1,6 @@
 // A road in two lent slices: words has the counts, codes and ranges, numbers the f64 columns. Where each stands is said in layout.rt,
 // for the proofs in specs/Layout.antt, and in docs/MEMORY.md for whoever lends a road. Nothing here trusts the slices: what is not there is empty, NaN or 0.
-ghost use Rattle.std.specs.Prelude.{◌≡◌, ◌*◌, get_or, length};
+ghost use Rattle.std.specs.Prelude.{◌≡◌, get_or, length};
 ghost use Rattle.records.specs.Roads.{cubics_in, road_of};
 
 use crate::layout::{
@@ -28,7 +28,6 @@ impl<'a> Model for LentRoad<'a> {
 
 // A flat table of cubics, from its base on.
 fn flat<'a>(words: &[u16], numbers: &'a [f64], base: usize, count_at: usize) -> Cubics<'a>
-    requires { base < 65536 }
     ensures { result ≡ cubics_in words.now numbers.now base 0 (get_or words.now count_at 0) }
 {
     Cubics {

@@ -1,1 +1,1 @@
-pub mod PastEnd
+pub mod FirstLaws

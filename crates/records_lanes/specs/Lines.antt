@@ -1,5 +1,5 @@
 -- What the lines of the lane table say, for callers that go over a side's lanes line by line. The words of a section and of a lane are in specs/Layout.antt of crate records; a word past the end is 0.
-use Rattle.std.specs.Prelude.{ℕ, ◌+◌, ◌*◌, Bool, cond, List, length, get_or, eqb, ltb, Option, Some, None}
+use Rattle.std.specs.Prelude.{ℕ, ◌+◌, ◌*◌, Bool, cond, List, get_or, ltb, Option, Some, None}
 use Rattle.records.specs.Layout.{section_count_at, section_words, section_stride}
 
 module _ (words : List ℕ) where

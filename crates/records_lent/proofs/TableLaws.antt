@@ -1,14 +1,14 @@
--- The lists of `Lists`: a table's length and its lines, a span as the three ways of `part` make it, and `all_below` and `any_below` as a loop meets them. By induction, or from the library's laws on `take` and `drop`.
-use Prim.Native.Nat.{ℕ, zero, suc, ◌+◌, ◌-◌, ◌<◌, ◌≤◌}
+-- The lists of `Lists`: a table's length and its lines, the elements of a span, and `all_below` and `any_below` as a loop meets them. By induction.
+use Prim.Native.Nat.{ℕ, zero, suc, ◌+◌, ◌<◌, ◌≤◌}
 use native.Mathlib.Omega.{arith}
 use native.Mathlib.Numerals.{add-one}
-use native.Mathlib.Nat.{le_of_suc-le-suc, not-suc-le-zero, add-sub_cancel_left, eq-or-lt_of_le, le_antisymm}
-use mathlib.Core.Path.{◌≡◌, refl, ap, ◌∙◌, sym}
+use native.Mathlib.Nat.{le_of_suc-le-suc, not-suc-le-zero, eq-or-lt_of_le, le_antisymm}
+use mathlib.Core.Path.{◌≡◌, refl, ap, ◌∙◌}
 use mathlib.Core.Bool.{Bool, true, false, ◌&&◌, ◌||◌, or-true}
 use mathlib.Core.List.{List}
 use mathlib.Core.Logic.{⊎_elim}
-use lib.ListN.{length, get_or, take, drop, length-drop, drop_of_length-le, get_or-eq_default}
-use lib.Seq.{take_all, take-nil, drop-length, get_or-take, get_or-drop}
+use lib.ListN.{length, get_or, drop, get_or-eq_default}
+use lib.Seq.{get_or-take, get_or-drop}
 use Rattle.records_lent.specs.Lists.{tabulate, span, all_below, any_below}
 
 -- ---- tables
@@ -30,27 +30,10 @@ table-past f n i d h = get_or-eq_default (tabulate f n) d (rw length-table h)
 -- ---- spans
 
 module _ {A : Type 0} (xs : List A) (start count : ℕ) where
-  -- nothing from the list's end on
-  pub span-past : length xs ≤ start → take (length xs - length xs) (drop (length xs) xs) ≡ span xs start count
-  span-past h = rw (drop-length, drop_of_length-le xs h, take-nil {A = A} (length xs - length xs), take-nil {A = A} count)
-
-  -- the list ends before the count is reached
-  pub span_rest : length xs - start ≤ count → take (length xs - start) (drop start xs) ≡ span xs start count
-  span_rest h =
-      let l = length-drop start xs in
-      take_all (length xs - start) (drop start xs) (omega arith) ∙ sym (take_all count (drop start xs) (omega arith))
-
-  pub span-whole : take (start + count - start) (drop start xs) ≡ span xs start count
-  span-whole = rw add-sub_cancel_left
-
   pub span-at : (i : ℕ) (d : A) → i < count → get_or (span xs start count) i d ≡ get_or xs (start + i) d
   span-at i d h = get_or-take count (drop start xs) i d h ∙ get_or-drop start xs i d
 
 -- ---- a test at every index
-
-and-false : (a : Bool) → a && false ≡ false
-and-false true = refl
-and-false false = refl
 
 module _ (p : ℕ → Bool) where
   pub all_none : all_below p 0 ≡ true
@@ -61,20 +44,6 @@ module _ (p : ℕ → Bool) where
   pub all-next : (i : ℕ) {a b : Bool} → a ≡ all_below p i → b ≡ p i → a && b ≡ all_below p (i + 1)
   unfolding all_below
   all-next i e f = rw (add-one, e, f)
-
-  -- a turn of a loop that leaves at the first failure
-  pub all_more : (i : ℕ) → all_below p i ≡ true → p i ≡ true → all_below p (i + 1) ≡ true
-  unfolding all_below
-  all_more i h k = rw (add-one, h, k)
-
-  pub all-fails : (i n : ℕ) → i < n → p i ≡ false → all_below p n ≡ false
-  unfolding all_below
-  all-fails i zero l k = absurd (not-suc-le-zero l)
-  all-fails i (suc n) l k =
-      ⊎_elim
-      (λ e. rw (← e, k) (and-false (all_below p i)))
-      (λ lt. rw (all-fails i n lt k))
-      (eq-or-lt_of_le (le_of_suc-le-suc l))
 
   pub all_done : (i n : ℕ) {a : Bool} → i ≤ n → n ≤ i → a ≡ all_below p i → a ≡ all_below p n
   all_done i n h k e = rw (le_antisymm k h) e
@@ -89,9 +58,6 @@ module _ (p : ℕ → Bool) where
   pub any_next : (i : ℕ) {a b : Bool} → a ≡ any_below p i → b ≡ p i → a || b ≡ any_below p (i + 1)
   unfolding any_below
   any_next i e f = rw (add-one, e, f)
-
-  pub any-done : (i n : ℕ) {a : Bool} → i ≤ n → n ≤ i → a ≡ any_below p i → a ≡ any_below p n
-  any-done i n h k e = rw (le_antisymm k h) e
 
   pub any_at : (i n : ℕ) → i < n → p i ≡ true → any_below p n ≡ true
   unfolding any_below

@@ -15,9 +15,6 @@ use Rattle.records.specs.declared.points.Mark.{Mark}
 use Rattle.records.specs.Roads.{Road, section_of, mark_at}
 use Rattle.records_marks.specs.Covers.{paints, covered, Covering, CoveredIs}
 
-pub paints-by : {m n : Mark} (lane kind : ℕ) (d : Float) {b : Bool} → b ≡ paints m lane kind d → m ≡ n → b ≡ paints n lane kind d
-paints-by lane kind d e f = rw (← f) e
-
 pub covered-by :
     (road : Road) (i lane kind : ℕ) (s : Float) {n : ℕ} {start : Float} {found : Bool} → found ≡ any_below (λ j. paints (mark_at road i j) lane kind (s ⊖ start)) n
     → n ≡ length (section_of road i).marks → start ≡ (section_of road i).start → found ≡ covered road i lane kind s

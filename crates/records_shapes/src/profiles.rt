@@ -31,7 +31,7 @@ pub fn profile_start(road: &LentRoad, i: usize) -> f64
 
 // The cubics of a table whose base is given: from the first on as many as the two words at a place say.
 fn cubics_at<'a>(words: &[u16], numbers: &'a [f64], base: usize, at: usize) -> Cubics<'a>
-    requires { (base < 65536) × (at < 65536) }
+    requires { (base < 65536) × (at < 196608) }
     ensures { result ≡ cubics_in words.now numbers.now base (get_or words.now at 0) (get_or words.now (at + 1) 0) }
 {
     let first = base + word(words, at) * CUBIC_STRIDE;
@@ -82,12 +82,13 @@ pub fn strip(road: &LentRoad, i: usize) -> StripKind
 pub fn strip_column<'a>(road: &LentRoad<'a>, i: usize, column: usize) -> Cubics<'a>
     ensures { result ≡ column_of (strip_at road.now i) column }
 {
+    let words = road.words;
     if 4 <= i || 5 <= column {
         return no_cubics();
     }
     let at = STRIP_WORDS + i * STRIP_STRIDE;
-    if word(road.words, at) == 0 {
+    if word(words, at) == 0 {
         return no_cubics();
     }
-    cubics_at(road.words, road.numbers, CUBIC_BASE, at + 1 + column * 2)
+    cubics_at(words, road.numbers, CUBIC_BASE, at + 1 + column * 2)
 }

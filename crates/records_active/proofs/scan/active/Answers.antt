@@ -1,9 +1,9 @@
--- `active`: the scan reads the starts where they stand.
-use mathlib.Core.Path.{◌∙◌}
-use Rattle.records.proofs.CubicLaws.{active-by}
+-- `active`: the last cubic that has started, asked of each from the end.
+use Rattle.std.proofs.Common.{rules}
+use Rattle.records_lent.proofs.RangeLaws.{last_range}
+use Rattle.records.specs.Active.{last_start, active_in}
 use Rattle.records_active.proofs.scan.active.Goals as goal
 
 pub returns : goal.returns
-returns c =
-    let a = c.args in
-    c.found_of.ensures ∙ c.last_started.ensures.result_value ∙ active-by a.part.now a.s
+unfolding active_in last_start
+returns c = rw (← c.len.ensures) (last_range _ _ (λ x b q k. search rules) _ _ c.rfind.ensures.ran)

@@ -1,9 +1,9 @@
--- `active_height`: the scan reads the starts where they stand.
-use mathlib.Core.Path.{◌∙◌}
-use Rattle.records.proofs.CubicLaws.{height_by_lem}
+-- `active_height`: the last height that has started, asked of each from the end.
+use Rattle.std.proofs.Common.{rules}
+use Rattle.records_lent.proofs.RangeLaws.{last_range}
+use Rattle.records.specs.Active.{last_start}
 use Rattle.records_active.proofs.scan.active_height.Goals as goal
 
 pub returns : goal.returns
-returns c =
-    let a = c.args in
-    c.found_of.ensures ∙ c.last_started.ensures.result_value ∙ height_by_lem a.part.now a.s
+unfolding last_start
+returns c = rw (← c.len.ensures) (last_range _ _ (λ x b q k. search rules) _ _ c.rfind.ensures.ran)

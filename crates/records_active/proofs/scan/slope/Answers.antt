@@ -1,15 +1,12 @@
--- `slope`: by whether a cubic is active.
+-- `slope`: by the active cubic, 0 where there is none.
 use mathlib.Core.Path.{◌∙◌, ap, sym}
 use Rattle.records_cubic.specs.declared.cubics.Cubic.{Cubic}
 use Rattle.records_cubic.specs.Cubics.{slope_at}
 use Rattle.records.proofs.CubicLaws.{slope_at_lem, slope-none}
 use Rattle.records_active.proofs.scan.slope.Goals as goal
 
-pub returns-in-At : goal.returns-in-At
-returns-in-At c =
-    let a = c.args in
-    let e = sym c.active.ensures ∙ c.in-At.is in
-    c.slope.ensures ∙ ap (λ (x : Cubic). slope_at x a.s) c.cubic_at-c.ensures ∙ sym (slope_at_lem _ _ _ e)
+pub returns-in-Some : goal.returns-in-Some
+returns-in-Some c = c.slope.ensures ∙ ap (λ (x : Cubic). slope_at x c.args.s) c.get.ensures ∙ sym (slope_at_lem _ _ _ (sym c.active.ensures ∙ c.in-Some.is))
 
-pub returns-in-Nothing : goal.returns-in-Nothing
-returns-in-Nothing c = sym (slope-none _ _ (sym c.active.ensures ∙ c.in-Nothing.is))
+pub returns-in-None : goal.returns-in-None
+returns-in-None c = sym (slope-none _ _ (sym c.active.ensures ∙ c.in-None.is))

@@ -1,15 +1,12 @@
--- `value`: by whether a cubic is active.
+-- `value`: by the active cubic, 0 where there is none.
 use mathlib.Core.Path.{◌∙◌, ap, sym}
 use Rattle.records_cubic.specs.declared.cubics.Cubic.{Cubic}
 use Rattle.records_cubic.specs.Cubics.{eval_at}
 use Rattle.records.proofs.CubicLaws.{value-at, value_none}
 use Rattle.records_active.proofs.scan.value.Goals as goal
 
-pub returns-in-At : goal.returns-in-At
-returns-in-At c =
-    let a = c.args in
-    let e = sym c.active.ensures ∙ c.in-At.is in
-    c.eval.ensures ∙ ap (λ (x : Cubic). eval_at x a.s) c.cubic_at-c.ensures ∙ sym (value-at _ _ _ e)
+pub returns-in-Some : goal.returns-in-Some
+returns-in-Some c = c.eval.ensures ∙ ap (λ (x : Cubic). eval_at x c.args.s) c.get.ensures ∙ sym (value-at _ _ _ (sym c.active.ensures ∙ c.in-Some.is))
 
-pub returns-in-Nothing : goal.returns-in-Nothing
-returns-in-Nothing c = sym (value_none _ _ (sym c.active.ensures ∙ c.in-Nothing.is))
+pub returns-in-None : goal.returns-in-None
+returns-in-None c = sym (value_none _ _ (sym c.active.ensures ∙ c.in-None.is))

@@ -4,6 +4,4 @@ use Rattle.records.proofs.RoadLaws.{profile-by}
 use Rattle.records_active.proofs.stations.profile_at.Goals as goal
 
 pub returns : goal.returns
-returns c =
-    let a = c.args in
-    c.found_of.ensures ∙ c.last_held.ensures ∙ profile-by a.words.now a.numbers.now a.s c.word-n.ensures.value
+returns c = rw (← c.road.view_is) (c.last_started.ensures ∙ profile-by c.road.inside.words.now c.road.inside.numbers.now c.args.s c.word-n.ensures.value)

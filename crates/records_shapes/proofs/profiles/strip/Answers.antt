@@ -7,10 +7,10 @@ use Rattle.records_shapes.proofs.profiles.strip.Goals as goal
 
 pub returns-then-i-lt4 : goal.returns-then-i-lt4
 returns-then-i-lt4 c =
-    let a = c.args in
-    c.kind_of.ensures ∙ strip_by_lem a.words.now a.numbers.now a.i (omega arith) c.word.ensures.value
+    let r = c.road.inside in
+    rw (← c.road.view_is) (c.kind_of.ensures ∙ strip_by_lem r.words.now r.numbers.now c.args.i (omega arith) c.word.ensures.value)
 
 pub returns-else-i-lt4 : goal.returns-else-i-lt4
 returns-else-i-lt4 c =
-    let a = c.args in
-    sym (ap strip_kind_of (strip-past a.words.now a.numbers.now a.i (omega arith)))
+    let r = c.road.inside in
+    rw (← c.road.view_is) (sym (ap strip_kind_of (strip-past r.words.now r.numbers.now c.args.i (omega arith))))
