@@ -16,25 +16,36 @@ pub(crate) const TOLERANCE: f64 = 1e-9;
 // A miss below which it has met the target.
 const MEETING: f64 = 0.0000009;
 
-// At t of a station.
-pub(crate) fn miss_on(road: &LentRoad, here: Footing, target: Vector, t: f64) -> Vector
-    ensures { result ≡ miss_on target (plan_on road.now here t) }
-{
-    let p = plan_on(road, here, t);
-    Vector {
-        x: p.x - target.x,
-        y: p.y - target.y,
+// What a search goes by: the road with its lent samples, and the point that it looks for.
+#[derive(Clone, Copy)]
+pub(crate) struct Search<'a> {
+    pub road: &'a LentRoad<'a>,
+    pub samples: &'a [f64],
+    pub target: Vector,
+}
+
+impl<'a> Search<'a> {
+    // At t of a station.
+    pub fn miss_on(&self, here: Footing, t: f64) -> Vector
+        ensures { result ≡ miss_on self.now.target (plan_on self.now.road.now here t) }
+    {
+        let p = plan_on(self.road, here, t);
+        Vector {
+            x: p.x - self.target.x,
+            y: p.y - self.target.y,
+        }
+    }
+
+    #[tactic(auto, using(crate::proofs::WalkLaws::miss_is))]
+    pub fn miss(&self, at: Place) -> Vector
+        ensures { result ≡ miss_at self.now.road.now self.now.samples.now self.now.target at }
+    {
+        self.miss_on(footing_at(self.road, self.samples, at.s), at.t)
     }
 }
 
-pub(crate) fn miss(road: &LentRoad, samples: &[f64], target: Vector, at: Place) -> Vector
-    ensures { result ≡ miss_at road.now samples.now target at }
-{
-    let here = footing_at(road, samples, at.s);
-    miss_on(road, here, target, at.t)
-}
-
 // Whether the size of r is under a bound. Its root is worked out only where the sum of the squares lies between the two brackets of the bound's square.
+#[tactic(auto, unfolding(arithmetic::specs::Root::hypot_of))]
 fn under(r: Vector, low: f64, high: f64, bound: f64) -> bool
     requires { brackets low high bound ≡ true }
     ensures { result ≡ lt (size_of r) bound }
@@ -64,6 +75,7 @@ pub(crate) fn near(r: Vector) -> bool
 }
 
 // How fast the miss changes from r to a, h metres on.
+#[tactic(auto, unfolding(crate::specs::Locating::rate_of))]
 pub(crate) fn rate(a: Vector, r: Vector, h: f64) -> Vector
     ensures { result ≡ rate_of a r h }
 {

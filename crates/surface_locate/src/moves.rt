@@ -4,10 +4,9 @@ ghost use Rattle.std.specs.Float.Ieee.{lt};
 ghost use Rattle.surface_points.specs.Plan.{footing_of};
 ghost use Rattle.surface_locate.specs.Locating.{tolerance, miss_at, size_of, ahead_of, newton_move, move_at};
 
-use crate::misses::{TOLERANCE, miss, miss_on, rate};
+use crate::misses::{Search, TOLERANCE, rate};
 use crate::points::{Move, Place, Vector};
 use arithmetic_ranges::{abs, clamp};
-use records::LentRoad;
 use surface_points::Footing;
 
 // How far it steps to measure the rates.
@@ -17,6 +16,7 @@ const STRIDE: f64 = 1e-4;
 const LEAST_DETERMINANT: f64 = 1e-12;
 
 // The step along the road: back from its end.
+#[tactic(auto, unfolding(crate::specs::Locating::ahead_of))]
 fn ahead(length: f64, s: f64) -> f64
     ensures { result ≡ ahead_of length s }
 {
@@ -28,6 +28,7 @@ fn ahead(length: f64, s: f64) -> f64
 }
 
 // The move from a place with its miss r and the two rates.
+#[tactic(auto, unfolding(crate::specs::Locating::newton_move))]
 fn newton(length: f64, at: Place, r: Vector, along: Vector, across: Vector) -> Move
     ensures { result ≡ newton_move length at r along across }
 {
@@ -47,25 +48,21 @@ fn newton(length: f64, at: Place, r: Vector, along: Vector, across: Vector) -> M
     }
 }
 
-// The move from a place whose miss r isn't small; here is its station.
-pub(crate) fn move_from(
-    road: &LentRoad,
-    samples: &[f64],
-    target: Vector,
-    here: Footing,
-    at: Place,
-    r: Vector,
-) -> Move
-    requires { (here ≡ footing_of road.now samples.now at.s) × (r ≡ miss_at road.now samples.now target at) × (lt (size_of r) tolerance ≡ false) }
-    ensures { result ≡ move_at road.now samples.now target at }
-{
-    let length = road.length();
-    let h = ahead(length, at.s);
-    let on = Place {
-        s: at.s + h,
-        t: at.t,
-    };
-    let along = rate(miss(road, samples, target, on), r, h);
-    let across = rate(miss_on(road, here, target, at.t + STRIDE), r, STRIDE);
-    newton(length, at, r, along, across)
+impl<'a> Search<'a> {
+    // The move from a place whose miss r isn't small; here is its station.
+    #[tactic(auto, using(crate::proofs::WalkLaws::miss_is), unfolding(crate::specs::Locating::move_at))]
+    pub fn move_from(&self, here: Footing, at: Place, r: Vector) -> Move
+        requires { (here ≡ footing_of self.now.road.now self.now.samples.now at.s) × (r ≡ miss_at self.now.road.now self.now.samples.now self.now.target at) × (lt (size_of r) tolerance ≡ false) }
+        ensures { result ≡ move_at self.now.road.now self.now.samples.now self.now.target at }
+    {
+        let length = self.road.length();
+        let h = ahead(length, at.s);
+        let on = Place {
+            s: at.s + h,
+            t: at.t,
+        };
+        let along = rate(self.miss(on), r, h);
+        let across = rate(self.miss_on(here, at.t + STRIDE), r, STRIDE);
+        newton(length, at, r, along, across)
+    }
 }

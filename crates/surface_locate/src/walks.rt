@@ -7,8 +7,7 @@ ghost use Rattle.surface_points.specs.Plan.{footing_of};
 ghost use Rattle.surface_locate.specs.Meeting.{meeting};
 ghost use Rattle.surface_locate.specs.Locating.{most_moves, miss_at, size_of, walk_from, locate_of};
 
-use crate::misses::{miss, miss_on, near, small};
-use crate::moves::move_from;
+use crate::misses::{Search, near, small};
 use crate::points::{Move, Place, Position, Vector, Walk};
 use crate::starts::first_t;
 use arithmetic_ranges::clamp;
@@ -24,33 +23,36 @@ struct Arrival {
     miss: Vector,
 }
 
-// The moves from a place, until one is none or the last; first is that place's station.
-fn walk(road: &LentRoad, samples: &[f64], target: Vector, from: Place, first: Footing) -> Arrival
-    requires { first ≡ footing_of road.now samples.now from.s }
-    ensures walk_value { result.walk ≡ walk_from road.now samples.now target most_moves from 0 }
-    ensures seen { result.miss ≡ miss_at road.now samples.now target result.walk.place }
-{
-    let mut at = from;
-    let mut here = first;
-    for moves in 0..MOST_MOVES {
-        let r = miss_on(road, here, target, at.t);
-        if small(r) {
-            return arrived(at, moves, r);
-        }
-        match move_from(road, samples, target, here, at, r) {
-            Move::Stay => {
+impl<'a> Search<'a> {
+    // The moves from a place, until one is none or the last; first is that place's station.
+    #[tactic(auto, using(crate::proofs::WalkLaws::turn))]
+    fn walk(&self, from: Place, first: Footing) -> Arrival
+        requires { first ≡ footing_of self.now.road.now self.now.samples.now from.s }
+        ensures walk_value { result.walk ≡ walk_from self.now.road.now self.now.samples.now self.now.target most_moves from 0 }
+        ensures seen { result.miss ≡ miss_at self.now.road.now self.now.samples.now self.now.target result.walk.place }
+    {
+        let mut at = from;
+        let mut here = first;
+        for moves in 0..MOST_MOVES {
+            let r = self.miss_on(here, at.t);
+            if small(r) {
                 return arrived(at, moves, r);
             }
-            Move::Last(p) => {
-                return arrived(p, moves + 1, miss(road, samples, target, p));
-            }
-            Move::On(p) => {
-                at = p;
-                here = footing_at(road, samples, p.s);
+            match self.move_from(here, at, r) {
+                Move::Stay => {
+                    return arrived(at, moves, r);
+                }
+                Move::Last(p) => {
+                    return arrived(p, moves + 1, self.miss(p));
+                }
+                Move::On(p) => {
+                    at = p;
+                    here = footing_at(self.road, self.samples, p.s);
+                }
             }
         }
+        arrived(at, MOST_MOVES, self.miss_on(here, at.t))
     }
-    arrived(at, MOST_MOVES, miss_on(road, here, target, at.t))
 }
 
 fn arrived(place: Place, moves: u32, miss: Vector) -> Arrival
@@ -68,6 +70,7 @@ fn met(road: &LentRoad, at: Place, miss: Vector) -> bool
 }
 
 // The place that the moves find from a guess of s, the count of moves, and the mark.
+#[tactic(auto, unfolding(crate::specs::Locating::locate_of, crate::specs::Locating::start_of, crate::specs::Locating::met_at, crate::specs::Locating::first_t, surface_points::specs::Plan::footing_of, surface_station::specs::Station::pose_at))]
 pub fn locate_from(road: &LentRoad, samples: &[f64], target: Vector, guess: f64) -> Position
     ensures { result ≡ locate_of road.now samples.now target guess }
 {
@@ -77,14 +80,18 @@ pub fn locate_from(road: &LentRoad, samples: &[f64], target: Vector, guess: f64)
         s,
         t: first_t(here, target),
     };
-    let e = walk(road, samples, target, from, here);
-    let w = e.walk;
-    let at = w.place;
+    let search = Search {
+        road,
+        samples,
+        target,
+    };
+    let e = search.walk(from, here);
+    let at = e.walk.place;
     let converged = met(road, at, e.miss);
     Position {
         s: at.s,
         t: at.t,
-        moves: w.moves,
+        moves: e.walk.moves,
         converged,
     }
 }

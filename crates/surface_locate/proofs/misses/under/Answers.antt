@@ -1,10 +1,10 @@
--- On either side of the brackets the test is theirs, between them it is that of the root.
+-- On either side of the brackets the test is theirs.
 use mathlib.Core.Path.{sym, subst}
 use lib.Dec.{T}
 use lib.Ieee.{binary64, fits}
+use Rattle.std.proofs.Common.{rules}
 use Rattle.arithmetic.specs.Root.{hypot_of}
 use Rattle.arithmetic_distance.proofs.BracketLaws.{root-above, root_below}
-use borrow.Author.Rules.{rules}
 use Rattle.surface_locate.proofs.misses.under.Goals as goal
 
 pub returns-then-high-sum : goal.returns-then-high-sum
@@ -22,7 +22,3 @@ returns-then-sum-low c =
     let fx : T (fits binary64 a.r.x) = search rules in
     let fy : T (fits binary64 a.r.y) = search rules in
     sym (root_below a.r.x a.r.y a.low a.high a.bound fx fy c.requires (subst T (sym c.if-sum-low.true) tt))
-
-pub returns : goal.returns
-unfolding hypot_of
-returns c = rw c.root.ensures
