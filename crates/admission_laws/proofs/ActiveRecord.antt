@@ -2,7 +2,7 @@
 use Prim.Native.Nat.{ℕ, zero, suc, ◌+◌, ◌<◌}
 use native.Mathlib.Omega.{arith}
 use mathlib.Core.Path.{◌≡◌, refl, sym, ap, ◌∙◌, subst}
-use mathlib.Core.Bool.{Bool, true, false, not}
+use mathlib.Core.Bool.{Bool, true, false, not, cond}
 use mathlib.Core.List.{List}
 use mathlib.Core.Logic.{⊎_elim}
 use native.Mathlib.Nat.{eq-or-lt_of_le, le_of_suc-le-suc, not-suc-le-zero}
@@ -13,7 +13,8 @@ use Rattle.records_cubic.specs.declared.cubics.Cubic.{Cubic}
 use Rattle.std.specs.declared.option.Option.{Option}
 use Rattle.std.specs.declared.option.Option.TheVariants.{Some, None}
 use Rattle.records_cubic.specs.Cubics.{cubic_at}
-use Rattle.records.specs.Active.{pick_found, last_start, active_in, or_first, active_up_to}
+use Rattle.records_lent.specs.Lists.{last_that}
+use Rattle.records.specs.Active.{last_start, active_in, or_first, active_up_to}
 
 never : ◌≡◌ {A = ℕ} 0 1 → ⊥
 never z = absurd (omega arith)
@@ -44,24 +45,24 @@ module _ (start : ℕ → Float) (limit : Float) where
 
   -- the last start that is at most the limit
   pub found_at : (n i : ℕ) → last_start start limit n ≡ Some i → Active start limit n i
-  unfolding last_start
+  unfolding last_start last_that
   found_at zero i e = absurd (no e)
     where
       no : None ≡ Some i → ⊥
       no e = let z : ◌≡◌ {A = ℕ} 0 1 = cc in omega arith
   found_at (suc n) i e = go (le (start n) limit) refl e (λ q. found_at n i q)
     where
-      go : (b : Bool) → le (start n) limit ≡ b → pick_found b (Some n) (last_start start limit n) ≡ Some i → (last_start start limit n ≡ Some i → Active start limit n i) → Active start limit (suc n) i
+      go : (b : Bool) → le (start n) limit ≡ b → cond b (Some n) (last_start start limit n) ≡ Some i → (last_start start limit n ≡ Some i → Active start limit n i) → Active start limit (suc n) i
       go true q e r = here n i e (subst T (sym q) tt)
       go false q e r = earlier n i (r e) (subst (λ (b : Bool). T (not b)) (sym q) tt)
 
 module _ (start : ℕ → Float) (limit : Float) where
   none-reached : (n : ℕ) → last_start start limit n ≡ None → (k : ℕ) → k < n → T (not (le (start k) limit))
-  unfolding last_start
+  unfolding last_start last_that
   none-reached zero e k h = absurd (not-suc-le-zero h)
   none-reached (suc n) e k h = go (le (start n) limit) refl e (λ q. none-reached n q k)
     where
-      go : (b : Bool) → le (start n) limit ≡ b → pick_found b (Some n) (last_start start limit n) ≡ None → (last_start start limit n ≡ None → k < n → T (not (le (start k) limit))) → T (not (le (start k) limit))
+      go : (b : Bool) → le (start n) limit ≡ b → cond b (Some n) (last_start start limit n) ≡ None → (last_start start limit n ≡ None → k < n → T (not (le (start k) limit))) → T (not (le (start k) limit))
       go true q e r = absurd (let z : ◌≡◌ {A = ℕ} 0 1 = cc in never z)
       go false q e r =
           ⊎_elim (λ (s : k ≡ n). subst (λ (b : Bool). T (not b)) (sym (ap (λ (j : ℕ). le (start j) limit) s ∙ q)) tt) (r e) (eq-or-lt_of_le (le_of_suc-le-suc h))
