@@ -1,23 +1,19 @@
--- The test is that of the definition, and in the range the product stays within 800,000.
+-- The test is that of the definition, and in the range so is the count.
 use mathlib.Core.Path.{sym, ap, ◌∙◌}
 use lib.Dec.{T}
-use lib.Ieee.{binary64, fits}
+use lib.Ieee.{binary64, fits, to_signed}
 use mir.Syntax.{w64}
 use mir.ValLaws.{to_z-of_z}
 use borrow.Author.Rules.{rules}
 use Rattle.refusals.specs.Answer.{value}
-use Rattle.arithmetic_counts.proofs.CountLaws.{product-in, count-in, count-out}
+use Rattle.arithmetic_counts.proofs.CountLaws.{count-rounded, count-out}
 use Rattle.arithmetic_counts.proofs.axis_counts.counts.Goals as goal
-use Rattle.arithmetic_counts.proofs.axis_counts.counts.Goals.{Start}
-
-fit : (c : Start) → T (fits binary64 c.args.v)
-fit c = search rules
-
-pub nearest_whole-requires : goal.nearest_whole-requires
-nearest_whole-requires c = product-in c.args.v (fit (goal.at.nearest_whole-requires c).Start) (sym c.in_range.ensures ∙ c.if-in_range.true)
 
 pub returns-then-in_range : goal.returns-then-in_range
-returns-then-in_range c = ap value (to_z-of_z w64 c.nearest_whole.result (record { sfits = c.nearest_whole.type_inv }) ∙ c.nearest_whole.ensures) ∙ sym (count-in c.args.v (sym c.in_range.ensures ∙ c.if-in_range.true))
+returns-then-in_range c =
+    let fit : T (fits binary64 c.args.v) = search rules in
+    let n = c.saturating_f64_to_i64 in
+    ap value (to_z-of_z w64 n.result (record { sfits = n.type_inv }) ∙ n.ensures ∙ ap (to_signed 63) c.round.ensures) ∙ count-rounded c.args.v fit (sym c.in_range.ensures ∙ c.if-in_range.true)
 
 pub returns : goal.returns
 returns c = sym (count-out c.args.v (sym c.in_range.ensures ∙ c.if-in_range.false))
