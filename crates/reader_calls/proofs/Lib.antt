@@ -1,4 +1,3 @@
-pub mod Fills
 pub mod TakingCases
 pub mod JobCases
 pub mod Examples

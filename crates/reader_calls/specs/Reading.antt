@@ -1,10 +1,9 @@
 -- Document 01, "What a call gives back" and "The job text": a whole text, read. "Reading checks 1 to 5"; "Row 2's slice and length tests precede all lines;
 -- then a line is tested for 1 before 2. A refused reading leaves zeros in all road slices, an accepted one zeros past the last line". Read `reading_of` first.
-use Rattle.std.specs.Prelude.{ℕ, zero, suc, ◌+◌, ◌&&◌, cond, List, length, replicate, eqb, ltb, leb, Float}
+use Rattle.std.specs.Prelude.{ℕ, zero, suc, ◌+◌, ◌&&◌, cond, List, Option, Some, None, length, replicate, eqb, ltb, leb, Float}
 use Rattle.std.specs.Float.{binary64}
 use Rattle.std.specs.Float.Ieee.{of_bits}
 use Rattle.refusals.specs.Answer.{Answer, value, refused}
-use Rattle.refusals.specs.Refusal.{number_of}
 use Rattle.records.specs.Layout.{words_needed, numbers_needed, wants_needed}
 use Rattle.admission.specs.Admission.{admit_call}
 use Rattle.reader_schema.specs.Tables.{road_table, table_count, columns_most}
@@ -20,8 +19,6 @@ use Rattle.reader_store.specs.Layout.{numbers_below, wants_kept, count_kept}
 use Rattle.reader_store.specs.Progress.{start_progress, unsound_progress, ended_progress}
 use Rattle.reader_store.specs.Keep.{kept_words, kept_progress}
 use Rattle.reader_store.specs.declared.progress.Progress.{Progress}
-use Rattle.reader_calls.specs.declared.answers.Read.{Read}
-use Rattle.reader_calls.specs.declared.answers.Read.TheVariants.{Accepted, Refused}
 
 -- What reading comes to: the place after it, how many lines the last table had, what is remembered of references and order, and the words, numbers and
 -- wants then held; or the number of the refusal.
@@ -30,8 +27,9 @@ pub data Outcome : Type 0 where
   stop : (number : ℕ) → Outcome
 
 -- by a line of values: what its cells and the place after it lead to, or a broken form
-abbrev pub by_values : Values → (Cells → ℕ → Outcome) → Outcome
-by_values row f = cond row.good (f row.cells row.next) (stop 1)
+abbrev pub by_values : Option Values → (Cells → ℕ → Outcome) → Outcome
+by_values (Some row) f = f row.cells row.next
+by_values None f = stop 1
 
 -- Lines up to an empty one, at most `fuel` more, the k-th at hand. "a line is tested for 1 before 2".
 unfoldable pub lines_from : ℕ → ℕ → Order → List ℕ → ℕ → ℕ → Progress → List ℕ → List Float → List ℕ → Outcome
@@ -45,8 +43,9 @@ lines_from (suc fuel) table order text at k progress ws ns vs =
     lines_from fuel table order text next (k + 1) (kept_progress table k cells progress ws) (kept_words table k cells progress ws) (numbers_below table k cells columns_most ns) (wants_kept table k cells vs)))
 
 -- by a line of names: what the order of its columns and the place after it lead to, or a broken form
-abbrev pub by_head : Head → (Order → ℕ → Outcome) → Outcome
-by_head head f = cond head.good (f head.order head.next) (stop 1)
+abbrev pub by_head : Option Head → (Order → ℕ → Outcome) → Outcome
+by_head (Some head) f = f head.order head.next
+by_head None f = stop 1
 
 -- "A table is a line of names .., lines of values .., one empty line." Where its name does not stand, the table is missing and nothing is read.
 unfoldable pub table_at : ℕ → List ℕ → ℕ → Progress → List ℕ → List Float → List ℕ → Outcome
@@ -119,8 +118,3 @@ numbers_held n (stop m) = zero_numbers n
 abbrev pub wants_held : ℕ → Outcome → List ℕ
 wants_held n (done at lines progress ws ns vs) = vs
 wants_held n (stop m) = zeros n
-
--- the number and the value of each case of the answer
-abbrev pub read_answer : Read → Answer ℕ
-read_answer (Accepted n) = value n
-read_answer (Refused r) = refused (number_of r)

@@ -9,27 +9,15 @@ ghost use Rattle.reader_calls.specs.Parts.{Agrees};
 use reader_lines::Order;
 use reader_schema::tables::{ROAD_TABLE, TABLE_COUNT};
 use reader_store::Progress;
+use refusals::Refusal;
 
-#[derive(Clone, Copy)]
+#[derive(Clone, Copy, Debug, PartialEq, Eq)]
 pub struct Taken {
-    // the number of the refusal, 0 for none
-    pub number: u8,
     // the place after what was taken
     pub next: usize,
     // how many lines the last table had
     pub lines: u16,
     pub progress: Progress,
-}
-
-fn turned(number: u8, progress: Progress) -> Taken
-    ensures { result.number ≡ number }
-{
-    Taken {
-        number,
-        next: 0,
-        lines: 0,
-        progress,
-    }
 }
 
 // The lines of a table up to an empty one. A line is tested for its form (1) before the table's limit (2).
@@ -42,7 +30,7 @@ fn lines(
     numbers: &mut [f64],
     wants: &mut [u64],
     start: Progress,
-) -> Taken
+) -> Result<Taken, Refusal>
     ensures { Agrees (lines_from (limit_of table) table order text.now from 0 start words.old numbers.old wants.old) result words.new numbers.new wants.new }
 {
     let limit = reader_schema::limit_of(table);
@@ -50,24 +38,21 @@ fn lines(
     let mut at = from;
     let mut k: u16 = 0;
     loop {
-        if reader_hex::byte_at(text, at) == 10 {
+        if reader_hex::byte_at(text, at) == b'\n' {
             let ended = reader_store::end_table(words, table, k, progress);
-            return Taken {
-                number: 0,
+            return Ok(Taken {
                 next: at + 1,
                 lines: k,
                 progress: ended,
-            };
+            });
         }
-        let row = reader_lines::values_at(text, at, table, order);
-        if !row.good {
-            return turned(1, progress);
-        }
+        let Some(row) = reader_lines::values_at(text, at, table, order) else {
+            return Err(Refusal::Form);
+        };
         if limit <= k {
-            return turned(2, progress);
+            return Err(Refusal::Capacity);
         }
-        let values = row.cells;
-        progress = reader_store::keep_line(words, numbers, wants, table, k, values, progress);
+        progress = reader_store::keep_line(words, numbers, wants, table, k, row.cells, progress);
         at = row.next;
         k += 1;
     }
@@ -82,38 +67,35 @@ fn table_at(
     numbers: &mut [f64],
     wants: &mut [u64],
     progress: Progress,
-) -> Taken
+) -> Result<Taken, Refusal>
     ensures { Agrees (table_at table text.now at progress words.old numbers.old wants.old) result words.new numbers.new wants.new }
 {
     let name = reader_cells::name_at(text, at);
     if name.value != reader_schema::table_name(table) {
-        return Taken {
-            number: 0,
+        return Ok(Taken {
             next: at,
             lines: 0,
             progress,
-        };
+        });
     }
-    let head = reader_lines::head_at(text, name.next, table);
-    if !head.good {
-        return turned(1, progress);
-    }
-    let order = head.order;
+    let Some(head) = reader_lines::head_at(text, name.next, table) else {
+        return Err(Refusal::Form);
+    };
     lines(
-        text, head.next, table, order, words, numbers, wants, progress,
+        text, head.next, table, head.order, words, numbers, wants, progress,
     )
 }
 
-// A road without its line has too few (3). Admission tests the counts of the other tables.
+// A road without its line has too few. Admission tests the counts of the other tables.
+#[tactic(auto, unfolding(crate::specs::Reading::counted_progress))]
 fn counted(table: usize, lines: u16, progress: Progress) -> Progress
     ensures { result ≡ counted_progress table lines progress }
 {
-    let few = (table == ROAD_TABLE) & (lines == 0);
-    let mut r = progress;
-    if few {
-        r.sound = false;
+    if (table == ROAD_TABLE) & (lines == 0) {
+        progress.unsound()
+    } else {
+        progress
     }
-    r
 }
 
 // All tables, in their order.
@@ -122,31 +104,24 @@ pub(crate) fn tables(
     words: &mut [u16],
     numbers: &mut [f64],
     wants: &mut [u64],
-) -> Taken
+) -> Result<Taken, Refusal>
     ensures { Agrees (tables_from table_count road_table text.now 0 0 start_progress words.old numbers.old wants.old) result words.new numbers.new wants.new }
 {
     let mut progress = reader_store::start_progress();
-    let mut at = 0;
-    let mut count: u16 = 0;
-    let mut table = ROAD_TABLE;
-    while table < TABLE_COUNT {
-        let taken = table_at(text, at, table, words, numbers, wants, progress);
-        if taken.number != 0 {
-            return taken;
-        }
-        let reached = taken.progress;
-        progress = counted(table, taken.lines, reached);
-        at = taken.next;
-        count = taken.lines;
-        table += 1;
+    let mut next = 0;
+    let mut lines: u16 = 0;
+    for table in ROAD_TABLE..TABLE_COUNT {
+        let taken = table_at(text, next, table, words, numbers, wants, progress)?;
+        progress = counted(table, taken.lines, taken.progress);
+        next = taken.next;
+        lines = taken.lines;
     }
-    if at < text.len() {
-        return turned(1, progress);
+    if next < text.len() {
+        return Err(Refusal::Form);
     }
-    Taken {
-        number: 0,
-        next: at,
-        lines: count,
+    Ok(Taken {
+        next,
+        lines,
         progress,
-    }
+    })
 }

@@ -16,13 +16,16 @@ use Rattle.reader_schema.specs.Schema.{name_of, limit_of}
 use Rattle.reader_cells.specs.Cells.{byte_at, name_span}
 use Rattle.reader_lines.specs.NamesLine.{head_at}
 use Rattle.reader_lines.specs.ValuesLine.{values_at}
+use Rattle.std.specs.Prelude.{Option, Some, None}
+use Rattle.reader_lines.specs.declared.names_line.Head.{Head}
+use Rattle.reader_lines.specs.declared.values_line.Values.{Values}
 use Rattle.reader_lines.specs.declared.columns.Order.{Order}
 use Rattle.reader_lines.specs.declared.columns.Cells.{Cells}
 use Rattle.reader_store.specs.Layout.{places, place_at, words, word_place, counts, count_place, count_kept, numbers_below, wants_kept}
 use Rattle.reader_store.specs.Progress.{start_progress, ended_progress}
 use Rattle.reader_store.specs.Keep.{kept_words, kept_progress}
 use Rattle.reader_store.specs.declared.progress.Progress.{Progress}
-use Rattle.reader_calls.specs.Reading.{Outcome, done, stop, by_outcome, lines_from, table_at, counted_progress, tables_from, zeros, zero_numbers}
+use Rattle.reader_calls.specs.Reading.{Outcome, done, stop, by_outcome, lines_from, table_at, counted_progress, tables_from, zeros, zero_numbers, by_values, by_head}
 use Rattle.reader_laws.specs.Lines.{Lines, lines, broken, by_lines, table_lines, tables_lines, lines_of}
 use Rattle.reader_laws.proofs.LowWords.{or_else, Low, low_same, low-then, kept_low}
 use Rattle.reader_laws.proofs.ReadTables.{Stored}
@@ -99,34 +102,33 @@ module _ (t : ℕ) (small : t < 16) where
   lines-tallied : (fuel : ℕ) (order : Order) (text : List ℕ) (at k : ℕ) (progress : Progress) (ws : List ℕ) (ns : List Float) (vs : List ℕ) (from : List ℕ) → Low 7 ws from
       → TalliedBy t from (lines_from fuel t order text at k progress ws ns vs)
   unfolding lines_from
-  lines-tallied zero order text at k progress ws ns vs from h = go (eqb (byte_at text at) 10) (values_at text at t order).good
+  lines-tallied zero order text at k progress ws ns vs from h = go (eqb (byte_at text at) 10) (values_at text at t order)
     where
-      go : (a b : Bool) → TalliedBy t from (cond a (done (at + 1) k (ended_progress progress) (count_kept t k ws) ns vs) (cond b (stop 2) (stop 1)))
-      go true b = count-tallied k ws from h
-      go false true = tt
-      go false false = tt
+      go : (a : Bool) (x : Option Values) → TalliedBy t from (cond a (done (at + 1) k (ended_progress progress) (count_kept t k ws) ns vs) (by_values x (λ cells next. stop 2)))
+      go true x = count-tallied k ws from h
+      go false (Some row) = tt
+      go false None = tt
   lines-tallied (suc fuel) order text at k progress ws ns vs from h =
-      go (eqb (byte_at text at) 10) (values_at text at t order).good
-      (lines_from fuel t order text (values_at text at t order).next (k + 1) (kept_progress t k (values_at text at t order).cells progress ws) (kept_words t k (values_at text at t order).cells progress ws) (numbers_below t k (values_at text at t order).cells 8 ns) (wants_kept t k (values_at text at t order).cells vs))
-      (lines-tallied fuel order text (values_at text at t order).next (k + 1) (kept_progress t k (values_at text at t order).cells progress ws) (kept_words t k (values_at text at t order).cells progress ws) (numbers_below t k (values_at text at t order).cells 8 ns) (wants_kept t k (values_at text at t order).cells vs) from
-      (low-then 7 (kept_words t k (values_at text at t order).cells progress ws) ws from (kept_low 7 (omega arith) t small (word-past t small) k (values_at text at t order).cells progress ws) h))
+      go (eqb (byte_at text at) 10) (values_at text at t order)
+      (λ cells next.
+      lines-tallied fuel order text next (k + 1) (kept_progress t k cells progress ws) (kept_words t k cells progress ws) (numbers_below t k cells 8 ns) (wants_kept t k cells vs) from
+      (low-then 7 (kept_words t k cells progress ws) ws from (kept_low 7 (omega arith) t small (word-past t small) k cells progress ws) h))
     where
-      go : (a b : Bool) (o : Outcome) → TalliedBy t from o → TalliedBy t from (cond a (done (at + 1) k (ended_progress progress) (count_kept t k ws) ns vs) (cond b o (stop 1)))
-      go true b o ih = count-tallied k ws from h
-      go false true o ih = ih
-      go false false o ih = tt
+      go : (a : Bool) (x : Option Values) → ((cells : Cells) (next : ℕ) → TalliedBy t from (lines_from fuel t order text next (k + 1) (kept_progress t k cells progress ws) (kept_words t k cells progress ws) (numbers_below t k cells 8 ns) (wants_kept t k cells vs))) → TalliedBy t from (cond a (done (at + 1) k (ended_progress progress) (count_kept t k ws) ns vs) (by_values x (λ cells next. lines_from fuel t order text next (k + 1) (kept_progress t k cells progress ws) (kept_words t k cells progress ws) (numbers_below t k cells 8 ns) (wants_kept t k cells vs))))
+      go true x ih = count-tallied k ws from h
+      go false (Some row) ih = ih row.cells row.next
+      go false None ih = tt
 
   table-tallied : (text : List ℕ) (at : ℕ) (progress : Progress) (ws : List ℕ) (ns : List Float) (vs : List ℕ) → (0 < count_place t → get_or ws (count_place t - 1) 0 ≡ 0) → TalliedBy t ws (table_at t text at progress ws ns vs)
   unfolding table_at
   table-tallied text at progress ws ns vs blank =
-      go (eqb (name_span text at).value (name_of t)) (head_at text (name_span text at).next t).good
-      (lines_from (limit_of t) t (head_at text (name_span text at).next t).order text (head_at text (name_span text at).next t).next 0 progress ws ns vs)
-      (lines-tallied (limit_of t) (head_at text (name_span text at).next t).order text (head_at text (name_span text at).next t).next 0 progress ws ns vs ws (low_same 7 ws))
+      go (eqb (name_span text at).value (name_of t)) (head_at text (name_span text at).next t) (λ order next. lines-tallied (limit_of t) order text next 0 progress ws ns vs ws (low_same 7 ws))
     where
-      go : (a b : Bool) (o : Outcome) → TalliedBy t ws o → TalliedBy t ws (cond a (cond b o (stop 1)) (done at 0 progress ws ns vs))
-      go true true o ih = ih
-      go true false o ih = tt
-      go false b o ih = record { same = refl; other = λ i s q. refl; count = λ p long. blank p }
+      go : (a : Bool) (x : Option Head) → ((order : Order) (next : ℕ) → TalliedBy t ws (lines_from (limit_of t) t order text next 0 progress ws ns vs))
+          → TalliedBy t ws (cond a (by_head x (λ order next. lines_from (limit_of t) t order text next 0 progress ws ns vs)) (done at 0 progress ws ns vs))
+      go true (Some head) ih = ih head.order head.next
+      go true None ih = tt
+      go false x ih = record { same = refl; other = λ i s q. refl; count = λ p long. blank p }
 
 -- ---- tables, one after another
 

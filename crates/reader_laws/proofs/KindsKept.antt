@@ -16,6 +16,9 @@ use Rattle.reader_schema.specs.Schema.{name_of, limits, limit_of}
 use Rattle.reader_cells.specs.Cells.{byte_at, name_span}
 use Rattle.reader_lines.specs.NamesLine.{head_at}
 use Rattle.reader_lines.specs.ValuesLine.{values_at}
+use Rattle.std.specs.Prelude.{Option, Some, None}
+use Rattle.reader_lines.specs.declared.names_line.Head.{Head}
+use Rattle.reader_lines.specs.declared.values_line.Values.{Values}
 use Rattle.reader_lines.specs.declared.columns.Order.{Order}
 use Rattle.reader_lines.specs.Columns.{cell_of, no_cells}
 use Rattle.reader_lines.specs.declared.columns.Cells.{Cells}
@@ -23,8 +26,8 @@ use Rattle.reader_store.specs.Layout.{places, place_at, words, word_place, code_
 use Rattle.reader_store.specs.Progress.{start_progress, ended_progress}
 use Rattle.reader_store.specs.Keep.{ruled_words, kept_words, kept_progress}
 use Rattle.reader_store.specs.declared.progress.Progress.{Progress}
-use Rattle.reader_calls.specs.Reading.{Outcome, done, stop, by_outcome, lines_from, table_at, counted_progress, tables_from, zeros, zero_numbers}
-use Rattle.reader_laws.specs.Lines.{Lines, lines, broken, after, by_lines, lines_at, table_lines, tables_lines, lines_of}
+use Rattle.reader_calls.specs.Reading.{Outcome, done, stop, by_outcome, lines_from, table_at, counted_progress, tables_from, zeros, zero_numbers, by_values, by_head}
+use Rattle.reader_laws.specs.Lines.{Lines, lines, broken, after, by_lines, lines_at, table_lines, tables_lines, lines_of, by_row, by_names}
 use Rattle.reader_laws.proofs.LowWords.{or_else, Low, low_same, low-then, kept_low}
 use Rattle.reader_laws.proofs.CountsKept.{count-few}
 use Rattle.reader_laws.proofs.ReadTables.{Stored}
@@ -84,35 +87,30 @@ kinds-after k cells progress ws (lines rows next) (done at n progress' us ns vs)
 
 kinds-lines : (fuel : ℕ) (order : Order) (text : List ℕ) (at k : ℕ) (progress : Progress) (ws : List ℕ) (ns : List Float) (vs : List ℕ) → KindsBy k ws (lines_at fuel 1 order text at) (lines_from fuel 1 order text at k progress ws ns vs)
 unfolding lines_at lines_from kinds_put
-kinds-lines zero order text at k progress ws ns vs = go (eqb (byte_at text at) 10) (values_at text at 1 order).good
+kinds-lines zero order text at k progress ws ns vs = go (eqb (byte_at text at) 10) (values_at text at 1 order)
   where
-    go : (a b : Bool) → KindsBy k ws (cond a (lines [] (at + 1)) broken) (cond a (done (at + 1) k (ended_progress progress) (count_kept 1 k ws) ns vs) (cond b (stop 2) (stop 1)))
-    go true b = count_past 1 (omega arith) k ws
-    go false true = tt
-    go false false = tt
-kinds-lines (suc fuel) order text at k progress ws ns vs =
-    go (eqb (byte_at text at) 10) (values_at text at 1 order).good (lines_at fuel 1 order text (values_at text at 1 order).next)
-    (lines_from fuel 1 order text (values_at text at 1 order).next (k + 1) (kept_progress 1 k (values_at text at 1 order).cells progress ws) (kept_words 1 k (values_at text at 1 order).cells progress ws) (numbers_below 1 k (values_at text at 1 order).cells 8 ns) (wants_kept 1 k (values_at text at 1 order).cells vs))
-    (kinds-lines fuel order text (values_at text at 1 order).next (k + 1) (kept_progress 1 k (values_at text at 1 order).cells progress ws) (kept_words 1 k (values_at text at 1 order).cells progress ws) (numbers_below 1 k (values_at text at 1 order).cells 8 ns) (wants_kept 1 k (values_at text at 1 order).cells vs))
+    go : (a : Bool) (x : Option Values) → KindsBy k ws (cond a (lines [] (at + 1)) broken) (cond a (done (at + 1) k (ended_progress progress) (count_kept 1 k ws) ns vs) (by_values x (λ cells next. stop 2)))
+    go true x = count_past 1 (omega arith) k ws
+    go false (Some row) = tt
+    go false None = tt
+kinds-lines (suc fuel) order text at k progress ws ns vs = go (eqb (byte_at text at) 10) (values_at text at 1 order) (λ cells next. kinds-lines fuel order text next (k + 1) (kept_progress 1 k cells progress ws) (kept_words 1 k cells progress ws) (numbers_below 1 k cells 8 ns) (wants_kept 1 k cells vs))
   where
-    go : (a b : Bool) (p : Lines) (o : Outcome) → KindsBy (k + 1) (kept_words 1 k (values_at text at 1 order).cells progress ws) p o
-        → KindsBy k ws (cond a (lines [] (at + 1)) (cond b (after (values_at text at 1 order).cells p) broken)) (cond a (done (at + 1) k (ended_progress progress) (count_kept 1 k ws) ns vs) (cond b o (stop 1)))
-    go true b p o ih = count_past 1 (omega arith) k ws
-    go false true p o ih = kinds-after k (values_at text at 1 order).cells progress ws p o ih
-    go false false p o ih = tt
+    go : (a : Bool) (x : Option Values) → ((cells : Cells) (next : ℕ) → KindsBy (k + 1) (kept_words 1 k cells progress ws) (lines_at fuel 1 order text next) (lines_from fuel 1 order text next (k + 1) (kept_progress 1 k cells progress ws) (kept_words 1 k cells progress ws) (numbers_below 1 k cells 8 ns) (wants_kept 1 k cells vs)))
+        → KindsBy k ws (cond a (lines [] (at + 1)) (by_row x (λ cells next. after cells (lines_at fuel 1 order text next)))) (cond a (done (at + 1) k (ended_progress progress) (count_kept 1 k ws) ns vs) (by_values x (λ cells next. lines_from fuel 1 order text next (k + 1) (kept_progress 1 k cells progress ws) (kept_words 1 k cells progress ws) (numbers_below 1 k cells 8 ns) (wants_kept 1 k cells vs))))
+    go true x ih = count_past 1 (omega arith) k ws
+    go false (Some row) ih = kinds-after k row.cells progress ws (lines_at fuel 1 order text row.next) _ (ih row.cells row.next)
+    go false None ih = tt
 
 kinds-table : (text : List ℕ) (at : ℕ) (progress : Progress) (ws : List ℕ) (ns : List Float) (vs : List ℕ) → KindsBy 0 ws (table_lines 1 text at) (table_at 1 text at progress ws ns vs)
 unfolding table_lines table_at kinds_put
 kinds-table text at progress ws ns vs =
-    go (eqb (name_span text at).value (name_of 1)) (head_at text (name_span text at).next 1).good
-    (lines_at (limit_of 1) 1 (head_at text (name_span text at).next 1).order text (head_at text (name_span text at).next 1).next)
-    (lines_from (limit_of 1) 1 (head_at text (name_span text at).next 1).order text (head_at text (name_span text at).next 1).next 0 progress ws ns vs)
-    (kinds-lines (limit_of 1) (head_at text (name_span text at).next 1).order text (head_at text (name_span text at).next 1).next 0 progress ws ns vs)
+    go (eqb (name_span text at).value (name_of 1)) (head_at text (name_span text at).next 1) (λ order next. kinds-lines (limit_of 1) order text next 0 progress ws ns vs)
   where
-    go : (a b : Bool) (p : Lines) (o : Outcome) → KindsBy 0 ws p o → KindsBy 0 ws (cond a (cond b p broken) (lines [] at)) (cond a (cond b o (stop 1)) (done at 0 progress ws ns vs))
-    go true true p o ih = ih
-    go true false p o ih = tt
-    go false b p o ih = λ j h. refl
+    go : (a : Bool) (x : Option Head) → ((order : Order) (next : ℕ) → KindsBy 0 ws (lines_at (limit_of 1) 1 order text next) (lines_from (limit_of 1) 1 order text next 0 progress ws ns vs))
+        → KindsBy 0 ws (cond a (by_names x (λ order next. lines_at (limit_of 1) 1 order text next)) (lines [] at)) (cond a (by_head x (λ order next. lines_from (limit_of 1) 1 order text next 0 progress ws ns vs)) (done at 0 progress ws ns vs))
+    go true (Some head) ih = ih head.order head.next
+    go true None ih = tt
+    go false x ih = λ j h. refl
 
 -- ---- the other tables
 
@@ -153,34 +151,33 @@ module _ (t : ℕ) (small : t < 16) (unlike : t ≡ 1 → ⊥) where
   others-lines : (fuel : ℕ) (order : Order) (text : List ℕ) (at k : ℕ) (progress : Progress) (ws : List ℕ) (ns : List Float) (vs : List ℕ) (from : List ℕ) → Low 71 ws from
       → OthersBy from (lines_from fuel t order text at k progress ws ns vs)
   unfolding lines_from
-  others-lines zero order text at k progress ws ns vs from h = go (eqb (byte_at text at) 10) (values_at text at t order).good
+  others-lines zero order text at k progress ws ns vs from h = go (eqb (byte_at text at) 10) (values_at text at t order)
     where
-      go : (a b : Bool) → OthersBy from (cond a (done (at + 1) k (ended_progress progress) (count_kept t k ws) ns vs) (cond b (stop 2) (stop 1)))
-      go true b = ended k ws from h
-      go false true = tt
-      go false false = tt
+      go : (a : Bool) (x : Option Values) → OthersBy from (cond a (done (at + 1) k (ended_progress progress) (count_kept t k ws) ns vs) (by_values x (λ cells next. stop 2)))
+      go true x = ended k ws from h
+      go false (Some row) = tt
+      go false None = tt
   others-lines (suc fuel) order text at k progress ws ns vs from h =
-      go (eqb (byte_at text at) 10) (values_at text at t order).good
-      (lines_from fuel t order text (values_at text at t order).next (k + 1) (kept_progress t k (values_at text at t order).cells progress ws) (kept_words t k (values_at text at t order).cells progress ws) (numbers_below t k (values_at text at t order).cells 8 ns) (wants_kept t k (values_at text at t order).cells vs))
-      (others-lines fuel order text (values_at text at t order).next (k + 1) (kept_progress t k (values_at text at t order).cells progress ws) (kept_words t k (values_at text at t order).cells progress ws) (numbers_below t k (values_at text at t order).cells 8 ns) (wants_kept t k (values_at text at t order).cells vs) from
-      (low-then 71 (kept_words t k (values_at text at t order).cells progress ws) ws from (kept_low 71 (omega arith) t small word-past k (values_at text at t order).cells progress ws) h))
+      go (eqb (byte_at text at) 10) (values_at text at t order)
+      (λ cells next.
+      others-lines fuel order text next (k + 1) (kept_progress t k cells progress ws) (kept_words t k cells progress ws) (numbers_below t k cells 8 ns) (wants_kept t k cells vs) from
+      (low-then 71 (kept_words t k cells progress ws) ws from (kept_low 71 (omega arith) t small word-past k cells progress ws) h))
     where
-      go : (a b : Bool) (o : Outcome) → OthersBy from o → OthersBy from (cond a (done (at + 1) k (ended_progress progress) (count_kept t k ws) ns vs) (cond b o (stop 1)))
-      go true b o ih = ended k ws from h
-      go false true o ih = ih
-      go false false o ih = tt
+      go : (a : Bool) (x : Option Values) → ((cells : Cells) (next : ℕ) → OthersBy from (lines_from fuel t order text next (k + 1) (kept_progress t k cells progress ws) (kept_words t k cells progress ws) (numbers_below t k cells 8 ns) (wants_kept t k cells vs))) → OthersBy from (cond a (done (at + 1) k (ended_progress progress) (count_kept t k ws) ns vs) (by_values x (λ cells next. lines_from fuel t order text next (k + 1) (kept_progress t k cells progress ws) (kept_words t k cells progress ws) (numbers_below t k cells 8 ns) (wants_kept t k cells vs))))
+      go true x ih = ended k ws from h
+      go false (Some row) ih = ih row.cells row.next
+      go false None ih = tt
 
   others-table : (text : List ℕ) (at : ℕ) (progress : Progress) (ws : List ℕ) (ns : List Float) (vs : List ℕ) → OthersBy ws (table_at t text at progress ws ns vs)
   unfolding table_at
   others-table text at progress ws ns vs =
-      go (eqb (name_span text at).value (name_of t)) (head_at text (name_span text at).next t).good
-      (lines_from (limit_of t) t (head_at text (name_span text at).next t).order text (head_at text (name_span text at).next t).next 0 progress ws ns vs)
-      (others-lines (limit_of t) (head_at text (name_span text at).next t).order text (head_at text (name_span text at).next t).next 0 progress ws ns vs ws (low_same 71 ws))
+      go (eqb (name_span text at).value (name_of t)) (head_at text (name_span text at).next t) (λ order next. others-lines (limit_of t) order text next 0 progress ws ns vs ws (low_same 71 ws))
     where
-      go : (a b : Bool) (o : Outcome) → OthersBy ws o → OthersBy ws (cond a (cond b o (stop 1)) (done at 0 progress ws ns vs))
-      go true true o ih = ih
-      go true false o ih = tt
-      go false b o ih = (refl, λ j p q. refl)
+      go : (a : Bool) (x : Option Head) → ((order : Order) (next : ℕ) → OthersBy ws (lines_from (limit_of t) t order text next 0 progress ws ns vs))
+          → OthersBy ws (cond a (by_head x (λ order next. lines_from (limit_of t) t order text next 0 progress ws ns vs)) (done at 0 progress ws ns vs))
+      go true (Some head) ih = ih head.order head.next
+      go true None ih = tt
+      go false x ih = (refl, λ j p q. refl)
 
 -- ---- tables, one after another
 

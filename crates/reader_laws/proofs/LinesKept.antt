@@ -11,14 +11,17 @@ use Rattle.reader_schema.specs.Schema.{name_of, limit_of}
 use Rattle.reader_cells.specs.Cells.{byte_at, name_span}
 use Rattle.reader_lines.specs.NamesLine.{head_at}
 use Rattle.reader_lines.specs.ValuesLine.{values_at}
+use Rattle.std.specs.Prelude.{Option, Some, None}
+use Rattle.reader_lines.specs.declared.names_line.Head.{Head}
+use Rattle.reader_lines.specs.declared.values_line.Values.{Values}
 use Rattle.reader_lines.specs.declared.columns.Order.{Order}
 use Rattle.reader_lines.specs.declared.columns.Cells.{Cells}
 use Rattle.reader_store.specs.Layout.{numbers_below, wants_kept, count_kept}
 use Rattle.reader_store.specs.Progress.{ended_progress}
 use Rattle.reader_store.specs.Keep.{kept_words, kept_progress}
 use Rattle.reader_store.specs.declared.progress.Progress.{Progress}
-use Rattle.reader_calls.specs.Reading.{Outcome, done, stop, lines_from, table_at}
-use Rattle.reader_laws.specs.Lines.{Lines, lines, broken, after, lines_at, table_lines}
+use Rattle.reader_calls.specs.Reading.{Outcome, done, stop, lines_from, table_at, by_values, by_head}
+use Rattle.reader_laws.specs.Lines.{Lines, lines, broken, after, lines_at, table_lines, by_row, by_names}
 use Rattle.reader_laws.proofs.NumbersKept.{rows_put}
 
 -- lines from line k on, at most fuel, kept in numbers: the place after them, the count, the numbers
@@ -36,32 +39,28 @@ agree_after t fuel k cells ns (lines rows next) (done at n progress ws xs vs) a 
 pub lines-agree : (fuel t : ℕ) (order : Order) (text : List ℕ) (at k : ℕ) (progress : Progress) (ws : List ℕ) (ns : List Float) (vs : List ℕ)
     → Agree t fuel k ns (lines_at fuel t order text at) (lines_from fuel t order text at k progress ws ns vs)
 unfolding lines_at lines_from rows_put
-lines-agree zero t order text at k progress ws ns vs = go (eqb (byte_at text at) 10) (values_at text at t order).good
+lines-agree zero t order text at k progress ws ns vs = go (eqb (byte_at text at) 10) (values_at text at t order)
   where
-    go : (a b : Bool) → Agree t 0 k ns (cond a (lines [] (at + 1)) broken) (cond a (done (at + 1) k (ended_progress progress) (count_kept t k ws) ns vs) (cond b (stop 2) (stop 1)))
-    go true b = (refl, omega arith, omega arith, refl)
-    go false true = tt
-    go false false = tt
-lines-agree (suc fuel) t order text at k progress ws ns vs =
-    go (eqb (byte_at text at) 10) (values_at text at t order).good (lines_at fuel t order text (values_at text at t order).next)
-    (lines_from fuel t order text (values_at text at t order).next (k + 1) (kept_progress t k (values_at text at t order).cells progress ws) (kept_words t k (values_at text at t order).cells progress ws) (numbers_below t k (values_at text at t order).cells 8 ns) (wants_kept t k (values_at text at t order).cells vs))
-    (lines-agree fuel t order text (values_at text at t order).next (k + 1) (kept_progress t k (values_at text at t order).cells progress ws) (kept_words t k (values_at text at t order).cells progress ws) (numbers_below t k (values_at text at t order).cells 8 ns) (wants_kept t k (values_at text at t order).cells vs))
+    go : (a : Bool) (x : Option Values) → Agree t 0 k ns (cond a (lines [] (at + 1)) broken) (cond a (done (at + 1) k (ended_progress progress) (count_kept t k ws) ns vs) (by_values x (λ cells next. stop 2)))
+    go true x = (refl, omega arith, omega arith, refl)
+    go false (Some row) = tt
+    go false None = tt
+lines-agree (suc fuel) t order text at k progress ws ns vs = go (eqb (byte_at text at) 10) (values_at text at t order) (λ cells next. lines-agree fuel t order text next (k + 1) (kept_progress t k cells progress ws) (kept_words t k cells progress ws) (numbers_below t k cells 8 ns) (wants_kept t k cells vs))
   where
-    go : (a b : Bool) (p : Lines) (o : Outcome) → Agree t fuel (k + 1) (numbers_below t k (values_at text at t order).cells 8 ns) p o
-        → Agree t (suc fuel) k ns (cond a (lines [] (at + 1)) (cond b (after (values_at text at t order).cells p) broken)) (cond a (done (at + 1) k (ended_progress progress) (count_kept t k ws) ns vs) (cond b o (stop 1)))
-    go true b p o ih = (refl, omega arith, omega arith, refl)
-    go false true p o ih = agree_after t fuel k (values_at text at t order).cells ns p o ih
-    go false false p o ih = tt
+    go : (a : Bool) (x : Option Values)
+        → ((cells : Cells) (next : ℕ) → Agree t fuel (k + 1) (numbers_below t k cells 8 ns) (lines_at fuel t order text next) (lines_from fuel t order text next (k + 1) (kept_progress t k cells progress ws) (kept_words t k cells progress ws) (numbers_below t k cells 8 ns) (wants_kept t k cells vs)))
+        → Agree t (suc fuel) k ns (cond a (lines [] (at + 1)) (by_row x (λ cells next. after cells (lines_at fuel t order text next)))) (cond a (done (at + 1) k (ended_progress progress) (count_kept t k ws) ns vs) (by_values x (λ cells next. lines_from fuel t order text next (k + 1) (kept_progress t k cells progress ws) (kept_words t k cells progress ws) (numbers_below t k cells 8 ns) (wants_kept t k cells vs))))
+    go true x ih = (refl, omega arith, omega arith, refl)
+    go false (Some row) ih = agree_after t fuel k row.cells ns (lines_at fuel t order text row.next) _ (ih row.cells row.next)
+    go false None ih = tt
 
 pub table-agree : (t : ℕ) (text : List ℕ) (at : ℕ) (progress : Progress) (ws : List ℕ) (ns : List Float) (vs : List ℕ) → Agree t (limit_of t) 0 ns (table_lines t text at) (table_at t text at progress ws ns vs)
 unfolding table_lines table_at rows_put
 table-agree t text at progress ws ns vs =
-    go (eqb (name_span text at).value (name_of t)) (head_at text (name_span text at).next t).good
-    (lines_at (limit_of t) t (head_at text (name_span text at).next t).order text (head_at text (name_span text at).next t).next)
-    (lines_from (limit_of t) t (head_at text (name_span text at).next t).order text (head_at text (name_span text at).next t).next 0 progress ws ns vs)
-    (lines-agree (limit_of t) t (head_at text (name_span text at).next t).order text (head_at text (name_span text at).next t).next 0 progress ws ns vs)
+    go (eqb (name_span text at).value (name_of t)) (head_at text (name_span text at).next t) (λ order next. lines-agree (limit_of t) t order text next 0 progress ws ns vs)
   where
-    go : (a b : Bool) (p : Lines) (o : Outcome) → Agree t (limit_of t) 0 ns p o → Agree t (limit_of t) 0 ns (cond a (cond b p broken) (lines [] at)) (cond a (cond b o (stop 1)) (done at 0 progress ws ns vs))
-    go true true p o ih = ih
-    go true false p o ih = tt
-    go false b p o ih = (refl, refl, omega arith, refl)
+    go : (a : Bool) (x : Option Head) → ((order : Order) (next : ℕ) → Agree t (limit_of t) 0 ns (lines_at (limit_of t) t order text next) (lines_from (limit_of t) t order text next 0 progress ws ns vs))
+        → Agree t (limit_of t) 0 ns (cond a (by_names x (λ order next. lines_at (limit_of t) t order text next)) (lines [] at)) (cond a (by_head x (λ order next. lines_from (limit_of t) t order text next 0 progress ws ns vs)) (done at 0 progress ws ns vs))
+    go true (Some head) ih = ih head.order head.next
+    go true None ih = tt
+    go false x ih = (refl, refl, omega arith, refl)

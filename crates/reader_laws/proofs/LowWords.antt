@@ -16,7 +16,7 @@ use Rattle.reader_store.specs.Layout.{place_at, word_place, code_of, one_more, w
 use Rattle.reader_store.specs.Progress.{strip_line}
 use Rattle.reader_store.specs.Parents.{lane_turn, mark_lane, index_of, range_of, parent_of}
 use Rattle.reader_store.specs.Keep.{first_line, added, in_order, under_words, strip_named, strips_kept, mark_kind, mark_put, own_words, ruled_words, kept_words}
-use Rattle.reader_store.specs.declared.parents.Parent.{Parent}
+use Rattle.reader_store.specs.Parents.{Parent}
 use Rattle.reader_store.specs.declared.progress.Progress.{Progress}
 use Rattle.reader_store.specs.declared.progress.Strips.{Strips}
 

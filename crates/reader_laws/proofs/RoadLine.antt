@@ -11,6 +11,9 @@ use Rattle.reader_schema.specs.Schema.{name_of, limit_of}
 use Rattle.reader_cells.specs.Cells.{byte_at, name_span}
 use Rattle.reader_lines.specs.NamesLine.{head_at}
 use Rattle.reader_lines.specs.ValuesLine.{values_at}
+use Rattle.std.specs.Prelude.{Option, Some, None}
+use Rattle.reader_lines.specs.declared.names_line.Head.{Head}
+use Rattle.reader_lines.specs.declared.values_line.Values.{Values}
 use Rattle.reader_lines.specs.declared.columns.Order.{Order}
 use Rattle.reader_lines.specs.declared.columns.Cells.{Cells}
 use Rattle.reader_store.specs.Layout.{one_more, words_below, rule_of, numbers_below, wants_kept, count_kept}
@@ -18,7 +21,7 @@ use Rattle.reader_store.specs.Progress.{strip_line, listed_as, start_progress, u
 use Rattle.reader_store.specs.Parents.{parent_of}
 use Rattle.reader_store.specs.Keep.{strip_named, in_order, under_progress, strip_progress, ruled_progress, kept_words, kept_progress}
 use Rattle.reader_store.specs.declared.progress.Progress.{Progress}
-use Rattle.reader_calls.specs.Reading.{Outcome, done, stop, by_outcome, lines_from, table_at, counted_progress, tables_from, zeros, zero_numbers}
+use Rattle.reader_calls.specs.Reading.{Outcome, done, stop, by_outcome, lines_from, table_at, counted_progress, tables_from, zeros, zero_numbers, by_values, by_head}
 use Rattle.reader_laws.specs.Lines.{Lines, lines, broken, by_lines, table_lines, tables_lines, lines_of}
 use Rattle.reader_laws.proofs.ReadTables.{Stored}
 use Rattle.reader_laws.proofs.LinesKept.{Agree, table-agree}
@@ -49,33 +52,30 @@ sound-then progress from (done at n progress' ws ns vs) f h = λ e. f (h e)
 
 lines-sound : (fuel t : ℕ) (order : Order) (text : List ℕ) (at k : ℕ) (progress : Progress) (ws : List ℕ) (ns : List Float) (vs : List ℕ) → SoundBy progress (lines_from fuel t order text at k progress ws ns vs)
 unfolding lines_from
-lines-sound zero t order text at k progress ws ns vs = go (eqb (byte_at text at) 10) (values_at text at t order).good
+lines-sound zero t order text at k progress ws ns vs = go (eqb (byte_at text at) 10) (values_at text at t order)
   where
-    go : (a b : Bool) → SoundBy progress (cond a (done (at + 1) k (ended_progress progress) (count_kept t k ws) ns vs) (cond b (stop 2) (stop 1)))
-    go true b = λ e. e
-    go false true = tt
-    go false false = tt
-lines-sound (suc fuel) t order text at k progress ws ns vs =
-    go (eqb (byte_at text at) 10) (values_at text at t order).good
-    (lines_from fuel t order text (values_at text at t order).next (k + 1) (kept_progress t k (values_at text at t order).cells progress ws) (kept_words t k (values_at text at t order).cells progress ws) (numbers_below t k (values_at text at t order).cells 8 ns) (wants_kept t k (values_at text at t order).cells vs))
-    (lines-sound fuel t order text (values_at text at t order).next (k + 1) (kept_progress t k (values_at text at t order).cells progress ws) (kept_words t k (values_at text at t order).cells progress ws) (numbers_below t k (values_at text at t order).cells 8 ns) (wants_kept t k (values_at text at t order).cells vs))
+    go : (a : Bool) (x : Option Values) → SoundBy progress (cond a (done (at + 1) k (ended_progress progress) (count_kept t k ws) ns vs) (by_values x (λ cells next. stop 2)))
+    go true x = λ e. e
+    go false (Some row) = tt
+    go false None = tt
+lines-sound (suc fuel) t order text at k progress ws ns vs = go (eqb (byte_at text at) 10) (values_at text at t order) (λ cells next. lines-sound fuel t order text next (k + 1) (kept_progress t k cells progress ws) (kept_words t k cells progress ws) (numbers_below t k cells 8 ns) (wants_kept t k cells vs))
   where
-    go : (a b : Bool) (o : Outcome) → SoundBy (kept_progress t k (values_at text at t order).cells progress ws) o → SoundBy progress (cond a (done (at + 1) k (ended_progress progress) (count_kept t k ws) ns vs) (cond b o (stop 1)))
-    go true b o ih = λ e. e
-    go false true o ih = sound-then (kept_progress t k (values_at text at t order).cells progress ws) progress o (kept-sound t k (values_at text at t order).cells progress ws) ih
-    go false false o ih = tt
+    go : (a : Bool) (x : Option Values) → ((cells : Cells) (next : ℕ) → SoundBy (kept_progress t k cells progress ws) (lines_from fuel t order text next (k + 1) (kept_progress t k cells progress ws) (kept_words t k cells progress ws) (numbers_below t k cells 8 ns) (wants_kept t k cells vs)))
+        → SoundBy progress (cond a (done (at + 1) k (ended_progress progress) (count_kept t k ws) ns vs) (by_values x (λ cells next. lines_from fuel t order text next (k + 1) (kept_progress t k cells progress ws) (kept_words t k cells progress ws) (numbers_below t k cells 8 ns) (wants_kept t k cells vs))))
+    go true x ih = λ e. e
+    go false (Some row) ih = sound-then (kept_progress t k row.cells progress ws) progress _ (kept-sound t k row.cells progress ws) (ih row.cells row.next)
+    go false None ih = tt
 
 table-sound : (t : ℕ) (text : List ℕ) (at : ℕ) (progress : Progress) (ws : List ℕ) (ns : List Float) (vs : List ℕ) → SoundBy progress (table_at t text at progress ws ns vs)
 unfolding table_at
 table-sound t text at progress ws ns vs =
-    go (eqb (name_span text at).value (name_of t)) (head_at text (name_span text at).next t).good
-    (lines_from (limit_of t) t (head_at text (name_span text at).next t).order text (head_at text (name_span text at).next t).next 0 progress ws ns vs)
-    (lines-sound (limit_of t) t (head_at text (name_span text at).next t).order text (head_at text (name_span text at).next t).next 0 progress ws ns vs)
+    go (eqb (name_span text at).value (name_of t)) (head_at text (name_span text at).next t) (λ order next. lines-sound (limit_of t) t order text next 0 progress ws ns vs)
   where
-    go : (a b : Bool) (o : Outcome) → SoundBy progress o → SoundBy progress (cond a (cond b o (stop 1)) (done at 0 progress ws ns vs))
-    go true true o ih = ih
-    go true false o ih = tt
-    go false b o ih = λ e. e
+    go : (a : Bool) (x : Option Head) → ((order : Order) (next : ℕ) → SoundBy progress (lines_from (limit_of t) t order text next 0 progress ws ns vs))
+        → SoundBy progress (cond a (by_head x (λ order next. lines_from (limit_of t) t order text next 0 progress ws ns vs)) (done at 0 progress ws ns vs))
+    go true (Some head) ih = ih head.order head.next
+    go true None ih = tt
+    go false x ih = λ e. e
 
 pub counted-sound : (t n : ℕ) (progress : Progress) → (counted_progress t n progress).sound ≡ true → progress.sound ≡ true
 unfolding counted_progress

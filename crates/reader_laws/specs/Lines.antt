@@ -1,5 +1,5 @@
 -- Document 01, "The job text": the lines of values that a text has, table by table, before anything is kept. Read `lines_of` first, at the end.
-use Rattle.std.specs.Prelude.{ℕ, zero, suc, ◌+◌, cond, List, [], ◌∷◌, get_or, eqb, Float}
+use Rattle.std.specs.Prelude.{ℕ, zero, suc, ◌+◌, cond, List, [], ◌∷◌, Option, Some, None, get_or, eqb, Float}
 use Rattle.float_laws.specs.Binary64.{f64}
 use Rattle.records_cubic.specs.declared.cubics.Cubic.{Cubic}
 use Rattle.records.specs.declared.points.GeomRec.{GeomRec}
@@ -13,6 +13,8 @@ use Rattle.reader_lines.specs.NamesLine.{head_at}
 use Rattle.reader_lines.specs.ValuesLine.{values_at}
 use Rattle.reader_lines.specs.declared.columns.Order.{Order}
 use Rattle.reader_lines.specs.declared.columns.Cells.{Cells}
+use Rattle.reader_lines.specs.declared.names_line.Head.{Head}
+use Rattle.reader_lines.specs.declared.values_line.Values.{Values}
 use Rattle.reader_store.specs.Layout.{code_of}
 
 -- lines with the place after them, or a form that is broken or too long
@@ -24,20 +26,27 @@ abbrev pub after : Cells → Lines → Lines
 after cells (lines rows at) = lines (cells ∷ rows) at
 after cells broken = broken
 
+-- by a line of values, and by one of names: what it leads to, or a broken form
+abbrev pub by_row : Option Values → (Cells → ℕ → Lines) → Lines
+by_row (Some row) f = f row.cells row.next
+by_row None f = broken
+
+abbrev pub by_names : Option Head → (Order → ℕ → Lines) → Lines
+by_names (Some head) f = f head.order head.next
+by_names None f = broken
+
 -- lines of values up to an empty one, at most `fuel`
 unfoldable pub lines_at : ℕ → ℕ → Order → List ℕ → ℕ → Lines
 lines_at zero table order text at = cond (eqb (byte_at text at) 10) (lines [] (at + 1)) broken
 lines_at (suc fuel) table order text at =
     cond (eqb (byte_at text at) 10) (lines [] (at + 1))
-    (cond (values_at text at table order).good (after (values_at text at table order).cells (lines_at fuel table order text (values_at text at table order).next)) broken)
+    (by_row (values_at text at table order) (λ cells next. after cells (lines_at fuel table order text next)))
 
 -- the lines of a table, none where its name does not stand
 unfoldable pub table_lines : ℕ → List ℕ → ℕ → Lines
 table_lines table text at =
     cond (eqb (name_span text at).value (name_of table))
-    (cond (head_at text (name_span text at).next table).good
-    (lines_at (limit_of table) table (head_at text (name_span text at).next table).order text (head_at text (name_span text at).next table).next)
-    broken)
+    (by_names (head_at text (name_span text at).next table) (λ order next. lines_at (limit_of table) table order text next))
     (lines [] at)
 
 abbrev pub by_lines : Lines → (List Cells → ℕ → List (List Cells)) → List (List Cells)

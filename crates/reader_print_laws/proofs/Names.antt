@@ -34,7 +34,7 @@ abbrev NamesRead : ℕ → List ℕ → ℕ → Type 0
 NamesRead table text at = ((name_span text 0).value ≡ name_of table) × (head_at text (name_span text 0).next table ≡ good at (in_order (word_count table)))
 
 names-start : (table : ℕ) → table < 16 → (rest : List ℕ) → NamesRead table (columns_line table ++ rest) (length (columns_line table))
-unfolding schema.names schema.name_of schema.words schema.word_of schema.firsts schema.counts schema.first_of schema.word_count schema.seek schema.place_of name_from name_span column_at names_from head_at printed_line words_of title_of columns_line
+unfolding schema.names schema.name_of schema.words schema.word_of schema.firsts schema.counts schema.first_of schema.word_count schema.seek schema.place_of schema.listed_place name_from name_span column_at names_from head_at printed_line words_of title_of columns_line
 names-start zero h rest = (refl, refl)
 names-start (suc zero) h rest = (refl, refl)
 names-start (suc (suc zero)) h rest = (refl, refl)

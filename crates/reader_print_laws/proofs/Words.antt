@@ -116,7 +116,7 @@ is_read after list i =
     eqb (place_of list (name_span (get_or (words_of list) i [] ++ after) 0).value) i && eqb (name_span (get_or (words_of list) i [] ++ after) 0).next (length (get_or (words_of list) i []))
 
 read-test : (r : ℕ) (rest : List ℕ) → all_below (λ list. all_below (is_read (stop_of r ∷ rest) list) (word_count list)) 21 ≡ true
-unfolding all_below schema.word_count schema.counts schema.words schema.word_of schema.firsts schema.first_of schema.seek schema.place_of words_of name_span name_from stop_of
+unfolding all_below schema.word_count schema.counts schema.words schema.word_of schema.firsts schema.first_of schema.seek schema.place_of schema.listed_place words_of name_span name_from stop_of
 read-test zero rest = refl
 read-test (suc r) rest = refl
 

@@ -8,8 +8,7 @@ use Rattle.reader_lines.specs.Columns.{cell_of}
 use Rattle.reader_lines.specs.declared.columns.Cells.{Cells}
 use Rattle.reader_store.specs.Layout.{code_of, one_more, words_below, rule_of, no_rule, mark_rule, strip_rule}
 use Rattle.reader_store.specs.Progress.{bit_in, strip_of, strip_line, listed_as, unsound_progress}
-use Rattle.reader_store.specs.Parents.{parent_of, mark_lane}
-use Rattle.reader_store.specs.declared.parents.Parent.{Parent}
+use Rattle.reader_store.specs.Parents.{Parent, parent_of, mark_lane}
 use Rattle.reader_store.specs.declared.progress.Progress.{Progress}
 
 -- line k counted under its parent: it is the parent's first line where that has none yet

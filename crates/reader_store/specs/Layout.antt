@@ -5,11 +5,15 @@
 -- the shapes' range of each profile; (presence, and the ranges of width and of the terms 0 to 3) of each of four strips; the marks' range of each section;
 -- (lane, kind) of each mark. wants: the patterns of s and t.
 -- Line k of a table is at most the 512th here (the tables' limits are tested before a line is kept), so every index and count is small.
-use Rattle.std.specs.Prelude.{ℕ, zero, suc, ◌+◌, ◌-◌, ◌*◌, cond, List, [], ◌∷◌, get_or, set, eqb, ltb, Float}
+use Rattle.std.specs.Prelude.{ℕ, zero, suc, ◌+◌, ◌-◌, ◌*◌, cond, List, [], ◌∷◌, Option, Some, None, get_or, set, eqb, ltb, Float}
 use Rattle.std.specs.Float.{binary64}
 use Rattle.std.specs.Float.Ieee.{of_bits}
 use Rattle.records.specs.Layout.{length_place, geom_base, geom_stride, elev_base, bank_base, offset_base, tshift_base, section_base, extent_base, height_base, profile_base, shape_base, cubic_base, cubic_stride, height_stride, geom_count_at, elev_count_at, bank_count_at, offset_count_at, tshift_count_at, section_count_at, profile_count_at, kind_words, lane_words, lane_stride, profile_words, profile_stride, strip_words, span_base, span_stride, section_mark_words, section_mark_stride, want_stride}
 use Rattle.reader_schema.specs.Tables.{want_table, columns_most}
+use Rattle.reader_store.specs.declared.layout.Family.{Family}
+use Rattle.reader_store.specs.declared.layout.Family.TheVariants.{Lane, Extent, Height, Shape, Cubic, Mark}
+use Rattle.reader_store.specs.declared.layout.Rule.{Rule}
+use Rattle.reader_store.specs.declared.layout.Rule.TheVariants.{Strip, Child}
 use Rattle.reader_lines.specs.Columns.{cell_of}
 use Rattle.reader_lines.specs.declared.columns.Cells.{Cells}
 
@@ -49,6 +53,11 @@ words_a_line = 3
 
 unfoldable pub place_at : ℕ → ℕ → ℕ
 place_at table part = cond (ltb part 4) (get_or (get_or places table []) part 0) 0
+
+-- a place as a number: counted from 1, 0 where there is none
+abbrev pub place_number : Option ℕ → ℕ
+place_number (Some place) = suc place
+place_number None = 0
 
 -- which of its line's numbers each column is, counted from 1, eight columns to a table; 0 where it is none: a parent's number, a code, a want
 unfoldable pub numbers : List (List ℕ)
@@ -147,6 +156,20 @@ mark_rule = 6
 abbrev pub strip_rule : ℕ
 strip_rule = 7
 
+-- the numbers of the code's rules
+abbrev pub family_number : Family → ℕ
+family_number Lane = lane_rule
+family_number Extent = extent_rule
+family_number Height = height_rule
+family_number Shape = shape_rule
+family_number Cubic = cubic_rule
+family_number Mark = mark_rule
+
+abbrev pub rule_number : Option Rule → ℕ
+rule_number (Some Strip) = strip_rule
+rule_number (Some (Child family)) = family_number family
+rule_number None = no_rule
+
 unfoldable pub rules : List ℕ
 rules =
     no_rule ∷  -- road
@@ -209,6 +232,10 @@ code_of v = cond (ltb v (greatest_word + 1)) v greatest_word
 -- One line more. A count stops at the greatest word, which admission refuses, and never comes round to 0.
 unfoldable pub one_more : ℕ → ℕ
 one_more n = cond (ltb n greatest_word) (n + 1) n
+
+-- a list with a value at a place, counted from 1, of the line that begins at `line`; 0 is no place
+unfoldable pub placed : {A : Type 0} → ℕ → ℕ → A → List A → List A
+placed line place v xs = cond (ltb 0 place) (set xs (line + (place - 1)) v) xs
 
 -- the numbers and the words with one cell of line k kept: an f64 as the float of its pattern, a word of a list as its place there
 unfoldable pub number_put : ℕ → ℕ → ℕ → ℕ → List Float → List Float

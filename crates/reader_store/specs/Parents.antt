@@ -1,15 +1,51 @@
 -- Document 01, "The job text": the parent of a line. "Lines of a child table follow their parents' order; a parent that does not exist is 3."
 -- A whole number n is held as whole_bias + n, a word of a list as its place there. Read `parent_of` first, at the end.
-use Rattle.std.specs.Prelude.{ℕ, ◌+◌, ◌-◌, ◌*◌, ◌%◌, true, false, not, ◌&&◌, cond, List, get_or, eqb, ltb, leb}
+use Rattle.std.specs.Prelude.{ℕ, ◌+◌, ◌-◌, ◌*◌, ◌%◌, Bool, true, false, not, ◌&&◌, cond, List, Option, Some, None, get_or, eqb, ltb, leb}
 use Rattle.records.specs.Layout.{section_count_at, profile_count_at, section_words, section_stride, strip_stride}
 use Rattle.reader_cells.specs.Cells.{whole_bias}
 use Rattle.reader_lines.specs.Columns.{cell_of}
 use Rattle.reader_lines.specs.declared.columns.Cells.{Cells}
 use Rattle.reader_store.specs.Layout.{lane_rule, shape_rule, cubic_rule, mark_rule, base_of, stride_of}
 use Rattle.reader_store.specs.Progress.{strip_of, strip_line}
-use Rattle.reader_store.specs.declared.parents.Index.{Index}
-use Rattle.reader_store.specs.declared.parents.Parent.{Parent}
+use Rattle.reader_store.specs.declared.parents.Ranked.{Ranked}
+use Rattle.reader_store.specs.declared.parents.Counted.{Counted}
+use Rattle.reader_store.specs.declared.parents.Side.{Side}
+use Rattle.reader_store.specs.declared.parents.Side.TheVariants.{Left, Right}
 use Rattle.reader_store.specs.declared.progress.Strips.{Strips}
+
+-- Whether there is such a parent, its rank in the order that children follow, and its index in memory; what is not there has some rank and index all the same.
+pub record Index : Type 0 where
+  pub there : Bool
+  pub rank : ℕ
+  pub index : ℕ
+
+-- Where a line is counted: whether its parent is there, the parent's rank, the word for the parent's first line, the word for the count, and whether the
+-- line is the first.
+pub record Parent : Type 0 where
+  pub there : Bool
+  pub rank : ℕ
+  pub first : ℕ
+  pub count : ℕ
+  pub fresh : Bool
+
+-- what the code has of one: nothing where it is not there
+abbrev pub index_found : Index → Option Ranked
+index_found i = cond i.there (Some (record { rank = i.rank; index = i.index })) None
+
+abbrev pub index_in : Option Ranked → ℕ
+index_in (Some i) = i.index
+index_in None = 0
+
+abbrev pub parent_found : Parent → Option Counted
+parent_found p = cond p.there (Some (record { rank = p.rank; first = p.first; count = p.count; fresh = p.fresh })) None
+
+-- and one that the code has
+abbrev pub index_held : Ranked → Index
+index_held i = record { there = true; rank = i.rank; index = i.index }
+
+abbrev pub parent_held : Option Counted → Parent
+parent_held (Some p) = record { there = true; rank = p.rank; first = p.first; count = p.count; fresh = p.fresh }
+parent_held None = record { there = false; rank = 0; first = 0; count = 0; fresh = false }
 
 -- no parent, and the i-th
 abbrev pub no_index : Index
@@ -33,6 +69,11 @@ first_right = whole_bias - 1
 -- 1 left, 2 right, 0 where it is not this id's turn.
 unfoldable pub side_of : ℕ → ℕ → ℕ → ℕ
 side_of left right id = cond (eqb id (left + first_left) && eqb right 0) 1 (cond (ltb id whole_bias) (cond (eqb (id + right + 1) whole_bias) 2 0) 0)
+
+abbrev pub side_number : Option Side → ℕ
+side_number (Some Left) = 1
+side_number (Some Right) = 2
+side_number None = 0
 
 -- the record of section s: its first lane, how many left, how many right
 abbrev pub section_word : ℕ → ℕ

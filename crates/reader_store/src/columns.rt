@@ -1,41 +1,22 @@
 // The cells of line k of a table, each put where its column is kept.
-ghost use Rattle.std.specs.Prelude.{◌≡◌};
+ghost use Rattle.std.specs.Prelude.{◌≡◌, ◌+◌, ◌<◌};
 ghost use Rattle.reader_schema.specs.Tables.{columns_most};
-ghost use Rattle.reader_store.specs.Layout.{number_put, word_put, numbers_below, words_below, wants_kept};
+ghost use Rattle.reader_store.specs.Layout.{placed, place_number, numbers_below, words_below, wants_kept};
 
-use crate::layout::{
-    FIRST_NUMBER, FIRST_WORD, NUMBERS_A_LINE, WORDS_A_LINE, number_place, place_at, word_place,
-};
-use crate::memory::{code, home, set_number, set_want, set_word};
-use reader_lines::Cells;
+use crate::layout::{number_lines, number_place, word_lines, word_place};
+use crate::memory::code;
+use reader_lines::{Cells, put};
 use reader_schema::tables::{COLUMNS_MOST, WANT_TABLE};
 use records::layout::WANT_STRIDE;
 
-fn put_number(numbers: &mut [f64], table: usize, k: u16, column: usize, v: u64)
-    ensures { numbers.new ≡ number_put table k column v numbers.old }
+// Keeps a value at its place in the line that begins at `line`, if it has one there.
+#[tactic(auto, unfolding(crate::specs::Layout::placed))]
+fn put_cell<T: Copy>(list: &mut [T], line: usize, place: Option<u8>, value: T)
+    requires { line < 1000000000000000 }
+    ensures { list.new ≡ placed line (place_number place) value list.old }
 {
-    let d = number_place(table, column) as usize;
-    if 0 < d {
-        let i = home(
-            place_at(table, FIRST_NUMBER),
-            k as u32,
-            place_at(table, NUMBERS_A_LINE),
-        );
-        set_number(numbers, i + (d - 1), reader_hex::of_bits(v));
-    }
-}
-
-fn put_word(words: &mut [u16], table: usize, k: u16, column: usize, v: u64)
-    ensures { words.new ≡ word_put table k column v words.old }
-{
-    let d = word_place(table, column) as usize;
-    if 0 < d {
-        let i = home(
-            place_at(table, FIRST_WORD),
-            k as u32,
-            place_at(table, WORDS_A_LINE),
-        );
-        set_word(words, i + (d - 1), code(v));
+    if let Some(d) = place {
+        put(list, line + d as usize, value);
     }
 }
 
@@ -43,12 +24,10 @@ fn put_word(words: &mut [u16], table: usize, k: u16, column: usize, v: u64)
 pub(crate) fn put_numbers(numbers: &mut [f64], table: usize, k: u16, cells: Cells)
     ensures { numbers.new ≡ numbers_below table k cells columns_most numbers.old }
 {
-    let of = cells.of;
-    let mut column = 0;
-    while column < COLUMNS_MOST {
-        let v = of[column];
-        put_number(numbers, table, k, column, v);
-        column += 1;
+    let line = number_lines(table).line(k as u32);
+    for column in 0..COLUMNS_MOST {
+        let value = reader_hex::of_bits(cells.of[column]);
+        put_cell(numbers, line, number_place(table, column), value);
     }
 }
 
@@ -56,22 +35,21 @@ pub(crate) fn put_numbers(numbers: &mut [f64], table: usize, k: u16, cells: Cell
 pub(crate) fn put_words(words: &mut [u16], table: usize, k: u16, cells: Cells)
     ensures { words.new ≡ words_below table k cells columns_most words.old }
 {
-    let of = cells.of;
-    let mut column = 0;
-    while column < COLUMNS_MOST {
-        let v = of[column];
-        put_word(words, table, k, column, v);
-        column += 1;
+    let line = word_lines(table).line(k as u32);
+    for column in 0..COLUMNS_MOST {
+        let value = code(cells.of[column]);
+        put_cell(words, line, word_place(table, column), value);
     }
 }
 
 // Keeps a want: the patterns of s and t as they were read, a NaN's too.
+#[tactic(auto, unfolding(crate::specs::Layout::wants_kept))]
 pub(crate) fn put_wants(wants: &mut [u64], table: usize, k: u16, cells: Cells)
     ensures { wants.new ≡ wants_kept table k cells wants.old }
 {
     if table == WANT_TABLE {
         let i = k as usize * WANT_STRIDE;
-        set_want(wants, i, reader_lines::cell_of(cells, 0));
-        set_want(wants, i + 1, reader_lines::cell_of(cells, 1));
+        put(wants, i, cells.at(0));
+        put(wants, i + 1, cells.at(1));
     }
 }

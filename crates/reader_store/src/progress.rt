@@ -3,7 +3,7 @@ ghost use Rattle.std.specs.Prelude.{◌≡◌, ◌<◌};
 ghost use Rattle.reader_store.specs.Progress.{strip_of, strip_line, listed_as, start_progress, unsound_progress, ended_progress};
 
 // Of each strip, its line in the strip table, counted from 1; 0 where it has none.
-#[derive(Clone, Copy)]
+#[derive(Clone, Copy, Debug, PartialEq, Eq)]
 pub struct Strips {
     pub left_inner: u16,
     pub left_outer: u16,
@@ -11,7 +11,7 @@ pub struct Strips {
     pub right_outer: u16,
 }
 
-#[derive(Clone, Copy)]
+#[derive(Clone, Copy, Debug, PartialEq, Eq)]
 pub struct Progress {
     // whether every reference and every order was right so far
     pub sound: bool,
@@ -37,22 +37,23 @@ pub fn start_progress() -> Progress
     }
 }
 
-// After a line that is out of its order or under no parent.
-pub(crate) fn unsound(progress: Progress) -> Progress
-    ensures { result ≡ unsound_progress progress }
-{
-    let mut r = progress;
-    r.sound = false;
-    r
-}
+impl Progress {
+    // After a line that is out of its order or under no parent.
+    pub fn unsound(self) -> Progress
+        ensures { result ≡ unsound_progress self }
+    {
+        Progress {
+            sound: false,
+            ..self
+        }
+    }
 
-// After a table: the next one's parents begin anew.
-pub(crate) fn ended(progress: Progress) -> Progress
-    ensures { result ≡ ended_progress progress }
-{
-    let mut r = progress;
-    r.last = 0;
-    r
+    // After a table: the next one's parents begin anew.
+    pub(crate) fn ended(self) -> Progress
+        ensures { result ≡ ended_progress self }
+    {
+        Progress { last: 0, ..self }
+    }
 }
 
 // The number of a strip, from the places of its side and its place in their lists.
@@ -62,39 +63,42 @@ pub(crate) fn strip_of(side: u64, place: u64) -> usize
     (side % 2 * 2 + place % 2) as usize
 }
 
-// The line of a strip.
-pub(crate) fn line_of(strips: Strips, strip: usize) -> u16
-    ensures { result ≡ strip_line strips strip }
-{
-    if strip == 0 {
-        return strips.left_inner;
+impl Strips {
+    // The line of a strip.
+    #[tactic(auto, unfolding(crate::specs::Progress::strip_line))]
+    pub(crate) fn line(self, strip: usize) -> u16
+        ensures { result ≡ strip_line self strip }
+    {
+        match strip {
+            0 => self.left_inner,
+            1 => self.left_outer,
+            2 => self.right_inner,
+            _ => self.right_outer,
+        }
     }
-    if strip == 1 {
-        return strips.left_outer;
-    }
-    if strip == 2 {
-        return strips.right_inner;
-    }
-    strips.right_outer
-}
 
-// The same with a strip at a line.
-pub(crate) fn listed(strips: Strips, strip: usize, line: u16) -> Strips
-    ensures { result ≡ listed_as strips strip line }
-{
-    let mut r = strips;
-    if strip == 0 {
-        r.left_inner = line;
-        return r;
+    // The same with a strip at a line.
+    #[tactic(auto, unfolding(crate::specs::Progress::listed_as))]
+    pub(crate) fn listed(self, strip: usize, line: u16) -> Strips
+        ensures { result ≡ listed_as self strip line }
+    {
+        match strip {
+            0 => Strips {
+                left_inner: line,
+                ..self
+            },
+            1 => Strips {
+                left_outer: line,
+                ..self
+            },
+            2 => Strips {
+                right_inner: line,
+                ..self
+            },
+            _ => Strips {
+                right_outer: line,
+                ..self
+            },
+        }
     }
-    if strip == 1 {
-        r.left_outer = line;
-        return r;
-    }
-    if strip == 2 {
-        r.right_inner = line;
-        return r;
-    }
-    r.right_outer = line;
-    r
 }

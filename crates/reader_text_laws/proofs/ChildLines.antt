@@ -12,7 +12,7 @@ use Rattle.reader_lines.specs.Columns.{cell_of, no_cells}
 use Rattle.reader_lines.specs.declared.columns.Cells.{Cells}
 use Rattle.reader_store.specs.Parents.{no_index, counted, lane_among, lane_within, lane_index, index_of}
 use Rattle.reader_store.specs.Progress.{strips_of}
-use Rattle.reader_store.specs.declared.parents.Index.{Index}
+use Rattle.reader_store.specs.Parents.{Index}
 use Rattle.reader_store.specs.declared.progress.Progress.{Progress}
 use Rattle.reader_store.specs.declared.progress.Strips.{Strips}
 use Rattle.reader_laws.specs.Lines.{lines_of}

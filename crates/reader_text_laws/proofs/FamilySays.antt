@@ -12,13 +12,13 @@ use lib.Ieee.{Float}
 use borrow.Author.Tests.{eqb-true, eq-eqb, ne_eqb}
 use Rattle.reader_lines.specs.Columns.{cell_of, no_cells}
 use Rattle.reader_lines.specs.declared.columns.Cells.{Cells}
-use Rattle.reader_store.specs.Layout.{words, rules, rule_of}
+use Rattle.reader_store.specs.Layout.{rules, rule_of}
 use Rattle.reader_store.specs.Progress.{strip_line, start_progress}
 use Rattle.reader_store.specs.Parents.{counted, term_of}
 use Rattle.reader_store.specs.Keep.{strip_named, mark_put, ruled_progress, kept_progress}
-use Rattle.reader_store.specs.declared.parents.Index.{Index}
+use Rattle.reader_store.specs.Parents.{Index}
 use Rattle.reader_store.specs.declared.progress.Progress.{Progress}
-use Rattle.reader_store.proofs.ParentCases.{counted-in}
+use Rattle.reader_text_laws.proofs.ParentCases.{counted-in}
 use Rattle.reader_calls.specs.Reading.{done, tables_from, zeros, zero_numbers}
 use Rattle.reader_laws.specs.Lines.{lines_of}
 use Rattle.reader_text_laws.specs.Said.{of_lane}

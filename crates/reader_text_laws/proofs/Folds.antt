@@ -16,14 +16,17 @@ use Rattle.reader_cells.specs.Cells.{byte_at, name_span}
 use Rattle.reader_lines.specs.Columns.{no_cells}
 use Rattle.reader_lines.specs.NamesLine.{head_at}
 use Rattle.reader_lines.specs.ValuesLine.{values_at}
+use Rattle.std.specs.Prelude.{Option, Some, None}
+use Rattle.reader_lines.specs.declared.names_line.Head.{Head}
+use Rattle.reader_lines.specs.declared.values_line.Values.{Values}
 use Rattle.reader_lines.specs.declared.columns.Order.{Order}
 use Rattle.reader_lines.specs.declared.columns.Cells.{Cells}
 use Rattle.reader_store.specs.Layout.{count_place, count_kept, numbers_below, wants_kept}
 use Rattle.reader_store.specs.Progress.{start_progress, unsound_progress, ended_progress}
 use Rattle.reader_store.specs.Keep.{kept_words, kept_progress}
 use Rattle.reader_store.specs.declared.progress.Progress.{Progress}
-use Rattle.reader_calls.specs.Reading.{Outcome, done, stop, by_outcome, lines_from, table_at, counted_progress, tables_from, zeros, zero_numbers}
-use Rattle.reader_laws.specs.Lines.{Lines, lines, broken, after, by_lines, lines_at, table_lines, tables_lines}
+use Rattle.reader_calls.specs.Reading.{Outcome, done, stop, by_outcome, lines_from, table_at, counted_progress, tables_from, zeros, zero_numbers, by_values, by_head}
+use Rattle.reader_laws.specs.Lines.{Lines, lines, broken, after, by_lines, lines_at, table_lines, tables_lines, by_row, by_names}
 use Rattle.reader_laws.proofs.LowWords.{Low, low_same, low-then, kept_low}
 use Rattle.reader_laws.proofs.CountsKept.{word-past, count-few}
 use Rattle.reader_laws.proofs.RoadLine.{kept-sound, counted-sound}
@@ -133,22 +136,20 @@ lines_next t k cells progress ws vs (lines rows next) (done at n progress' us ns
 
 lines-by : (fuel t : ℕ) (order : Order) (text : List ℕ) (at k : ℕ) (progress : Progress) (ws : List ℕ) (ns : List Float) (vs : List ℕ) → LinesBy t k progress ws vs (lines_at fuel t order text at) (lines_from fuel t order text at k progress ws ns vs)
 unfolding lines_at lines_from track_after words_after wants_after
-lines-by zero t order text at k progress ws ns vs = go (eqb (byte_at text at) 10) (values_at text at t order).good
+lines-by zero t order text at k progress ws ns vs = go (eqb (byte_at text at) 10) (values_at text at t order)
   where
-    go : (a b : Bool) → LinesBy t k progress ws vs (cond a (lines [] (at + 1)) broken) (cond a (done (at + 1) k (ended_progress progress) (count_kept t k ws) ns vs) (cond b (stop 2) (stop 1)))
-    go true b = (refl, omega arith, refl, refl, refl)
-    go false true = tt
-    go false false = tt
-lines-by (suc fuel) t order text at k progress ws ns vs =
-    go (eqb (byte_at text at) 10) (values_at text at t order).good (lines_at fuel t order text (values_at text at t order).next)
-    (lines_from fuel t order text (values_at text at t order).next (k + 1) (kept_progress t k (values_at text at t order).cells progress ws) (kept_words t k (values_at text at t order).cells progress ws) (numbers_below t k (values_at text at t order).cells 8 ns) (wants_kept t k (values_at text at t order).cells vs))
-    (lines-by fuel t order text (values_at text at t order).next (k + 1) (kept_progress t k (values_at text at t order).cells progress ws) (kept_words t k (values_at text at t order).cells progress ws) (numbers_below t k (values_at text at t order).cells 8 ns) (wants_kept t k (values_at text at t order).cells vs))
+    go : (a : Bool) (x : Option Values) → LinesBy t k progress ws vs (cond a (lines [] (at + 1)) broken) (cond a (done (at + 1) k (ended_progress progress) (count_kept t k ws) ns vs) (by_values x (λ cells next. stop 2)))
+    go true x = (refl, omega arith, refl, refl, refl)
+    go false (Some row) = tt
+    go false None = tt
+lines-by (suc fuel) t order text at k progress ws ns vs = go (eqb (byte_at text at) 10) (values_at text at t order) (λ cells next. lines-by fuel t order text next (k + 1) (kept_progress t k cells progress ws) (kept_words t k cells progress ws) (numbers_below t k cells 8 ns) (wants_kept t k cells vs))
   where
-    go : (a b : Bool) (p : Lines) (o : Outcome) → LinesBy t (k + 1) (kept_progress t k (values_at text at t order).cells progress ws) (kept_words t k (values_at text at t order).cells progress ws) (wants_kept t k (values_at text at t order).cells vs) p o
-        → LinesBy t k progress ws vs (cond a (lines [] (at + 1)) (cond b (after (values_at text at t order).cells p) broken)) (cond a (done (at + 1) k (ended_progress progress) (count_kept t k ws) ns vs) (cond b o (stop 1)))
-    go true b p o ih = (refl, omega arith, refl, refl, refl)
-    go false true p o ih = lines_next t k (values_at text at t order).cells progress ws vs p o ih
-    go false false p o ih = tt
+    go : (a : Bool) (x : Option Values)
+        → ((cells : Cells) (next : ℕ) → LinesBy t (k + 1) (kept_progress t k cells progress ws) (kept_words t k cells progress ws) (wants_kept t k cells vs) (lines_at fuel t order text next) (lines_from fuel t order text next (k + 1) (kept_progress t k cells progress ws) (kept_words t k cells progress ws) (numbers_below t k cells 8 ns) (wants_kept t k cells vs)))
+        → LinesBy t k progress ws vs (cond a (lines [] (at + 1)) (by_row x (λ cells next. after cells (lines_at fuel t order text next)))) (cond a (done (at + 1) k (ended_progress progress) (count_kept t k ws) ns vs) (by_values x (λ cells next. lines_from fuel t order text next (k + 1) (kept_progress t k cells progress ws) (kept_words t k cells progress ws) (numbers_below t k cells 8 ns) (wants_kept t k cells vs))))
+    go true x ih = (refl, omega arith, refl, refl, refl)
+    go false (Some row) ih = lines_next t k row.cells progress ws vs (lines_at fuel t order text row.next) _ (ih row.cells row.next)
+    go false None ih = tt
 
 module _ (t : ℕ) (small : t < 16) where
   count-high : (n p : ℕ) (ws : List ℕ) → 7 ≤ p → get_or (count_kept t n ws) p 0 ≡ get_or ws p 0
@@ -227,15 +228,13 @@ module _ (t : ℕ) (small : t < 16) where
   table-by : (text : List ℕ) (at : ℕ) (progress : Progress) (ws : List ℕ) (ns : List Float) (vs : List ℕ) → TableBy progress ws vs (table_lines t text at) (table_at t text at progress ws ns vs)
   unfolding table_lines table_at track_after words_after wants_after
   table-by text at progress ws ns vs =
-      go (eqb (name_span text at).value (name_of t)) (head_at text (name_span text at).next t).good
-      (lines_at (limit_of t) t (head_at text (name_span text at).next t).order text (head_at text (name_span text at).next t).next)
-      (lines_from (limit_of t) t (head_at text (name_span text at).next t).order text (head_at text (name_span text at).next t).next 0 progress ws ns vs)
-      (lines-by (limit_of t) t (head_at text (name_span text at).next t).order text (head_at text (name_span text at).next t).next 0 progress ws ns vs)
+      go (eqb (name_span text at).value (name_of t)) (head_at text (name_span text at).next t) (λ order next. lines-by (limit_of t) t order text next 0 progress ws ns vs)
     where
-      go : (a b : Bool) (p : Lines) (o : Outcome) → LinesBy t 0 progress ws vs p o → TableBy progress ws vs (cond a (cond b p broken) (lines [] at)) (cond a (cond b o (stop 1)) (done at 0 progress ws ns vs))
-      go true true p o ih = there-by progress ws vs p o ih
-      go true false p o ih = tt
-      go false b p o ih =
+      go : (a : Bool) (x : Option Head) → ((order : Order) (next : ℕ) → LinesBy t 0 progress ws vs (lines_at (limit_of t) t order text next) (lines_from (limit_of t) t order text next 0 progress ws ns vs))
+          → TableBy progress ws vs (cond a (by_names x (λ order next. lines_at (limit_of t) t order text next)) (lines [] at)) (cond a (by_head x (λ order next. lines_from (limit_of t) t order text next 0 progress ws ns vs)) (done at 0 progress ws ns vs))
+      go true (Some head) ih = there-by progress ws vs (lines_at (limit_of t) t head.order text head.next) _ (ih head.order head.next)
+      go true None ih = tt
+      go false x ih =
           let c = counted-strips 0 progress in
           (refl, refl, record { sound = counted-sound t 0 progress; sound_if = λ e f. counted_if 0 progress e f; road_line = λ z e. counted-line 0 progress z e; strips = c.0; last = λ e. c.1 ∙ e; size = refl; low = λ p h f. refl; high = λ p h. refl; wants = refl })
 

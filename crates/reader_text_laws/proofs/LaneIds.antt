@@ -17,7 +17,7 @@ use Rattle.reader_lines.specs.declared.columns.Cells.{Cells}
 use Rattle.reader_store.specs.Parents.{side_of}
 use Rattle.reader_store.specs.declared.progress.Progress.{Progress}
 use Rattle.reader_store.specs.declared.progress.Strips.{Strips}
-use Rattle.reader_store.proofs.ParentCases.{side_left, side_right}
+use Rattle.reader_text_laws.proofs.ParentCases.{side_left, side_right}
 use Rattle.reader_text_laws.specs.Said.{those, under, left_under, right_under}
 use Rattle.reader_text_laws.specs.Family.{ids_of, id_said}
 use Rattle.reader_text_laws.proofs.Those.{Part, those-part, part_length}

@@ -12,10 +12,10 @@ use borrow.Author.Tests.{ltb-true, ltb-false, eqb-true, eqb-false, eq-eqb, lt-lt
 use Rattle.reader_lines.specs.Columns.{cell_of, no_cells}
 use Rattle.reader_lines.specs.declared.columns.Cells.{Cells}
 use Rattle.reader_store.specs.Parents.{no_index, index_at, counted, lane_among, lane_within, lane_index}
-use Rattle.reader_store.specs.declared.parents.Index.{Index}
+use Rattle.reader_store.specs.Parents.{Index}
 use Rattle.reader_store.specs.declared.progress.Progress.{Progress}
 use Rattle.reader_store.specs.declared.progress.Strips.{Strips}
-use Rattle.reader_store.proofs.ParentCases.{counted-in, by_left, by_right}
+use Rattle.reader_text_laws.proofs.ParentCases.{counted-in, by_left, by_right}
 use Rattle.reader_text_laws.specs.Said.{under, left_under, right_under}
 use Rattle.reader_text_laws.proofs.Those.{Part}
 use Rattle.reader_text_laws.proofs.Lanes.{counted-there, first_at, lefts_at, rights_at, section_in, id_in, Lanes}

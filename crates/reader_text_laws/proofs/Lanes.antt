@@ -16,11 +16,11 @@ use Rattle.reader_lines.specs.declared.columns.Cells.{Cells}
 use Rattle.reader_store.specs.Layout.{places, place_at, one_more, code_of, words, word_place, word_put, words_below, rules, rule_of}
 use Rattle.reader_store.specs.Parents.{no_index, index_at, counted, side_of, lane_under, lane_turn, parent_of}
 use Rattle.reader_store.specs.Keep.{first_line, added, under_words, under_progress, own_words, ruled_words, ruled_progress, kept_words, kept_progress}
-use Rattle.reader_store.specs.declared.parents.Index.{Index}
-use Rattle.reader_store.specs.declared.parents.Parent.{Parent}
+use Rattle.reader_store.specs.Parents.{Index}
+use Rattle.reader_store.specs.Parents.{Parent}
 use Rattle.reader_store.specs.declared.progress.Progress.{Progress}
 use Rattle.reader_store.specs.declared.progress.Strips.{Strips}
-use Rattle.reader_store.proofs.ParentCases.{counted-in}
+use Rattle.reader_text_laws.proofs.ParentCases.{counted-in}
 use Rattle.reader_store.proofs.SideLaw.{side-cases}
 use Rattle.reader_text_laws.proofs.Spans.{Spans, spans-start, spans-next, whole}
 use Rattle.reader_text_laws.proofs.Folds.{track_after, words_after, after-lines, right-lines}

@@ -10,16 +10,19 @@ use lib.Dec.{eqb, ltb, leb}
 use borrow.Author.Tests.{ltb-true, lt-leb, ne_eqb}
 use Rattle.records_lent.specs.Lists.{all_below}
 use Rattle.records_lent.proofs.TestLaws.{all-at}
+use Rattle.std.proofs.lemmas.Option.{same_Some}
 use Rattle.reader_schema.specs.Schema.{name_of, limit_of, counts, word_count, kinds, column_kind, place_of}
-use Rattle.reader_cells.specs.Cells.{byte_at, name_span, hex_at, whole_at, listed_at, cell_at}
-use Rattle.reader_cells.specs.declared.values.Cell.{Cell}
-use Rattle.reader_cells.specs.declared.values.Cell.TheVariants.{Value, Broken}
+use Rattle.reader_cells.specs.Cells.{byte_at, span_of, name_span, hex_at, whole_at, listed_at, cell_at}
+use Rattle.reader_cells.specs.declared.names.Span.{Span}
 use Rattle.reader_lines.specs.Columns.{cell_of, no_cells, ordered_column, valued_by}
 use Rattle.reader_lines.specs.NamesLine.{head_at}
-use Rattle.reader_lines.specs.ValuesLine.{no_values, by_cell, stop_of, values_read, values_at}
+use Rattle.reader_lines.specs.ValuesLine.{by_cell, stop_of, values_read, values_at}
+use Rattle.std.specs.Prelude.{Option, Some, None}
+use Rattle.reader_lines.specs.declared.names_line.Head.{Head}
+use Rattle.reader_lines.specs.declared.values_line.Values.{Values}
 use Rattle.reader_lines.specs.declared.columns.Order.{Order}
 use Rattle.reader_lines.specs.declared.columns.Cells.{Cells}
-use Rattle.reader_laws.specs.Lines.{Lines, lines, broken, after, by_lines, lines_at, table_lines, tables_lines, lines_of}
+use Rattle.reader_laws.specs.Lines.{Lines, lines, broken, after, by_lines, lines_at, table_lines, tables_lines, lines_of, by_row, by_names}
 use Rattle.reader_calls.specs.Reading.{zeros}
 use Rattle.reader_laws.proofs.LowWords.{or_else}
 use Rattle.reader_laws.proofs.CountsKept.{zeros-blank}
@@ -44,15 +47,15 @@ pub no_cells_lem : (c : ℕ) → cell_of no_cells c ≡ 0
 unfolding zeros
 no_cells_lem c = zeros-blank 8 c
 
-cell-listed : (text : List ℕ) (at kind v q : ℕ) → 1 < kind → cell_at text at kind ≡ Value v q → v < word_count kind
+cell-listed : (text : List ℕ) (at kind v q : ℕ) → 1 < kind → cell_at text at kind ≡ Some (span_of v q) → v < word_count kind
 unfolding cell_at listed_at
-cell-listed text at kind v q h e = go (ltb (place_of kind (name_span text at).value) (word_count kind)) refl (subst (λ (b : Bool). cond b (hex_at text at) (cond (eqb kind 1) (whole_at text at) (listed_at text at kind)) ≡ Value v q) (ne_eqb kind 0 (λ z. omega arith)) e)
+cell-listed text at kind v q h e = go (ltb (place_of kind (name_span text at).value) (word_count kind)) refl (subst (λ (b : Bool). cond b (hex_at text at) (cond (eqb kind 1) (whole_at text at) (listed_at text at kind)) ≡ Some (span_of v q)) (ne_eqb kind 0 (λ z. omega arith)) e)
   where
-    go : (b : Bool) → ltb (place_of kind (name_span text at).value) (word_count kind) ≡ b → cond (eqb kind 1) (whole_at text at) (cond b (Value (place_of kind (name_span text at).value) (name_span text at).next) Broken) ≡ Value v q → v < word_count kind
-    go b f = λ g. by b f (subst (λ (x : Bool). cond x (whole_at text at) (cond b (Value (place_of kind (name_span text at).value) (name_span text at).next) Broken) ≡ Value v q) (ne_eqb kind 1 (λ z. omega arith)) g)
+    go : (b : Bool) → ltb (place_of kind (name_span text at).value) (word_count kind) ≡ b → cond (eqb kind 1) (whole_at text at) (cond b (Some (span_of (place_of kind (name_span text at).value) (name_span text at).next)) None) ≡ Some (span_of v q) → v < word_count kind
+    go b f = λ g. by b f (subst (λ (x : Bool). cond x (whole_at text at) (cond b (Some (span_of (place_of kind (name_span text at).value) (name_span text at).next)) None) ≡ Some (span_of v q)) (ne_eqb kind 1 (λ z. omega arith)) g)
       where
-        by : (b : Bool) → ltb (place_of kind (name_span text at).value) (word_count kind) ≡ b → cond b (Value (place_of kind (name_span text at).value) (name_span text at).next) Broken ≡ Value v q → v < word_count kind
-        by true f g = let z : place_of kind (name_span text at).value ≡ v = cc in subst (λ (n : ℕ). n < word_count kind) z (ltb-true (place_of kind (name_span text at).value) (word_count kind) f)
+        by : (b : Bool) → ltb (place_of kind (name_span text at).value) (word_count kind) ≡ b → cond b (Some (span_of (place_of kind (name_span text at).value) (name_span text at).next)) None ≡ Some (span_of v q) → v < word_count kind
+        by true f g = let z : place_of kind (name_span text at).value ≡ v = ap (λ (s : Span). s.value) (same_Some _ _ g) in subst (λ (n : ℕ). n < word_count kind) z (ltb-true (place_of kind (name_span text at).value) (word_count kind) f)
         by false f g = let z : ◌≡◌ {A = ℕ} 0 1 = cc in absurd (omega arith)
 
 set-either : (xs : List ℕ) (d v c : ℕ) (P : ℕ → Type 0) → (c ≡ d → P v) → P (get_or xs c 0) → P (get_or (set xs d v) c 0)
@@ -68,27 +71,32 @@ module _ (t : ℕ) (small : t < 16) where
       let b = or_else (leb (column_kind t c) 1) (ltb 0 (word_count (column_kind t c))) (all-at (λ c. leb (column_kind t c) 1 || ltb 0 (word_count (column_kind t c))) 8 (all-at (λ t. all_below (λ c. leb (column_kind t c) 1 || ltb 0 (word_count (column_kind t c))) 8) 16 some-test t small) c (column-below t c h)) (lt-leb (column_kind t c) 1 h) in
       subst (λ (n : ℕ). n < word_count (column_kind t c)) (sym (no_cells_lem c)) (ltb-true 0 (word_count (column_kind t c)) b)
 
-  row_from : (n : ℕ) (text : List ℕ) (at : ℕ) (order : Order) (i : ℕ) (cells : Cells) → Listed t cells → Listed t (values_read n text at t order i cells).cells
+  -- the cells of a line, if it is one
+  abbrev RowListed : Option Values → Type 0
+  RowListed (Some row) = Listed t row.cells
+  RowListed None = Unit {0}
+
+  row_from : (n : ℕ) (text : List ℕ) (at : ℕ) (order : Order) (i : ℕ) (cells : Cells) → Listed t cells → RowListed (values_read n text at t order i cells)
   unfolding values_read
   row_from zero text at order i cells h = h
   row_from (suc n) text at order i cells h = go (cell_at text at (column_kind t (ordered_column order i))) refl (λ q v. row_from n text (q + 1) order (i + 1) (valued_by cells (ordered_column order i) v))
     where
-      go : (x : Cell) → cell_at text at (column_kind t (ordered_column order i)) ≡ x
-          → ((q v : ℕ) → Listed t (valued_by cells (ordered_column order i) v) → Listed t (values_read n text (q + 1) t order (i + 1) (valued_by cells (ordered_column order i) v)).cells)
-          → Listed t (by_cell x (λ v q. cond (eqb (byte_at text q) (stop_of n)) (values_read n text (q + 1) t order (i + 1) (valued_by cells (ordered_column order i) v)) no_values)).cells
-      go Broken e ih = none-listed
-      go (Value v q) e ih = by (eqb (byte_at text q) (stop_of n)) (ih q v listed)
+      go : (x : Option Span) → cell_at text at (column_kind t (ordered_column order i)) ≡ x
+          → ((q v : ℕ) → Listed t (valued_by cells (ordered_column order i) v) → RowListed (values_read n text (q + 1) t order (i + 1) (valued_by cells (ordered_column order i) v)))
+          → RowListed (by_cell x (λ v q. cond (eqb (byte_at text q) (stop_of n)) (values_read n text (q + 1) t order (i + 1) (valued_by cells (ordered_column order i) v)) None))
+      go None e ih = tt
+      go (Some x) e ih = by (eqb (byte_at text x.next) (stop_of n)) (ih x.next x.value listed)
         where
-          listed : Listed t (valued_by cells (ordered_column order i) v)
+          listed : Listed t (valued_by cells (ordered_column order i) x.value)
           listed c l =
-              set-either cells.of (ordered_column order i) v c (λ (w : ℕ). w < word_count (column_kind t c))
-              (λ d. subst (λ (k : ℕ). v < word_count (column_kind t k)) (sym d) (cell-listed text at (column_kind t (ordered_column order i)) v q (subst (λ (k : ℕ). 1 < column_kind t k) d l) e)) (h c l)
+              set-either cells.of (ordered_column order i) x.value c (λ (w : ℕ). w < word_count (column_kind t c))
+              (λ d. subst (λ (k : ℕ). x.value < word_count (column_kind t k)) (sym d) (cell-listed text at (column_kind t (ordered_column order i)) x.value x.next (subst (λ (k : ℕ). 1 < column_kind t k) d l) e)) (h c l)
 
-          by : (b : Bool) → Listed t (values_read n text (q + 1) t order (i + 1) (valued_by cells (ordered_column order i) v)).cells → Listed t (cond b (values_read n text (q + 1) t order (i + 1) (valued_by cells (ordered_column order i) v)) no_values).cells
+          by : (b : Bool) → RowListed (values_read n text (x.next + 1) t order (i + 1) (valued_by cells (ordered_column order i) x.value)) → RowListed (cond b (values_read n text (x.next + 1) t order (i + 1) (valued_by cells (ordered_column order i) x.value)) None)
           by true f = f
-          by false f = none-listed
+          by false f = tt
 
-  row_listed : (text : List ℕ) (at : ℕ) (order : Order) → Listed t (values_at text at t order).cells
+  row_listed : (text : List ℕ) (at : ℕ) (order : Order) → RowListed (values_at text at t order)
   unfolding values_at
   row_listed text at order = row_from (word_count t) text at order 0 no_cells none-listed
 
@@ -111,24 +119,22 @@ module _ (t : ℕ) (small : t < 16) where
       go : (a : Bool) → LinesListed (cond a (lines [] (at + 1)) broken)
       go true = λ k. none-listed
       go false = tt
-  lines-listed (suc fuel) order text at = go (eqb (byte_at text at) 10) (values_at text at t order).good (lines_at fuel t order text (values_at text at t order).next) (lines-listed fuel order text (values_at text at t order).next)
+  lines-listed (suc fuel) order text at = go (eqb (byte_at text at) 10) (values_at text at t order) (row_listed text at order) (λ next. lines-listed fuel order text next)
     where
-      go : (a b : Bool) (p : Lines) → LinesListed p → LinesListed (cond a (lines [] (at + 1)) (cond b (after (values_at text at t order).cells p) broken))
-      go true b p h = λ k. none-listed
-      go false true p h = after-listed (values_at text at t order).cells p (row_listed text at order) h
-      go false false p h = tt
+      go : (a : Bool) (x : Option Values) → RowListed x → ((next : ℕ) → LinesListed (lines_at fuel t order text next)) → LinesListed (cond a (lines [] (at + 1)) (by_row x (λ cells next. after cells (lines_at fuel t order text next))))
+      go true x r h = λ k. none-listed
+      go false (Some row) r h = after-listed row.cells (lines_at fuel t order text row.next) r (h row.next)
+      go false None r h = tt
 
   table-listed : (text : List ℕ) (at : ℕ) → LinesListed (table_lines t text at)
   unfolding table_lines
   table-listed text at =
-      go (eqb (name_span text at).value (name_of t)) (head_at text (name_span text at).next t).good
-      (lines_at (limit_of t) t (head_at text (name_span text at).next t).order text (head_at text (name_span text at).next t).next)
-      (lines-listed (limit_of t) (head_at text (name_span text at).next t).order text (head_at text (name_span text at).next t).next)
+      go (eqb (name_span text at).value (name_of t)) (head_at text (name_span text at).next t) (λ order next. lines-listed (limit_of t) order text next)
     where
-      go : (a b : Bool) (p : Lines) → LinesListed p → LinesListed (cond a (cond b p broken) (lines [] at))
-      go true true p h = h
-      go true false p h = tt
-      go false b p h = λ k. none-listed
+      go : (a : Bool) (x : Option Head) → ((order : Order) (next : ℕ) → LinesListed (lines_at (limit_of t) t order text next)) → LinesListed (cond a (by_names x (λ order next. lines_at (limit_of t) t order text next)) (lines [] at))
+      go true (Some head) h = h head.order head.next
+      go true None h = tt
+      go false x h = λ k. none-listed
 
 tables-listed : (n t : ℕ) (text : List ℕ) (at : ℕ) → t + n ≤ 16 → (i u : ℕ) → u ≡ t + i → u < 16 → (k : ℕ) → Listed u (get_or (get_or (tables_lines n t text at) i []) k no_cells)
 unfolding tables_lines

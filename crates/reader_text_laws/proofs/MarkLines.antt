@@ -16,7 +16,7 @@ use Rattle.reader_lines.specs.declared.columns.Cells.{Cells}
 use Rattle.reader_store.specs.Layout.{code_of, words, word_place, word_put, words_below, rules, rule_of, bases, base_of, strides, stride_of}
 use Rattle.reader_store.specs.Parents.{no_index, index_at, counted, lane_among, lane_index, mark_lane_in, mark_lane, mark_within, mark_index, index_of, parent_of}
 use Rattle.reader_store.specs.Keep.{mark_kind, mark_put, own_words, ruled_words, ruled_progress, kept_words, kept_progress}
-use Rattle.reader_store.specs.declared.parents.Index.{Index}
+use Rattle.reader_store.specs.Parents.{Index}
 use Rattle.reader_store.specs.declared.progress.Progress.{Progress}
 use Rattle.reader_store.specs.declared.progress.Strips.{Strips}
 use Rattle.reader_laws.specs.Lines.{lines_of}

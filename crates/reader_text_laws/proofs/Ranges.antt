@@ -17,8 +17,8 @@ use Rattle.reader_store.specs.Layout.{one_more, words, word_place, word_put, wor
 use Rattle.reader_store.specs.Progress.{unsound_progress}
 use Rattle.reader_store.specs.Parents.{index_of, range_of, parent_of}
 use Rattle.reader_store.specs.Keep.{first_line, added, in_order, under_words, under_progress, own_words, ruled_words, ruled_progress, kept_words, kept_progress}
-use Rattle.reader_store.specs.declared.parents.Index.{Index}
-use Rattle.reader_store.specs.declared.parents.Parent.{Parent}
+use Rattle.reader_store.specs.Parents.{Index}
+use Rattle.reader_store.specs.Parents.{Parent}
 use Rattle.reader_store.specs.declared.progress.Progress.{Progress}
 use Rattle.reader_store.specs.declared.progress.Strips.{Strips}
 use Rattle.reader_text_laws.proofs.Spans.{Spans, spans-start, spans-same, spans-next}

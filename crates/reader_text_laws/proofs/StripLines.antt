@@ -1,5 +1,5 @@
 -- The strips of a text of right form that is sound up to their table, and their cubics: a strip's word says whether the text has its line, and which (`strip-none`, `strip-one`); the range of each of its terms is the lines of cubic that name it (`term-part`).
-use Prim.Native.Nat.{ℕ, zero, suc, ◌+◌, ◌-◌, ◌*◌, ◌%◌, ◌<◌, ◌≤◌}
+use Prim.Native.Nat.{ℕ, zero, suc, ◌+◌, ◌*◌, ◌%◌, ◌<◌, ◌≤◌}
 use native.Mathlib.Omega.{arith}
 use native.Mathlib.Nat.{eq-or-lt_of_le}
 use native.Mathlib.Numerals.{add-one}
@@ -18,7 +18,7 @@ use Rattle.reader_store.specs.Layout.{one_more, words, word_place, word_put, wor
 use Rattle.reader_store.specs.Progress.{strips_of, strip_line, listed_as, unsound_progress}
 use Rattle.reader_store.specs.Parents.{term_of, index_of}
 use Rattle.reader_store.specs.Keep.{strip_named, strips_kept, strip_progress, ruled_words, ruled_progress, kept_words, kept_progress}
-use Rattle.reader_store.specs.declared.parents.Index.{Index}
+use Rattle.reader_store.specs.Parents.{Index}
 use Rattle.reader_store.specs.declared.progress.Progress.{Progress}
 use Rattle.reader_store.specs.declared.progress.Strips.{Strips}
 use Rattle.reader_laws.specs.Lines.{lines_of}

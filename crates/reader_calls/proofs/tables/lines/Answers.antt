@@ -1,6 +1,6 @@
 use mathlib.Core.Path.{refl, ◌∙◌}
 use native.Mathlib.Omega.{arith}
-use borrow.Author.Tests.{not-true, not-false}
+use Rattle.refusals.specs.declared.refusals.Refusal.TheVariants.{Form, Capacity}
 use Rattle.reader_cells.proofs.Inside.{inside}
 use Rattle.reader_calls.proofs.TakingCases.{agree-done, agree-stop, lines_start, lines_end, lines_cut, lines-over, lines_next}
 use borrow.Author.Rules.{rules}
@@ -23,19 +23,19 @@ returns-then-byte_at-eq10 c =
     let e = c.end_table-ended.ensures in
     agree-done (at.invariant.4 ∙ lines_end a.table a.order a.text.now at.at at.k at.progress at.words at.numbers at.wants c.byte_at.ensures _ c.if-byte_at-eq10.true e.value e.words_after)
 
-pub returns-then-not-row : goal.returns-then-not-row
-returns-then-not-row c =
+pub returns-in_default : goal.returns-in_default
+returns-in_default c =
     let a = c.args in
     let at = c.loop-order in
-    let e = lines_cut a.table a.order a.text.now at.at at.k at.progress at.words at.numbers at.wants c.byte_at.ensures c.if-byte_at-eq10.false c.values_at-row.ensures _ (not-true _ c.if-not-row.true) in
-    agree-stop _ _ _ _ (at.invariant.4 ∙ e) c.turned.ensures (omega arith) (omega arith)
+    let e = lines_cut a.table a.order a.text.now at.at at.k at.progress at.words at.numbers at.wants c.byte_at.ensures c.if-byte_at-eq10.false c.values_at.ensures _ c.in_default.is in
+    agree-stop Form _ _ _ (at.invariant.4 ∙ e)
 
 pub returns-then-limit-k : goal.returns-then-limit-k
 returns-then-limit-k c =
     let a = c.args in
     let at = c.loop-order in
-    let e = lines-over a.table a.order a.text.now at.at at.k at.progress at.words at.numbers at.wants c.byte_at.ensures c.if-byte_at-eq10.false c.values_at-row.ensures _ c.if-limit-k.true (not-false _ c.if-not-row.false) in
-    agree-stop _ _ _ _ (at.invariant.4 ∙ e) c.turned-then-limit-k.ensures (omega arith) (omega arith)
+    let e = lines-over a.table a.order a.text.now at.at at.k at.progress at.words at.numbers at.wants c.byte_at.ensures c.if-byte_at-eq10.false c.values_at.ensures _ c.if-limit-k.true c.in-Some.is in
+    agree-stop Capacity _ _ _ (at.invariant.4 ∙ e)
 
 pub loop-order-preserved : goal.loop-order-preserved
 loop-order-preserved c =
@@ -47,5 +47,5 @@ loop-order-preserved c =
       kept.auto.words ∙ at.invariant.1,
       kept.auto.numbers ∙ at.invariant.2,
       kept.auto.wants ∙ at.invariant.3,
-      at.invariant.4 ∙ lines_next a.table a.order a.text.now at.at at.k at.progress at.words at.numbers at.wants c.byte_at.ensures c.if-byte_at-eq10.false c.values_at-row.ensures _ c.if-limit-k.false (not-false _ c.if-not-row.false) q.value q.words_after q.numbers_after q.wants_after,
+      at.invariant.4 ∙ lines_next a.table a.order a.text.now at.at at.k at.progress at.words at.numbers at.wants c.byte_at.ensures c.if-byte_at-eq10.false c.values_at.ensures _ c.if-limit-k.false c.in-Some.is q.value q.words_after q.numbers_after q.wants_after,
     )

@@ -1,6 +1,6 @@
 -- The invariant: the tables taken on from this one give the whole text.
 use mathlib.Core.Path.{◌≡◌}
-use Prim.Native.Nat.{◌≤◌, ◌-◌}
+use Prim.Native.Nat.{◌-◌}
 use lib.ListN.{length}
 use Rattle.reader_store.specs.Progress.{start_progress}
 use Rattle.reader_calls.specs.Reading.{tables_from}
@@ -8,8 +8,5 @@ use Rattle.reader_calls.proofs.tables.tables.Given as goal
 
 abbrev pub invariant-loop-table : goal.invariant-loop-table
 invariant-loop-table l =
-    (l.table ≤ 16) × (length l.words ≡ length l.initial.words) × (length l.numbers ≡ length l.initial.numbers) × (length l.wants ≡ length l.initial.wants)
-    × (tables_from 16 0 l.text 0 0 start_progress l.initial.words l.initial.numbers l.initial.wants ≡ tables_from (16 - l.table) l.table l.text l.at l.count l.progress l.words l.numbers l.wants)
-
-abbrev pub decreases-loop-table : goal.decreases-loop-table
-decreases-loop-table l = 16 - l.table
+    (length l.words ≡ length l.initial.words) × (length l.numbers ≡ length l.initial.numbers) × (length l.wants ≡ length l.initial.wants)
+    × (tables_from 16 0 l.text 0 0 start_progress l.initial.words l.initial.numbers l.initial.wants ≡ tables_from (16 - l.table) l.table l.text l.next l.lines l.progress l.words l.numbers l.wants)

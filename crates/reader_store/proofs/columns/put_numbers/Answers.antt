@@ -1,19 +1,15 @@
-use mathlib.Core.Path.{◌≡◌, refl, ◌∙◌}
-use native.Mathlib.Omega.{arith}
-use Rattle.reader_store.proofs.Puts.{numbers-none, numbers_more}
-use borrow.Author.Rules.{rules}
+use mathlib.Core.Path.{refl, ◌∙◌}
+use Rattle.reader_store.proofs.Puts.{numbers_more}
+use Rattle.reader_store.specs.Layout.{numbers_below}
 use Rattle.reader_store.proofs.columns.put_numbers.Goals as goal
 
 pub loop-column-init : goal.loop-column-init
-loop-column-init c = let a = c.args in (search rules, refl, numbers-none a.table a.k a.cells a.numbers.now)
+unfolding numbers_below
+loop-column-init c = (refl, refl)
 
 pub loop-column-preserved : goal.loop-column-preserved
 loop-column-preserved c =
-    let a = c.args in let at = c.loop-column in (
-      search rules,
-      c.put_number.auto.numbers ∙ at.invariant.1,
-      numbers_more a.table a.k a.cells at.column a.numbers.now at.invariant.2 refl c.put_number.ensures,
+    let a = c.args in let at = c.loop-column in let l = c.number_lines.ensures in (
+      c.put_cell.auto.list ∙ at.invariant.0,
+      numbers_more a.table a.k a.cells at.column a.numbers.now l.0 l.1 c.line-line.ensures.0 c.number_place.ensures c.of_bits-value.ensures at.invariant.1 c.put_cell.ensures,
     )
-
-pub returns : goal.returns
-returns c = let at = c.loop-column in let e : at.column ≡ 8 = omega arith in rw e at at.invariant.2

@@ -1,15 +1,14 @@
 -- The constants are the definition's; past the end both are 0.
 use mathlib.Core.Path.{sym}
 use Prim.Native.Nat.{◌≤◌}
-use lib.ListN.{get_or-eq_default}
-use Rattle.reader_store.specs.Layout.{counts, count_place}
-use borrow.Author.Rules.{rules}
+use lib.ListN.{get_or-eq_default, get_or-map}
+use Rattle.reader_store.specs.Layout.{counts, count_place, place_number}
 use Rattle.reader_store.proofs.layout.count_place.Goals as goal
+
+pub returns-then-table-lt-TABLE_COUNT : goal.returns-then-table-lt-TABLE_COUNT
+unfolding count_place counts
+returns-then-table-lt-TABLE_COUNT c = rw (← get_or-map place_number)
 
 pub returns-else-table-lt-TABLE_COUNT : goal.returns-else-table-lt-TABLE_COUNT
 unfolding count_place counts
 returns-else-table-lt-TABLE_COUNT c = let h : 16 ≤ c.args.table = c.if-table-lt-TABLE_COUNT.false in sym (get_or-eq_default counts 0 h)
-
-pub returns-then-table-lt-TABLE_COUNT : goal.returns-then-table-lt-TABLE_COUNT
-unfolding count_place counts
-returns-then-table-lt-TABLE_COUNT c = search rules

@@ -4,10 +4,11 @@ use mathlib.Core.Path.{◌≡◌}
 use mathlib.Core.Bool.{Bool, ◌||◌}
 use mathlib.Core.List.{[]}
 use borrow.Author.Tests.{lt-ltb, le-ltb, ne_eqb}
+use borrow.Author.Rules.{rules}
 use lib.Dec.{eqb}
-use lib.ListN.{get_or}
+use lib.ListN.{get_or, get_or-map}
 use Rattle.reader_schema.proofs.Zeros.{zero_row}
-use Rattle.reader_store.specs.Layout.{words, word_place}
+use Rattle.reader_store.specs.Layout.{words, word_place, place_number}
 use Rattle.reader_store.proofs.layout.word_place.Goals as goal
 
 -- the tables that have an arm
@@ -24,15 +25,12 @@ returns-then-column-ge-COLUMNS_MOST c = rw (le-ltb _ 8 c.if-column-ge-COLUMNS_MO
 
 pub returns-in-1 : goal.returns-in-1
 unfolding word_place words
-returns-in-1 c = rw (c.in-1.is, lt-ltb _ 8 c.if-column-ge-COLUMNS_MOST.false)
+returns-in-1 c = rw (← get_or-map place_number, c.in-1.is, lt-ltb _ 8 c.if-column-ge-COLUMNS_MOST.false)
 
 pub returns-in-7 : goal.returns-in-7
 unfolding word_place words
-returns-in-7 c = rw (c.in-7.is, lt-ltb _ 8 c.if-column-ge-COLUMNS_MOST.false)
+returns-in-7 c = rw (← get_or-map place_number, c.in-7.is, lt-ltb _ 8 c.if-column-ge-COLUMNS_MOST.false)
 
 pub returns-in_default : goal.returns-in_default
 unfolding word_place
-returns-in_default c =
-    let a = c.args in
-    let r = c.in_default.in_default-own.rest in
-    rw (lt-ltb _ 8 c.if-column-ge-COLUMNS_MOST.false) (none a.table a.column r.0.1 r.1)
+returns-in_default c = rw (lt-ltb _ 8 c.if-column-ge-COLUMNS_MOST.false) (none c.args.table c.args.column (search rules) (search rules))

@@ -1,14 +1,11 @@
--- One law for each rule.
-use Rattle.reader_store.proofs.KeepCases.{ruled-none, ruled-strip, ruled-under}
+use mathlib.Core.Path.{◌∙◌, sym}
+use Rattle.reader_store.proofs.Cases.{held_progress, held_words, ruled-child}
 use Rattle.reader_store.proofs.lines.keep_ruled.Goals as goal
 
-pub returns-then-rule-eq-NO_RULE : goal.returns-then-rule-eq-NO_RULE
-returns-then-rule-eq-NO_RULE c = let a = c.args in let both = ruled-none a.words.now a.rule a.k a.cells a.progress c.if-rule-eq-NO_RULE.true in record { value = both.0; words_after = both.1 }
-
-pub returns-then-rule-eq-STRIP_RULE : goal.returns-then-rule-eq-STRIP_RULE
-returns-then-rule-eq-STRIP_RULE c = let a = c.args in let both = ruled-strip a.words.now a.rule a.k a.cells a.progress c.if-rule-eq-NO_RULE.false c.if-rule-eq-STRIP_RULE.true c.keep_strip.ensures.value c.keep_strip.ensures.words_after in record { value = both.0; words_after = both.1 }
-
-pub returns : goal.returns
-returns c =
+pub returns-in-Some-Child : goal.returns-in-Some-Child
+returns-in-Some-Child c =
     let a = c.args in
-    let both = ruled-under a.words.now a.rule a.k a.cells a.progress c.if-rule-eq-NO_RULE.false c.if-rule-eq-STRIP_RULE.false c.parent_of-parent.ensures c.put_own.ensures c.keep_under.ensures.value c.keep_under.ensures.words_after in record { value = both.0; words_after = both.1 }
+    let r = ruled-child a.words.now a.rule a.k a.cells a.progress c.in-Some-Child.family c.in-Some-Child.is (rw c.in-Some-Child.is at c.in-Some-Child.field-0-is) in record {
+      value = rw (c.keep_under.ensures.value, c.parent_of-parent.ensures) (held_progress a.words.now a.k _ a.progress ∙ sym r.0);
+      words_after = rw (c.keep_under.ensures.words_after, c.put_own.ensures, c.parent_of-parent.ensures) (held_words _ a.k _ a.progress ∙ sym r.1);
+    }

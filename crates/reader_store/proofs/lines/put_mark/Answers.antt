@@ -1,6 +1,12 @@
--- The calls are those of the definition.
-use Rattle.reader_store.proofs.KeepCases.{mark_put_lem}
+-- The lane's index is the definition's, there or not.
+use mathlib.Core.Path.{ap, ◌∙◌}
+use Rattle.reader_store.proofs.Cases.{mark-index}
+use Rattle.reader_store.specs.Parents.{index_in}
+use Rattle.reader_store.specs.Keep.{mark_put}
 use Rattle.reader_store.proofs.lines.put_mark.Goals as goal
 
 pub returns : goal.returns
-returns c = let a = c.args in mark_put_lem a.words.now a.k a.cells c.cell_of.ensures c.cell_of-2.ensures c.mark_lane-lane.ensures c.code.ensures c.cell_of-3.ensures c.mark_kind.ensures c.set_word.ensures c.set_word-2.ensures
+unfolding mark_put
+returns c =
+    let e = c.index_in-lane.ensures ∙ ap index_in c.mark_lane.ensures ∙ mark-index c.args.words.now _ _ in
+    rw (c.put-2.ensures, c.put.ensures, c.code.ensures, c.mark_kind.ensures, c.at-3.ensures, e, c.at.ensures, c.at-2.ensures)
