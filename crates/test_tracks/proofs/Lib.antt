@@ -1,5 +1,2 @@
-pub mod Stores
-pub mod WordSteps
-pub mod AnswerNumbers
 pub mod Agreement
-pub mod Verdicts
+pub mod WordSteps

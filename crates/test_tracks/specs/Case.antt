@@ -11,6 +11,8 @@ use Rattle.tracks.specs.Poses.{track_pose_list}
 use Rattle.tracks.specs.Projections.{projection_list}
 use Rattle.tracks_calls.specs.TrackCalls.{tangents_call, tangents_list, track_pose_call, project_call}
 use Rattle.test_tracks.specs.Patterns.{pattern_of}
+use Rattle.test_tracks.specs.declared.calls.Verdict.{Verdict}
+use Rattle.test_tracks.specs.declared.calls.Verdict.TheVariants.{Tangents, Pose, Project, Broken}
 
 -- ---- an answer as a number and a list
 
@@ -62,25 +64,20 @@ unfoldable pub tangents_agree : List Float → List Float → List ℕ → Bool
 unfolding agrees_of tangents_call tangents_list
 tangents_agree track list row = agrees_of (count_number (tangents_call track (length list))) (tangents_list track list) row
 
--- ---- where a line is counted
-
--- a place of the tally, and the next one where the answer differs
-abbrev pub place_of : ℕ → Bool → ℕ
-place_of place true = place
-place_of place false = place + 1
+-- ---- what is found of a line
 
 module _ (letter : ℕ) (track : List Float) (list : List Float) (row : List ℕ) where
   -- g, with a word for each number of the list
   abbrev pub asks_tangents : Bool
   asks_tangents = letter == 103 && length row == length list + 1
 
-  -- g: tangents. p: pose. j: project. 6 for any other letter, or another number of words.
-  unfoldable pub verdict_of : ℕ
+  -- g: tangents. p: pose. j: project. Broken for any other letter, or another number of words.
+  unfoldable pub verdict_of : Verdict
   unfolding tangents_agree pose_agrees project_agrees
   verdict_of =
-      cond asks_tangents (place_of 0 (tangents_agree track list row))
-      (cond (letter == 112 && length row == 8) (place_of 2 (pose_agrees track row))
-      (cond (letter == 106 && length row == 9) (place_of 4 (project_agrees track row)) 6))
+      cond asks_tangents (Tangents (tangents_agree track list row))
+      (cond (letter == 112 && length row == 8) (Pose (pose_agrees track row))
+      (cond (letter == 106 && length row == 9) (Project (project_agrees track row)) Broken))
 
   -- the lent list afterwards
   unfoldable pub list_told : List Float

@@ -5,22 +5,23 @@
 mod answers;
 mod calls;
 mod lines;
-mod memory;
 mod patterns;
+mod tally;
 mod words;
 
+use crate::tally::Counts;
 use std::io;
 
-fn report(rt: &impl Print, name: &str, same: u64, differ: u64) -> io::Result<()> {
-    let lines = std::num::wrapping_add_u64(same, differ);
+fn report(rt: &impl Print, name: &str, counts: Counts) -> io::Result<()> {
+    let Counts { same, differ } = counts;
+    let lines = same.wrapping_add(differ);
     println!(rt; "{name} {lines} lines, {differ} differ")
 }
 
 fn main(rt: HostRuntime) -> io::Result<()> {
-    let mut tally = [0u64; 7];
-    lines::run(&rt, &mut tally);
-    report(&rt, "tangents", tally[0], tally[1])?;
-    report(&rt, "pose", tally[2], tally[3])?;
-    report(&rt, "project", tally[4], tally[5])?;
-    println!(rt; "broken {} lines", tally[6])
+    let tally = lines::run(&rt, rt.alloc())?;
+    report(&rt, "tangents", tally.tangents)?;
+    report(&rt, "pose", tally.pose)?;
+    report(&rt, "project", tally.project)?;
+    println!(rt; "broken {} lines", tally.broken)
 }

@@ -1,129 +1,51 @@
 // The words of a line: after its letter each is a space and eight hexadecimal digits in lower case.
-ghost use Rattle.std.specs.Prelude.{◌≡◌, ◌+◌, ◌*◌, ◌≤◌, ◌++◌, length, drop};
-ghost use Rattle.records_lent.specs.Lists.{all_below, tabulate};
-ghost use Rattle.test_tracks.specs.Words.{digits_word, word_in, good_of, value_of, word_count, line_good, words_in, numbers_in};
+ghost use Rattle.std.specs.Prelude.{◌≡◌, ◌+◌, ◌*◌, ◌≤◌, length, IfOk};
+ghost use Rattle.std.specs.Option.{option_map};
+ghost use Rattle.std.specs.Vec.{vec_items};
+ghost use Rattle.test_tracks.specs.Words.{word_in, words_in, numbers_in};
 
 use crate::patterns::number;
-use reader_hex::digit;
+use reader_hex::digits_at;
+use std::alloc::{AllocError, Global};
 
-#[derive(Clone, Copy)]
-pub enum Word {
-    Number(u32),
-    Broken,
-}
+// How many words a line has at most.
+const MOST_WORDS: usize = 1600;
 
-// How many words a line has; whether it is a letter and so many words, and nothing else.
-#[derive(Clone, Copy)]
-pub struct Words {
-    pub good: bool,
-    pub count: usize,
-}
-
-// The number that eight digits stand for.
-fn digits(line: &[u8], at: usize) -> Word
-    requires { at + 8 ≤ length line.now }
-    ensures { result ≡ digits_word line.now at }
-{
-    let mut bits: u64 = 0;
-    let mut n = 0;
-    while n < 8 {
-        let d = digit(line[at + n]);
-        if 16 <= d {
-            return Word::Broken;
-        }
-        bits = bits * 16 + d as u64;
-        n += 1;
-    }
-    Word::Number(bits as u32)
-}
-
-// The i-th word.
-fn word_at(line: &[u8], i: usize) -> Word
+// The i-th word; none where it is broken.
+#[tactic(auto, using(crate::proofs::WordSteps::eight_fit))]
+fn word_at(line: &[u8], i: usize) -> Option<u32>
     requires { i * 9 + 10 ≤ length line.now }
     ensures { result ≡ word_in line.now i }
 {
     let at = i * 9 + 1;
     if line[at] != b' ' {
-        return Word::Broken;
+        return None;
     }
-    digits(line, at + 1)
+    let bits = digits_at::<8>(line, at + 1)?;
+    Some(bits as u32)
 }
 
-fn good(word: Word) -> bool
-    ensures { result ≡ good_of word }
+// A line's words; none where it is not a letter and words, at most MOST_WORDS, or one is broken.
+pub(crate) fn words(alloc: Global, line: &[u8]) -> Result<Option<Vec<u32>>, AllocError>
+    ensures { IfOk result (λ r. option_map (λ v. v.items) r ≡ words_in line.now) }
 {
-    match word {
-        Word::Number(_) => true,
-        Word::Broken => false,
+    let n = line.len() / 9;
+    if !((line.len() % 9 == 1) & (n <= MOST_WORDS)) {
+        return Ok(None);
     }
-}
-
-fn value(word: Word) -> u32
-    ensures { result ≡ value_of word }
-{
-    match word {
-        Word::Number(n) => n,
-        Word::Broken => 0,
-    }
-}
-
-// Puts the first n words into the row, 0 for a broken one; whether none is broken.
-fn fill(line: &[u8], n: usize, row: &mut [u32]) -> bool
-    requires { (n * 9 + 1 ≤ length line.now) × (n ≤ length row.old) }
-    ensures value { result ≡ all_below (λ i. good_of (word_in line.now i)) n }
-    ensures row_after { row.new ≡ tabulate (λ i. value_of (word_in line.now i)) n ++ drop n row.old }
-{
-    let mut ok = true;
-    let mut i = 0;
-    while i < n {
-        let w = word_at(line, i);
-        row[i] = value(w);
-        ok = ok & good(w);
-        i += 1;
-    }
-    ok
-}
-
-// How many words a line of so many bytes has; none where it does not end with a word, or the row has no room for them.
-fn count(bytes: usize, room: usize) -> usize
-    ensures value { result ≡ word_count bytes room }
-    ensures upper_bound { (result ≤ room) × (result * 9 ≤ bytes) }
-{
-    if bytes % 9 != 1 {
-        return 0;
-    }
-    if room < bytes / 9 {
-        return 0;
-    }
-    bytes / 9
-}
-
-// Puts a line's words into the row.
-pub(crate) fn read(line: &[u8], row: &mut [u32]) -> Words
-    ensures good_value { (result.good ≡ line_good line.now (length row.old)) × (result.count ≡ word_count (length line.now) (length row.old)) × (result.count ≤ length row.old) }
-    ensures row_after { row.new ≡ words_in line.now row.old }
-{
-    let n = count(line.len(), row.len());
-    if line.len() != n * 9 + 1 {
-        return Words {
-            good: false,
-            count: n,
+    let mut words = Vec::new(alloc);
+    for i in 0..n {
+        let Some(word) = word_at(line, i) else {
+            return Ok(None);
         };
+        words.push(word)?;
     }
-    Words {
-        good: fill(line, n, row),
-        count: n,
-    }
+    Ok(Some(words))
 }
 
-// Puts the f32 of each word into the list.
-pub(crate) fn numbers(row: &[u32], list: &mut [f32])
-    requires { length row.now ≤ length list.old }
-    ensures { list.new ≡ numbers_in row.now ++ drop (length row.now) list.old }
+// The f32 of each word.
+pub(crate) fn numbers(alloc: Global, row: &[u32]) -> Result<Vec<f32>, AllocError>
+    ensures { IfOk result (λ v. v.items ≡ numbers_in row.now) }
 {
-    let mut i = 0;
-    while i < row.len() {
-        list[i] = number(row[i]);
-        i += 1;
-    }
+    row.iter().map(|bits| number(*bits)).collect(alloc)
 }
