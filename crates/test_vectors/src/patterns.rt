@@ -9,20 +9,17 @@ ghost use Rattle.test_vectors.specs.Vector.{counts_word};
 pub(crate) fn bits_of_single(x: f32) -> u64
     ensures { result ≡ to_bits binary32 x }
 {
-    if x != x {
+    if x.is_nan() {
         return 0x7fc0_0000;
     }
-    f32::to_bits(x) as u64
+    u64::from(x.to_bits())
 }
 
 // n + 2^63.
 fn raised(n: i64) -> u64
     ensures { result ≡ raised_of n }
 {
-    if n < 0 {
-        return 0x7fff_ffff_ffff_ffff - (-1 - n) as u64;
-    }
-    n as u64 + 0x8000_0000_0000_0000
+    n.cast_unsigned().wrapping_add(0x8000_0000_0000_0000)
 }
 
 // A whole number n as n + 2^63, a refusal as its number.
@@ -31,6 +28,6 @@ pub(crate) fn bits_of_counts(c: arithmetic_counts::Counted) -> u64
 {
     match c {
         arithmetic_counts::Counted::Count(n) => raised(n),
-        arithmetic_counts::Counted::Refused(why) => refusals::number(why) as u64,
+        arithmetic_counts::Counted::Refused(why) => u64::from(u32::from(why)),
     }
 }
