@@ -7,4 +7,4 @@ unfolding arc_pose
 returns c =
     let a = c.sin_cos-from.ensures in
     let b = c.sin_cos-turn.ensures in
-    rw (a.0, a.1, b.0, b.1)
+    rw (a, b)

@@ -4,4 +4,4 @@ use Rattle.line_pose.proofs.poses.line_bearing.Goals as goal
 
 pub returns : goal.returns
 unfolding line_pose
-returns c = rw (c.sin_cos-turn.ensures.0, c.sin_cos-turn.ensures.1)
+returns c = rw c.sin_cos-turn.ensures

@@ -6,4 +6,4 @@ pub returns : goal.returns
 unfolding next_sample
 returns c =
     let pair = c.sin_cos-middle.ensures in
-    rw (c.heading_at-2.ensures, pair.0, pair.1, c.heading_at.ensures, c.step_at-step.ensures)
+    rw (c.heading_at-2.ensures, pair, c.heading_at.ensures, c.step_at-step.ensures)
