@@ -20,35 +20,8 @@ low c = lowered c.args.s.root c.args.s.rem c.args.half c.requires c.next_digit-d
 last : (c : After-next_digit-d) → Late c.args.s.root c.args.s.rem c.args.half c.requires (c.args.s.rem * c.args.half / c.args.s.root) (c.args.s.rem * c.args.half % c.args.s.root) c.next_digit-d.result
 last c = late c.args.s.root c.args.s.rem c.args.half c.requires c.next_digit-d.result (low c)
 
-pub overflow_mul-part : goal.overflow_mul-part
-overflow_mul-part c = record { fits = omega (arith, (first (goal.at.overflow_mul-part c).Start).part) }
-
-pub overflow_mul-left : goal.overflow_mul-left
-overflow_mul-left c = record { fits = omega (arith, (first (goal.at.overflow_mul-left c).Start).trial) }
-
-pub overflow_add-left : goal.overflow_add-left
-overflow_add-left c = record { fits = omega (arith, (first (goal.at.overflow_add-left c).Start).trial) }
-
 pub overflow_mul-q : goal.overflow_mul-q
 overflow_mul-q c = record { fits = omega (arith, (first (goal.at.overflow_mul-q c).Start).square) }
-
-pub overflow_sub-low : goal.overflow_sub-low
-overflow_sub-low c = (low (goal.at.overflow_sub-low c).After-next_digit-d).fewer
-
-pub overflow_mul-rest : goal.overflow_mul-rest
-overflow_mul-rest c = record { fits = omega (arith, (last (goal.at.overflow_mul-rest c).After-next_digit-d).taken) }
-
-pub overflow_add-rest : goal.overflow_add-rest
-overflow_add-rest c = record { fits = omega (arith, (last (goal.at.overflow_add-rest c).After-next_digit-d).rest) }
-
-pub overflow_mul-result : goal.overflow_mul-result
-overflow_mul-result c = record { fits = omega (arith, (last (goal.at.overflow_mul-result c).After-next_digit-d).root) }
-
-pub overflow_add-result : goal.overflow_add-result
-overflow_add-result c = record { fits = omega (arith, (last (goal.at.overflow_add-result c).After-next_digit-d).root) }
-
-pub overflow_mul-result-2 : goal.overflow_mul-result-2
-overflow_mul-result-2 c = record { fits = omega (arith, (last (goal.at.overflow_mul-result-2 c).After-next_digit-d).scaled) }
 
 pub overflow_mul-result-3 : goal.overflow_mul-result-3
 overflow_mul-result-3 c = record { fits = omega (arith, (last (goal.at.overflow_mul-result-3 c).After-next_digit-d).square) }
@@ -56,5 +29,5 @@ overflow_mul-result-3 c = record { fits = omega (arith, (last (goal.at.overflow_
 pub overflow_sub-result : goal.overflow_sub-result
 overflow_sub-result c = (low (goal.at.overflow_sub-result c).After-next_digit-d).within
 
-pub returns : goal.returns
-returns c = record { root_of = (low (goal.at.returns c).After-next_digit-d).root; root_bound = (last (goal.at.returns c).After-next_digit-d).root }
+pub returns-clause-root_of : goal.returns-clause-root_of
+returns-clause-root_of c = (low (goal.at.returns-clause-root_of c).After-next_digit-d).root

@@ -24,9 +24,6 @@ pub below-turns-requires : goal.below-turns-requires
 unfolding turn
 below-turns-requires c = let h = c.args.h in turn-whole h (in_reach h (range-within h (fit (goal.at.below-turns-requires c).Start) c.requires))
 
-pub by_quarter-requires : goal.by_quarter-requires
-by_quarter-requires c = c.below-turns.ensures.small
-
 pub returns : goal.returns
 unfolding turn turns rest
 returns c =
