@@ -3,7 +3,7 @@
 use mathlib.Core.Path.{◌≡◌, sym, ap, ◌∙◌, subst}
 use mathlib.Core.Logic.{◌⊎◌}
 use Prim.Native.Nat.{ℕ, suc, ◌+◌, ◌*◌, ◌/◌, ◌%◌, ◌^◌, ◌≤◌, ◌<◌}
-use native.Mathlib.Nat.{le_trans, lt_of_lt_of_le, lt_of_le_of_lt, le_of_suc-le-suc, div-eq_of_lt, div-one, div-div-eq-div-mul, div-add-mod'}
+use native.Mathlib.Nat.{le_trans, lt_of_lt_of_le, lt_of_le_of_lt, le_of_suc-le-suc, div-div-eq-div-mul, div-add-mod'}
 use native.Mathlib.Omega.{arith}
 use lib.Pow.{pow-add, pow_mono}
 use Rattle.arithmetic.specs.RootSteps.{RootOf}
@@ -17,14 +17,6 @@ pub two-small : (n : ℕ) → n % 4 < 4
 two-small n = omega arith
 
 -- ---- k places of n are left
-
--- before the first place
-pub root_none : (n p : ℕ) → n < 2 ^ (2 * p) → RootOf (n / 2 ^ (2 * p)) 0 0
-root_none n p h = record { square = sym (div-eq_of_lt h); below = omega arith }
-
--- after the last
-pub root-all : (n r q : ℕ) → RootOf (n / 2 ^ (2 * 0)) r q → RootOf n r q
-root-all n r q h = subst (λ (z : ℕ). RootOf z r q) (div-one n) h
 
 quarter : (w : ℕ) → w / 4 * 4 + w % 4 ≡ w
 quarter w = div-add-mod' w 4

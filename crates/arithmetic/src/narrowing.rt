@@ -1,5 +1,7 @@
 // An f64 narrowed to an f32, by integer work on the bit pattern: the digits that an f32 has no room for are dropped, to the nearest and half to even.
 //
+// Not the library's `nearest_f64_to_f32_with_nan`, as fast: narrowing and the root are to rest on one rounding fact, `round-pattern` of float_laws.
+//
 // By the exponent's field of the f64: to 872 the value is under half the smallest f32; to 896 it is a subnormal f32, with fewer digits the smaller it is; to 1150 it is a normal one, with 24 digits of the 53; beyond, it is too large.
 ghost use Rattle.std.specs.Prelude.{◌≡◌, ◌<◌, ◌^◌};
 ghost use Rattle.std.specs.Float.Ieee.Nearest.{closest};

@@ -1,5 +1,7 @@
 // The square root of a float, nearest to the exact one, by integer work on the bit pattern, for both widths; and hypot, which is made of it.
 //
+// Not the library's `sqrt`, which is the machine's: the root is to be made in whole numbers, from leading zeros and digits.
+//
 // A format keeps P digits, the leading one not in the pattern, and ONES is the exponent's field of its infinity.
 // x is m * 2^j of the smallest value, 2^-1074 for an f64. Leading zeros move m's leading digit to bit P - 1, for a subnormal x too, and one digit more makes the power of two that is
 // left even. The root then has P + 1 digits, one more than the format keeps: the upper ones, worked out one by one, are the root of m itself, and the lower ones follow as one digit of a large base. A last digit of 1 is never a tie:

@@ -21,7 +21,7 @@ use Rattle.arithmetic_counts.specs.Count.{nearest_away, nearest_whole, greatest_
 use Rattle.arithmetic_counts.specs.CountSizes.{CountSizes}
 use Rattle.refusals.specs.Answer.{value, refused}
 use Rattle.arithmetic_ranges.specs.Ranges.{in_range}
-use Rattle.arithmetic_sine.proofs.FloorCases.{yes}
+use Rattle.std.specs.Bool.{passes}
 
 -- what is at most a whole number is not rounded past it
 pub away-le : (f : Format) (x : Float) (a : ℕ) → Real f x → mag f x ≤ a * 2 ^ low f → nearest_away (num x) (den x) ≤ a
@@ -110,8 +110,8 @@ module _ (v : Float) (fit : T (fits binary64 v)) (e : counted v ≡ true) where
   -- |v × 10,000| is at most 800,000, rounded too
   product-within : Within binary64 (mul binary64 v counts_per_metre) limit
   product-within =
-      let lo : T (le (neg greatest_counted) v) = and_l (le (neg greatest_counted) v) (le v greatest_counted) (yes e) in
-      let hi : T (le v greatest_counted) = and_r (le (neg greatest_counted) v) (le v greatest_counted) (yes e) in
+      let lo : T (le (neg greatest_counted) v) = and_l (le (neg greatest_counted) v) (le v greatest_counted) (passes (counted v) e) in
+      let hi : T (le v greatest_counted) = and_r (le (neg greatest_counted) v) (le v greatest_counted) (passes (counted v) e) in
       let r : Real binary64 v = record { finite = finite-between (neg greatest_counted) v greatest_counted (neg-real binary64 greatest_counted counted-real).finite counted-real.finite lo hi; fits = fit } in
       subst (λ (b : Float). Within binary64 (mul binary64 v counts_per_metre) b) product-limit (mul-within binary64 v counts_per_metre greatest_counted counts_per_metre (within-of_le binary64 v greatest_counted r counted-real lo hi) ten-within product-finite)
 

@@ -20,11 +20,6 @@ yes e = subst T (sym e) tt
 pub no : {b : Bool} → b ≡ false → T (not b)
 no e = subst (λ (b : Bool). T (not b)) (sym e) tt
 
--- 2 ^ 52
-pub hid-whole : Whole binary64 (of_bits binary64 0x4330_0000_0000_0000) (hid binary64) 0
-unfolding of_bits fits pl mi
-hid-whole = record { value = record { finite = tt; fits = tt }; plus = refl; minus = refl }
-
 -- ---- `below`: |x| is at most 2 ^ 50
 reach-real : Real binary64 below_reach
 unfolding of_bits fits

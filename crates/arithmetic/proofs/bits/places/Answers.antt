@@ -1,11 +1,7 @@
 -- 64 - 1 - j zeros stand before m's leading digit 2 ^ j in a word of 64, and the first 64 - p of them before that of a number of p digits too: what is left moves the digit there (`placed`).
-use native.Mathlib.Omega.{arith}
-use lib.Count.{count_leading_zeros, leading_top, leading_le}
+use lib.Count.{count_leading_zeros, leading_top}
 use Rattle.arithmetic.proofs.RootCases.{enough, placed}
 use Rattle.arithmetic.proofs.bits.places.Goals as goal
-
-pub overflow_cast-result : goal.overflow_cast-result
-overflow_cast-result c = let l = leading_le 64 c.args.m in record { fits = omega (arith, l) }
 
 pub overflow_sub-result-2 : goal.overflow_sub-result-2
 overflow_sub-result-2 c =

@@ -1,6 +1,5 @@
 -- Each way out is a law of NarrowCases, by the range that the exponent's field lies in.
 use Rattle.arithmetic.proofs.NarrowCases.{case-none, case-low, case-high, case-top}
-use native.Mathlib.Omega.{arith}
 use Rattle.arithmetic.proofs.narrowing.magnitude.Goals as goal
 
 pub returns-then-field-lt873 : goal.returns-then-field-lt873
@@ -11,9 +10,6 @@ returns-then-field-lt-NORMAL c = case-low c.args.field c.args.frac c.nearest_of.
 
 pub returns-then-field-gt1150 : goal.returns-then-field-gt1150
 returns-then-field-gt1150 c = case-top c.args.field c.args.frac c.if-field-gt1150.true c.requires.1 c.requires.0 c.requires.2
-
-pub overflow_add-result : goal.overflow_add-result
-overflow_add-result c = omega (arith, (case-high c.args.field c.args.frac c.nearest_of-2.result c.if-field-lt-NORMAL.false c.if-field-gt1150.false c.requires.0 c.nearest_of-2.ensures).small)
 
 pub returns : goal.returns
 returns c = case-high c.args.field c.args.frac c.nearest_of-2.result c.if-field-lt-NORMAL.false c.if-field-gt1150.false c.requires.0 c.nearest_of-2.ensures

@@ -1,4 +1,4 @@
--- The fields of x's own pattern go to `magnitude`, whose contract holds for either sign; the sign's bit is put on (`narrow-is`). `fit1`, `fit2`: x fits its format, where a law asks for it.
+-- The fields of x's own pattern go to `magnitude`, whose contract holds for either sign; the sign's bit is put on (`narrow-is`).
 use lib.Dec.{T}
 use lib.Ieee.{fits, binary64}
 use Rattle.arithmetic.proofs.Fields.{no_nan}
@@ -7,13 +7,6 @@ use lib.Ieee.{of_bits, div}
 use native.Mathlib.Omega.{arith}
 use borrow.Author.Rules.{rules}
 use Rattle.arithmetic.proofs.narrowing.narrow.Goals as goal
-use Rattle.arithmetic.proofs.narrowing.narrow.Goals.{After-magnitude-mag, Else-x}
-
-fit1 : (c : Else-x) → T (fits binary64 c.args.x)
-fit1 c = search rules
-
-fit2 : (c : After-magnitude-mag) → T (fits binary64 c.args.x)
-fit2 c = search rules
 
 pub returns-then-x : goal.returns-then-x
 unfolding of_bits div
@@ -23,19 +16,19 @@ pub float_to_bits-bits : goal.float_to_bits-bits
 float_to_bits-bits c = no_nan c.args.x c.if-x.false
 
 pub magnitude-mag-requires : goal.magnitude-mag-requires
-magnitude-mag-requires c = let x = c.args.x in (omega arith, omega arith, no_payload x (fit1 (goal.at.magnitude-mag-requires c).Else-x) (no_nan x c.if-x.false))
+magnitude-mag-requires c = let fit : T (fits binary64 c.args.x) = search rules in let x = c.args.x in (omega arith, omega arith, no_payload x fit (no_nan x c.if-x.false))
 
 pub overflow_mul-result : goal.overflow_mul-result
-overflow_mul-result c = omega (arith, bits-lt c.args.x (fit2 (goal.at.overflow_mul-result c).After-magnitude-mag) (no_nan _ c.if-x.false))
+overflow_mul-result c = let fit : T (fits binary64 c.args.x) = search rules in omega (arith, bits-lt c.args.x fit (no_nan _ c.if-x.false))
 
 pub overflow_add-result : goal.overflow_add-result
-overflow_add-result c = omega (arith, bits-lt c.args.x (fit2 (goal.at.overflow_add-result c).After-magnitude-mag) (no_nan _ c.if-x.false), c.magnitude-mag.ensures.small)
+overflow_add-result c = let fit : T (fits binary64 c.args.x) = search rules in omega (arith, bits-lt c.args.x fit (no_nan _ c.if-x.false), c.magnitude-mag.ensures.small)
 
 pub overflow_cast-result : goal.overflow_cast-result
-overflow_cast-result c = omega (arith, bits-lt c.args.x (fit2 (goal.at.overflow_cast-result c).After-magnitude-mag) (no_nan _ c.if-x.false), c.magnitude-mag.ensures.small)
+overflow_cast-result c = let fit : T (fits binary64 c.args.x) = search rules in omega (arith, bits-lt c.args.x fit (no_nan _ c.if-x.false), c.magnitude-mag.ensures.small)
 
 pub float_from_bits-result : goal.float_from_bits-result
-float_from_bits-result c = narrow-small c.args.x (fit2 (goal.at.float_from_bits-result c).After-magnitude-mag) (no_nan _ c.if-x.false) _ c.magnitude-mag.ensures.small
+float_from_bits-result c = let fit : T (fits binary64 c.args.x) = search rules in narrow-small c.args.x fit (no_nan _ c.if-x.false) _ c.magnitude-mag.ensures.small
 
 pub returns : goal.returns
-returns c = narrow-is c.args.x (fit2 (goal.at.returns c).After-magnitude-mag) (no_nan _ c.if-x.false) _ c.magnitude-mag.ensures
+returns c = let fit : T (fits binary64 c.args.x) = search rules in narrow-is c.args.x fit (no_nan _ c.if-x.false) _ c.magnitude-mag.ensures

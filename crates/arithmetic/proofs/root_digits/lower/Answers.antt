@@ -1,60 +1,19 @@
--- `lowered` has the digit and what is left. The other needs are that nothing overflows 64 bits (`early`, `late`).
-use Prim.Native.Nat.{ℕ, ◌*◌, ◌/◌, ◌%◌}
+-- `lowered` has the digit and what is left; no number on the way is large (`early`, `late`).
 use native.Mathlib.Omega.{arith}
-use Rattle.arithmetic.proofs.RootLower.{Early, early, Lowered, lowered, Late, late}
+use Rattle.arithmetic.proofs.RootLower.{early, lowered, late}
 use Rattle.arithmetic.proofs.root_digits.lower.Goals as goal
-use Rattle.arithmetic.proofs.root_digits.lower.Goals.{After-next_digit-d, Start}
-
-abbrev quotient : Start → ℕ
-quotient c = c.args.s.rem * c.args.half / c.args.s.root
-
-abbrev left : Start → ℕ
-left c = c.args.s.rem * c.args.half % c.args.s.root
-
-first : (c : Start) → Early c.args.s.root c.args.s.rem c.args.half c.requires (quotient c) (left c)
-first c = early c.args.s.root c.args.s.rem c.args.half c.requires
-
-low : (c : After-next_digit-d) → Lowered c.args.s.root c.args.s.rem c.args.half c.requires (c.args.s.rem * c.args.half / c.args.s.root) (c.args.s.rem * c.args.half % c.args.s.root) c.next_digit-d.result
-low c = lowered c.args.s.root c.args.s.rem c.args.half c.requires c.next_digit-d.result c.next_digit-d.ensures
-
-last : (c : After-next_digit-d) → Late c.args.s.root c.args.s.rem c.args.half c.requires (c.args.s.rem * c.args.half / c.args.s.root) (c.args.s.rem * c.args.half % c.args.s.root) c.next_digit-d.result
-last c = late c.args.s.root c.args.s.rem c.args.half c.requires c.next_digit-d.result (low c)
-
-pub overflow_mul-part : goal.overflow_mul-part
-overflow_mul-part c = record { fits = omega (arith, (first (goal.at.overflow_mul-part c).Start).part) }
-
-pub overflow_mul-left : goal.overflow_mul-left
-overflow_mul-left c = record { fits = omega (arith, (first (goal.at.overflow_mul-left c).Start).trial) }
-
-pub overflow_add-left : goal.overflow_add-left
-overflow_add-left c = record { fits = omega (arith, (first (goal.at.overflow_add-left c).Start).trial) }
 
 pub overflow_mul-q : goal.overflow_mul-q
-overflow_mul-q c = record { fits = omega (arith, (first (goal.at.overflow_mul-q c).Start).square) }
-
-pub overflow_sub-low : goal.overflow_sub-low
-overflow_sub-low c = (low (goal.at.overflow_sub-low c).After-next_digit-d).fewer
-
-pub overflow_mul-rest : goal.overflow_mul-rest
-overflow_mul-rest c = record { fits = omega (arith, (last (goal.at.overflow_mul-rest c).After-next_digit-d).taken) }
-
-pub overflow_add-rest : goal.overflow_add-rest
-overflow_add-rest c = record { fits = omega (arith, (last (goal.at.overflow_add-rest c).After-next_digit-d).rest) }
-
-pub overflow_mul-result : goal.overflow_mul-result
-overflow_mul-result c = record { fits = omega (arith, (last (goal.at.overflow_mul-result c).After-next_digit-d).root) }
-
-pub overflow_add-result : goal.overflow_add-result
-overflow_add-result c = record { fits = omega (arith, (last (goal.at.overflow_add-result c).After-next_digit-d).root) }
-
-pub overflow_mul-result-2 : goal.overflow_mul-result-2
-overflow_mul-result-2 c = record { fits = omega (arith, (last (goal.at.overflow_mul-result-2 c).After-next_digit-d).scaled) }
+overflow_mul-q c = let s = c.args.s in record { fits = omega (arith, (early s.root s.rem c.args.half c.requires).square) }
 
 pub overflow_mul-result-3 : goal.overflow_mul-result-3
-overflow_mul-result-3 c = record { fits = omega (arith, (last (goal.at.overflow_mul-result-3 c).After-next_digit-d).square) }
+overflow_mul-result-3 c =
+    let s = c.args.s in
+    let d = c.next_digit-d in
+    record { fits = omega (arith, (late s.root s.rem c.args.half c.requires d.result (lowered s.root s.rem c.args.half c.requires d.result d.ensures)).square) }
 
 pub overflow_sub-result : goal.overflow_sub-result
-overflow_sub-result c = (low (goal.at.overflow_sub-result c).After-next_digit-d).within
+overflow_sub-result c = let s = c.args.s in (lowered s.root s.rem c.args.half c.requires c.next_digit-d.result c.next_digit-d.ensures).within
 
-pub returns : goal.returns
-returns c = record { root_of = (low (goal.at.returns c).After-next_digit-d).root; root_bound = (last (goal.at.returns c).After-next_digit-d).root }
+pub returns-clause-root_of : goal.returns-clause-root_of
+returns-clause-root_of c = let s = c.args.s in (lowered s.root s.rem c.args.half c.requires c.next_digit-d.result c.next_digit-d.ensures).root

@@ -3,11 +3,8 @@ use mathlib.Core.Path.{◌≡◌}
 use native.Mathlib.Nat.{div-le_self}
 use native.Mathlib.Omega.{arith}
 use Prim.Native.Nat.{suc, ◌-◌, ◌*◌, ◌/◌, ◌^◌}
-use Rattle.arithmetic.proofs.RootDigits.{root_none, root-next, root-all, root-small, two-small}
+use Rattle.arithmetic.proofs.RootDigits.{root-next, root-small, two-small}
 use Rattle.arithmetic.proofs.root_digits.upper.Goals as goal
-
-pub loop-k-init : goal.loop-k-init
-loop-k-init c = root_none c.args.m c.args.n c.requires.1
 
 pub digit-s-requires : goal.digit-s-requires
 digit-s-requires c =
@@ -23,10 +20,3 @@ loop-k-preserved c =
     let e : at.k ≡ suc (at.k - 1) = omega arith in
     let h : RootOf (m / 2 ^ (2 * suc (at.k - 1))) at.s.root at.s.rem = rw e at at.invariant in
     root-next m (at.k - 1) at.s.root at.s.rem h c.two_at.ensures c.digit-s.ensures
-
-pub returns : goal.returns
-returns c =
-    let at = c.loop-k in
-    let t = c.loop-k-test.false in
-    let e : at.k ≡ 0 = omega arith in
-    root-all _ _ _ (rw e at at.invariant)

@@ -1,5 +1,4 @@
 -- `below` meets its contract: one law of FloorCases for zero, and one for all else.
-use native.Mathlib.Omega.{arith}
 use Prim.Native.Nat.{◌%◌}
 use mathlib.Core.Path.{◌∙◌, ap, sym, subst}
 use mathlib.Core.Bool.{not}
@@ -10,26 +9,21 @@ use Rattle.arithmetic_sine.proofs.FloorLaws.{nearby}
 use Rattle.arithmetic_sine.proofs.FloorCases.{below-zero, less-no_nan, below_other}
 use borrow.Author.Rules.{rules}
 use Rattle.arithmetic_sine.proofs.floors.below.Goals as goal
-use Rattle.arithmetic_sine.proofs.floors.below.Goals.{Else-x, Then-x}
 
-fit1 : (c : Then-x) → T (fits binary64 c.args.x)
-fit1 c = search rules
-
-fit2 : (c : Else-x) → T (fits binary64 c.args.x)
-fit2 c = search rules
-
-pub returns-then-x : goal.returns-then-x
+pub returns-then-x-clause-n_value : goal.returns-then-x-clause-n_value
 unfolding of_bits
-returns-then-x c = record { n_value = below-zero c.args.x (fit1 (goal.at.returns-then-x c).Then-x) c.requires.0 c.requires.1 c.if-x.true; small = omega arith }
+returns-then-x-clause-n_value c = let fit : T (fits binary64 c.args.x) = search rules in below-zero c.args.x fit c.requires.0 c.requires.1 c.if-x.true
 
 pub float_to_bits-result : goal.float_to_bits-result
 unfolding of_bits
 float_to_bits-result c =
-    subst (λ (e : Float). T (not (is_nan (sub binary64 (add binary64 c.args.x magic) e)))) (sym c.excess-over.ensures) (less-no_nan c.args.x (fit2 (goal.at.float_to_bits-result c).Else-x) c.requires.0 c.requires.1)
+    let fit : T (fits binary64 c.args.x) = search rules in
+    subst (λ (e : Float). T (not (is_nan (sub binary64 (add binary64 c.args.x magic) e)))) (sym c.excess-over.ensures) (less-no_nan c.args.x fit c.requires.0 c.requires.1)
 
-pub returns : goal.returns
+pub returns-clause-n_value : goal.returns-clause-n_value
 unfolding of_bits
-returns c =
-    let p = below_other c.args.x (fit2 (goal.at.returns c).Else-x) c.requires.0 c.requires.1 c.if-x.false in
+returns-clause-n_value c =
+    let fit : T (fits binary64 c.args.x) = search rules in
+    let p = below_other c.args.x fit c.requires.0 c.requires.1 c.if-x.false in
     let e = c.excess-over.ensures in
-    record { n_value = (ap (λ (o : Float). sub binary64 (nearby binary64 c.args.x magic) o) e ∙ p.0, ap (λ (o : Float). to_bits binary64 (sub binary64 (add binary64 c.args.x magic) o) % 4) e ∙ p.1); small = omega arith }
+    (ap (λ (o : Float). sub binary64 (nearby binary64 c.args.x magic) o) e ∙ p.0, ap (λ (o : Float). to_bits binary64 (sub binary64 (add binary64 c.args.x magic) o) % 4) e ∙ p.1)

@@ -10,10 +10,6 @@ use Rattle.arithmetic_sine.specs.declared.sine.SinCos.{SinCos}
 use Rattle.arithmetic_sine.proofs.Reduction.{in_reach, range-within, turn-whole}
 use borrow.Author.Rules.{rules}
 use Rattle.arithmetic_sine.proofs.sine.reduced.Goals as goal
-use Rattle.arithmetic_sine.proofs.sine.reduced.Goals.{Start}
-
-fit : (c : Start) → T (fits binary64 c.args.h)
-fit c = search rules
 
 pair_is : (h n s c : Float) (r : SinCos) (k : ℕ) → in_sine_range h ≡ true → n ≡ turns h → k ≡ quarter_of (turns h) → s ≡ sine_kernel (rest h n) → c ≡ cosine_kernel (rest h n)
     → r ≡ sin_cos_by k s c → r ≡ sin_cos_of h
@@ -22,10 +18,7 @@ pair_is h n s c r k e en ek es ec p = rw (p, es, ec, ek, en, e)
 
 pub below-turns-requires : goal.below-turns-requires
 unfolding turn
-below-turns-requires c = let h = c.args.h in turn-whole h (in_reach h (range-within h (fit (goal.at.below-turns-requires c).Start) c.requires))
-
-pub by_quarter-requires : goal.by_quarter-requires
-by_quarter-requires c = c.below-turns.ensures.small
+below-turns-requires c = let h = c.args.h in let fit : T (fits binary64 h) = search rules in turn-whole h (in_reach h (range-within h fit c.requires))
 
 pub returns : goal.returns
 unfolding turn turns rest
