@@ -12,8 +12,8 @@ use Rattle.records_lent.specs.Lists.{all_below}
 use Rattle.records_lent.proofs.TestLaws.{all-at}
 use Rattle.reader_schema.specs.Schema as schema
 use Rattle.reader_schema.specs.Schema.{word_count, column_kind}
-use Rattle.reader_cells.specs.Cells.{byte_at, cell_at}
-use Rattle.reader_cells.specs.declared.values.Cell.TheVariants.{Value}
+use Rattle.reader_cells.specs.Cells.{byte_at, cell_at, span_of}
+use Rattle.std.specs.Prelude.{Option, Some}
 use Rattle.reader_lines.specs.Columns.{no_cells, ordered_column, cell_of, valued_by}
 use Rattle.reader_lines.specs.ValuesLine.{stop_of, values_read, values_at}
 use Rattle.reader_lines.specs.declared.columns.Order.{Order}
@@ -40,8 +40,8 @@ order-test : all_below (λ t. all_below (λ i. eqb (ordered_column (in_order (wo
 unfolding all_below schema.word_count schema.counts
 order-test = refl
 
-abbrev pub good_row : ℕ → Cells → Values
-good_row at cells = record { good = true; next = at; cells = cells }
+abbrev pub good_row : ℕ → Cells → Option Values
+good_row at cells = Some (record { next = at; cells = cells })
 
 module _ (t : ℕ) (small : t < 16) where
   pub columns-some : 0 < word_count t
@@ -87,7 +87,7 @@ module _ (t : ℕ) (small : t < 16) where
         go j false e = let l = ltb-false j (word_count t) e in a.after j l ∙ sym (h.rest j l)
 
     module _ (text : List ℕ) where
-      row_step : (n i at : ℕ) (acc : Cells) (v q : ℕ) → i < word_count t → cell_at text at (column_kind t i) ≡ Value v q → byte_at text q ≡ stop_of n
+      row_step : (n i at : ℕ) (acc : Cells) (v q : ℕ) → i < word_count t → cell_at text at (column_kind t i) ≡ Some (span_of v q) → byte_at text q ≡ stop_of n
           → values_read (suc n) text at t order i acc ≡ values_read n text (q + 1) t order (i + 1) (valued_by acc i v)
       unfolding values_read
       row_step n i at acc v q l a b = rw (straight i l, a, b, eq-eqb (stop_of n) (stop_of n) refl)

@@ -10,7 +10,7 @@ use borrow.Author.Tests.{eqb-true, lt-leb, ltb-true, ltb-false, lt-ltb, le-ltb, 
 use Rattle.records_lent.specs.Lists.{all_below}
 use Rattle.records_lent.proofs.TestLaws.{all-at}
 use Rattle.reader_cells.specs.Cells.{byte_at, digit_of, span_of, decimal_from, natural_at, negative, positive, whole_at, hex_from, hex_at}
-use Rattle.reader_cells.specs.declared.values.Cell.TheVariants.{Value}
+use Rattle.std.specs.Prelude.{Some}
 use Rattle.reader_lines.specs.ValuesLine.{stop_of}
 use Rattle.reader_hex.specs.Digits.{glyph_of, hex_of}
 use Rattle.reader_print_laws.specs.Printing.{decimals_of, whole_of}
@@ -47,7 +47,7 @@ hex_from_lem (suc k) m j n text at rest a l e =
     ∙ hex-step m text (at + k) (n / 16) (n % 16) (here text (at + k) g) (omega arith)
     ∙ rw (p, q)
 
-pub hex-read : (n : ℕ) (text : List ℕ) (at : ℕ) (rest : List ℕ) → n < 2 ^ 64 → drop at text ≡ hex_of 16 n ++ rest → hex_at text at ≡ Value n (at + length (hex_of 16 n))
+pub hex-read : (n : ℕ) (text : List ℕ) (at : ℕ) (rest : List ℕ) → n < 2 ^ 64 → drop at text ≡ hex_of 16 n ++ rest → hex_at text at ≡ Some (span_of n (at + length (hex_of 16 n)))
 unfolding hex_at hex_from
 hex-read n text at rest l e = rw (hex-length 16 n) (hex_from_lem 16 0 16 n text at rest refl l e)
 
@@ -150,12 +150,12 @@ decimals-some k n = go (ltb n 10)
     go true = omega arith
     go false = omega (arith, length-append (decimals_of k (n / 10)) ((48 + n % 10) ∷ []))
 
-pub whole-read : (cell : ℕ) (text : List ℕ) (at r : ℕ) (rest : List ℕ) → 0 < cell → cell < 20000 → drop at text ≡ whole_of cell ++ (stop_of r ∷ rest) → whole_at text at ≡ Value cell (at + length (whole_of cell))
+pub whole-read : (cell : ℕ) (text : List ℕ) (at r : ℕ) (rest : List ℕ) → 0 < cell → cell < 20000 → drop at text ≡ whole_of cell ++ (stop_of r ∷ rest) → whole_at text at ≡ Some (span_of cell (at + length (whole_of cell)))
 unfolding whole_of whole_at
 whole-read cell text at r rest p l = go (ltb cell 10000) refl
   where
     go : (t : Bool) → ltb cell 10000 ≡ t → drop at text ≡ cond t (45 ∷ decimals_of 4 (10000 - cell)) (decimals_of 4 (cell - 10000)) ++ (stop_of r ∷ rest)
-        → cond (eqb (byte_at text at) 45) (negative (natural_at text (at + 1))) (positive at (natural_at text at)) ≡ Value cell (at + length (cond t (45 ∷ decimals_of 4 (10000 - cell)) (decimals_of 4 (cell - 10000))))
+        → cond (eqb (byte_at text at) 45) (negative (natural_at text (at + 1))) (positive at (natural_at text at)) ≡ Some (span_of cell (at + length (cond t (45 ∷ decimals_of 4 (10000 - cell)) (decimals_of 4 (cell - 10000)))))
     go true t e =
         let b = ltb-true cell 10000 t in
         let c : 10000 - (10000 - cell) ≡ cell = omega arith in

@@ -2,26 +2,30 @@
 use Prim.Native.Nat.{ℕ, zero, suc, ◌+◌, ◌-◌, ◌*◌, ◌^◌, ◌<◌, ◌≤◌}
 use native.Mathlib.Omega.{arith}
 use native.Mathlib.Nat.{pow-le-pow_right}
-use mathlib.Core.Path.{◌≡◌, refl, subst}
+use mathlib.Core.Path.{◌≡◌, refl, ap, subst}
 use mathlib.Core.Bool.{Bool, true, false, cond}
 use mathlib.Core.List.{List}
 use lib.Dec.{leb, eqb}
 use borrow.Author.Tests.{leb-false, eqb-false}
 use Rattle.reader_cells.specs.Cells.{byte_at, digit_of, span_of, decimal_from, natural_at, negative, positive, whole_at, hex_from, hex_at, cell_at}
 use Rattle.reader_cells.specs.declared.names.Span.{Span}
-use Rattle.reader_cells.specs.declared.values.Cell.TheVariants.{Value, Broken}
+use Rattle.std.specs.Prelude.{Some, None}
+use Rattle.std.proofs.lemmas.Option.{none-some, same_Some}
 use Rattle.reader_cells.proofs.Digits.{more-below}
 
-no_value : {A : Type 0} {v q : ℕ} → Broken ≡ Value v q → A
-no_value e = let z : ◌≡◌ {A = ℕ} 0 1 = cc in absurd (omega arith)
+no_value : {A : Type 0} {v q : ℕ} → None ≡ Some (span_of v q) → A
+no_value {A} {v} {q} e = absurd (none-some (span_of v q) e)
 
-hex-below : (n m u : ℕ) (text : List ℕ) (at v q : ℕ) → u < 16 ^ m → hex_from n text at u ≡ Value v q → v < 16 ^ (m + n)
+value_is : {u a v q : ℕ} → Some (span_of u a) ≡ Some (span_of v q) → u ≡ v
+value_is e = ap (λ (s : Span). s.value) (same_Some _ _ e)
+
+hex-below : (n m u : ℕ) (text : List ℕ) (at v q : ℕ) → u < 16 ^ m → hex_from n text at u ≡ Some (span_of v q) → v < 16 ^ (m + n)
 unfolding hex_from
-hex-below zero m u text at v q l e = let p : u ≡ v = cc in let r : m ≡ m + 0 = omega arith in subst (λ (w : ℕ). w < 16 ^ (m + 0)) p (subst (λ (k : ℕ). u < 16 ^ k) r l)
+hex-below zero m u text at v q l e = let p : u ≡ v = value_is e in let r : m ≡ m + 0 = omega arith in subst (λ (w : ℕ). w < 16 ^ (m + 0)) p (subst (λ (k : ℕ). u < 16 ^ k) r l)
 hex-below (suc n) m u text at v q l e = go (leb 16 (digit_of (byte_at text at))) refl e (λ d. hex-below n (m + 1) (u * 16 + digit_of (byte_at text at)) text (at + 1) v q (more-below 16 m u (digit_of (byte_at text at)) l d))
   where
-    go : (b : Bool) → leb 16 (digit_of (byte_at text at)) ≡ b → cond b Broken (hex_from n text (at + 1) (u * 16 + digit_of (byte_at text at))) ≡ Value v q
-        → (digit_of (byte_at text at) < 16 → hex_from n text (at + 1) (u * 16 + digit_of (byte_at text at)) ≡ Value v q → v < 16 ^ (m + 1 + n)) → v < 16 ^ (m + suc n)
+    go : (b : Bool) → leb 16 (digit_of (byte_at text at)) ≡ b → cond b None (hex_from n text (at + 1) (u * 16 + digit_of (byte_at text at))) ≡ Some (span_of v q)
+        → (digit_of (byte_at text at) < 16 → hex_from n text (at + 1) (u * 16 + digit_of (byte_at text at)) ≡ Some (span_of v q) → v < 16 ^ (m + 1 + n)) → v < 16 ^ (m + suc n)
     go true t f ih = no_value f
     go false t f ih = let p : m + 1 + n ≡ m + suc n = omega arith in subst (λ (k : ℕ). v < 16 ^ k) p (ih (leb-false 16 (digit_of (byte_at text at)) t) f)
 
@@ -46,25 +50,25 @@ natural-below text at = go (eqb (byte_at text at) 48)
 abbrev IsWhole : ℕ → Type 0
 IsWhole v = (1 ≤ v) × (v ≤ 19999)
 
-negative-whole : (s : Span) (v q : ℕ) → s.value < 10000 → negative s ≡ Value v q → IsWhole v
+negative-whole : (s : Span) (v q : ℕ) → s.value < 10000 → negative s ≡ Some (span_of v q) → IsWhole v
 negative-whole s v q l = go (eqb s.value 0) refl
   where
-    go : (b : Bool) → eqb s.value 0 ≡ b → cond b Broken (Value (10000 - s.value) s.next) ≡ Value v q → IsWhole v
+    go : (b : Bool) → eqb s.value 0 ≡ b → cond b None (Some (span_of (10000 - s.value) s.next)) ≡ Some (span_of v q) → IsWhole v
     go true t e = no_value e
-    go false t e = let z = eqb-false s.value 0 t in let p : 10000 - s.value ≡ v = cc in (omega arith, omega arith)
+    go false t e = let z = eqb-false s.value 0 t in let p : 10000 - s.value ≡ v = value_is e in (omega arith, omega arith)
 
-positive-whole : (at : ℕ) (s : Span) (v q : ℕ) → s.value < 10000 → positive at s ≡ Value v q → IsWhole v
+positive-whole : (at : ℕ) (s : Span) (v q : ℕ) → s.value < 10000 → positive at s ≡ Some (span_of v q) → IsWhole v
 positive-whole at s v q l = go (eqb s.next at)
   where
-    go : (b : Bool) → cond b Broken (Value (10000 + s.value) s.next) ≡ Value v q → IsWhole v
+    go : (b : Bool) → cond b None (Some (span_of (10000 + s.value) s.next)) ≡ Some (span_of v q) → IsWhole v
     go true e = no_value e
-    go false e = let p : 10000 + s.value ≡ v = cc in (omega arith, omega arith)
+    go false e = let p : 10000 + s.value ≡ v = value_is e in (omega arith, omega arith)
 
-whole-whole : (text : List ℕ) (at v q : ℕ) → whole_at text at ≡ Value v q → IsWhole v
+whole-whole : (text : List ℕ) (at v q : ℕ) → whole_at text at ≡ Some (span_of v q) → IsWhole v
 unfolding whole_at
 whole-whole text at v q = go (eqb (byte_at text at) 45)
   where
-    go : (b : Bool) → cond b (negative (natural_at text (at + 1))) (positive at (natural_at text at)) ≡ Value v q → IsWhole v
+    go : (b : Bool) → cond b (negative (natural_at text (at + 1))) (positive at (natural_at text at)) ≡ Some (span_of v q) → IsWhole v
     go true = negative-whole (natural_at text (at + 1)) v q (natural-below text (at + 1))
     go false = positive-whole at (natural_at text at) v q (natural-below text at)
 
@@ -72,9 +76,9 @@ whole-whole text at v q = go (eqb (byte_at text at) 45)
 abbrev pub Sized : ℕ → ℕ → Type 0
 Sized kind v = (kind ≡ 0 → v < 2 ^ 64) × (kind ≡ 1 → (1 ≤ v) × (v ≤ 19999))
 
-pub cell-sized : (text : List ℕ) (at kind v q : ℕ) → cell_at text at kind ≡ Value v q → Sized kind v
+pub cell-sized : (text : List ℕ) (at kind v q : ℕ) → cell_at text at kind ≡ Some (span_of v q) → Sized kind v
 unfolding cell_at hex_at
 cell-sized text at kind v q e = (
-  λ z. hex-below 16 0 0 text at v q (omega arith) (subst (λ (k : ℕ). cell_at text at k ≡ Value v q) z e),
-  λ z. whole-whole text at v q (subst (λ (k : ℕ). cell_at text at k ≡ Value v q) z e),
+  λ z. hex-below 16 0 0 text at v q (omega arith) (subst (λ (k : ℕ). cell_at text at k ≡ Some (span_of v q)) z e),
+  λ z. whole-whole text at v q (subst (λ (k : ℕ). cell_at text at k ≡ Some (span_of v q)) z e),
 )

@@ -10,18 +10,19 @@ use lib.Seq.{get_or-set_same, get_or-set_other}
 use lib.Dec.{eqb}
 use borrow.Author.Tests.{eqb-true, eqb-false}
 use Rattle.reader_schema.specs.Schema.{name_of, limit_of, word_count, column_kind}
-use Rattle.reader_cells.specs.Cells.{byte_at, name_span, cell_at}
-use Rattle.reader_cells.specs.declared.values.Cell.{Cell}
-use Rattle.reader_cells.specs.declared.values.Cell.TheVariants.{Value, Broken}
+use Rattle.reader_cells.specs.Cells.{byte_at, span_of, name_span, cell_at}
+use Rattle.std.specs.Prelude.{Option, Some, None}
+use Rattle.std.proofs.lemmas.Option.{none-some, same_Some}
+use Rattle.reader_cells.specs.declared.names.Span.{Span}
 use Rattle.reader_lines.specs.Columns.{no_cells, ordered_column, cell_of, valued_by}
 use Rattle.reader_lines.specs.NamesLine.{head_at}
-use Rattle.reader_lines.specs.ValuesLine.{no_values, by_cell, stop_of, values_read, values_at}
+use Rattle.reader_lines.specs.ValuesLine.{by_cell, stop_of, values_read, values_at}
 use Rattle.reader_lines.specs.declared.columns.Order.{Order}
 use Rattle.reader_lines.specs.declared.columns.Cells.{Cells}
+use Rattle.reader_lines.specs.declared.names_line.Head.{Head}
 use Rattle.reader_lines.specs.declared.values_line.Values.{Values}
-use Rattle.reader_laws.specs.Lines.{Lines, lines, broken, after, by_lines, lines_at, table_lines, tables_lines, lines_of}
+use Rattle.reader_laws.specs.Lines.{Lines, lines, broken, after, by_row, by_names, by_lines, lines_at, table_lines, tables_lines, lines_of}
 use Rattle.reader_print_laws.specs.PrintReads.{LineFits, TextWithin}
-use Rattle.reader_print_laws.proofs.Places.{no-good}
 use Rattle.reader_text_laws.proofs.Listed.{no_cells_lem, rows-listed}
 use Rattle.reader_print_laws.proofs.Line.{columns-few}
 use Rattle.reader_print_laws.proofs.TextCells.{Sized, cell-sized}
@@ -74,25 +75,26 @@ module _ (t : ℕ) (small : t < 16) where
           rest = a.rest;
         }
 
-    row_from : (n : ℕ) (text : List ℕ) (at i : ℕ) (acc : Cells) → n + i ≡ word_count t → Kept i acc → (values_read n text at t order i acc).good ≡ true → LineSized t (values_read n text at t order i acc).cells
+    row_from : (n : ℕ) (text : List ℕ) (at i : ℕ) (acc : Cells) → n + i ≡ word_count t → Kept i acc → (r : Values) → values_read n text at t order i acc ≡ Some r → LineSized t r.cells
     unfolding values_read
-    row_from zero text at i acc c a = let z : i ≡ word_count t = omega arith in λ g. kept-all acc (subst (λ (m : ℕ). Kept m acc) z a)
-    row_from (suc n) text at i acc c a =
+    row_from zero text at i acc c a r e =
+        let z : i ≡ word_count t = omega arith in
+        subst (LineSized t) (ap (λ (x : Values). x.cells) (same_Some _ _ e)) (kept-all acc (subst (λ (m : ℕ). Kept m acc) z a))
+    row_from (suc n) text at i acc c a r e =
         go (cell_at text at (column_kind t (ordered_column order i))) refl
-        (λ v q e. row_from n text (q + 1) (i + 1) (valued_by acc (ordered_column order i) v) (omega arith) (kept_next i acc v (omega arith) (cell-sized text at (column_kind t (ordered_column order i)) v q e) a))
+        (λ v q e. row_from n text (q + 1) (i + 1) (valued_by acc (ordered_column order i) v) (omega arith) (kept_next i acc v (omega arith) (cell-sized text at (column_kind t (ordered_column order i)) v q e) a) r) e
       where
-        by : (b : Bool) (r : Values) → (r.good ≡ true → LineSized t r.cells) → (cond b r no_values).good ≡ true → LineSized t (cond b r no_values).cells
-        by true r f g = f g
-        by false r f g = no-good g
+        by : (b : Bool) {x : Option Values} → (x ≡ Some r → LineSized t r.cells) → cond b x None ≡ Some r → LineSized t r.cells
+        by true f g = f g
+        by false f g = absurd (none-some r g)
 
-        go : (x : Cell) → cell_at text at (column_kind t (ordered_column order i)) ≡ x
-            → ((v q : ℕ) → cell_at text at (column_kind t (ordered_column order i)) ≡ Value v q → (values_read n text (q + 1) t order (i + 1) (valued_by acc (ordered_column order i) v)).good ≡ true → LineSized t (values_read n text (q + 1) t order (i + 1) (valued_by acc (ordered_column order i) v)).cells)
-            → (by_cell x (λ v q. cond (eqb (byte_at text q) (stop_of n)) (values_read n text (q + 1) t order (i + 1) (valued_by acc (ordered_column order i) v)) no_values)).good ≡ true
-            → LineSized t (by_cell x (λ v q. cond (eqb (byte_at text q) (stop_of n)) (values_read n text (q + 1) t order (i + 1) (valued_by acc (ordered_column order i) v)) no_values)).cells
-        go Broken e f g = no-good g
-        go (Value v q) e f g = by (eqb (byte_at text q) (stop_of n)) (values_read n text (q + 1) t order (i + 1) (valued_by acc (ordered_column order i) v)) (f v q e) g
+        go : (x : Option Span) → cell_at text at (column_kind t (ordered_column order i)) ≡ x
+            → ((v q : ℕ) → cell_at text at (column_kind t (ordered_column order i)) ≡ Some (span_of v q) → values_read n text (q + 1) t order (i + 1) (valued_by acc (ordered_column order i) v) ≡ Some r → LineSized t r.cells)
+            → by_cell x (λ v q. cond (eqb (byte_at text q) (stop_of n)) (values_read n text (q + 1) t order (i + 1) (valued_by acc (ordered_column order i) v)) None) ≡ Some r → LineSized t r.cells
+        go None e f g = absurd (none-some r g)
+        go (Some x) e f g = by (eqb (byte_at text x.next) (stop_of n)) (f x.value x.next e) g
 
-    row_sized : (text : List ℕ) (at : ℕ) → (values_at text at t order).good ≡ true → LineSized t (values_at text at t order).cells
+    row_sized : (text : List ℕ) (at : ℕ) (r : Values) → values_at text at t order ≡ Some r → LineSized t r.cells
     unfolding values_at
     row_sized text at = row_from (word_count t) text at 0 no_cells (omega arith) kept-start
 
@@ -121,24 +123,25 @@ module _ (t : ℕ) (small : t < 16) where
         go : (a : Bool) → LinesSized 0 (cond a (lines [] (at + 1)) broken)
         go true = none-sized 0 (at + 1)
         go false = tt
-    lines-sized (suc fuel) at = go (eqb (byte_at text at) 10) (values_at text at t order).good (row_sized order full text at) (lines_at fuel t order text (values_at text at t order).next) (lines-sized fuel (values_at text at t order).next)
+    lines-sized (suc fuel) at = go (eqb (byte_at text at) 10) (values_at text at t order) (row_sized order full text at) (λ next. lines-sized fuel next)
       where
-        go : (a b : Bool) → (b ≡ true → LineSized t (values_at text at t order).cells) → (p : Lines) → LinesSized fuel p → LinesSized (suc fuel) (cond a (lines [] (at + 1)) (cond b (after (values_at text at t order).cells p) broken))
-        go true b r p h = none-sized (suc fuel) (at + 1)
-        go false true r p h = after-sized fuel (values_at text at t order).cells p (r refl) h
-        go false false r p h = tt
+        go : (a : Bool) (x : Option Values) → ((r : Values) → x ≡ Some r → LineSized t r.cells) → ((next : ℕ) → LinesSized fuel (lines_at fuel t order text next))
+            → LinesSized (suc fuel) (cond a (lines [] (at + 1)) (by_row x (λ cells next. after cells (lines_at fuel t order text next))))
+        go true x r h = none-sized (suc fuel) (at + 1)
+        go false (Some row) r h = after-sized fuel row.cells (lines_at fuel t order text row.next) (r row refl) (h row.next)
+        go false None r h = tt
 
   table-sized : (text : List ℕ) (at : ℕ) → LinesSized (limit_of t) (table_lines t text at)
   unfolding table_lines
   table-sized text at =
-      go (eqb (name_span text at).value (name_of t)) (head_at text (name_span text at).next t).good
-      (lines_at (limit_of t) t (head_at text (name_span text at).next t).order text (head_at text (name_span text at).next t).next)
-      (λ g. lines-sized (head_at text (name_span text at).next t).order (head-full t small text (name_span text at).next g) text (limit_of t) (head_at text (name_span text at).next t).next)
+      go (eqb (name_span text at).value (name_of t)) (head_at text (name_span text at).next t)
+      (λ head e. lines-sized head.order (head-full t small text (name_span text at).next head e) text (limit_of t) head.next)
     where
-      go : (a b : Bool) (p : Lines) → (b ≡ true → LinesSized (limit_of t) p) → LinesSized (limit_of t) (cond a (cond b p broken) (lines [] at))
-      go true true p f = f refl
-      go true false p f = tt
-      go false b p f = none-sized (limit_of t) at
+      go : (a : Bool) (x : Option Head) → ((head : Head) → x ≡ Some head → LinesSized (limit_of t) (lines_at (limit_of t) t head.order text head.next))
+          → LinesSized (limit_of t) (cond a (by_names x (λ order next. lines_at (limit_of t) t order text next)) (lines [] at))
+      go true (Some head) f = f head refl
+      go true None f = tt
+      go false x f = none-sized (limit_of t) at
 
 -- ---- the tables
 

@@ -11,8 +11,8 @@ use Rattle.records_lent.specs.Lists.{all_below}
 use Rattle.records_lent.proofs.TestLaws.{all-at, chain-at}
 use Rattle.reader_schema.specs.Schema as schema
 use Rattle.reader_schema.specs.Schema.{word_count, place_of}
-use Rattle.reader_cells.specs.Cells.{byte_at, name_from, name_span, listed_at, cell_at}
-use Rattle.reader_cells.specs.declared.values.Cell.TheVariants.{Value}
+use Rattle.reader_cells.specs.Cells.{byte_at, name_from, name_span, listed_at, cell_at, span_of}
+use Rattle.std.specs.Prelude.{Some}
 use Rattle.reader_lines.specs.ValuesLine.{stop_of}
 use Rattle.reader_hex.specs.Digits.{glyph_of, hex_of}
 use Rattle.reader_print_laws.specs.Printing.{words_of, decimals_of, whole_of, printed_word}
@@ -120,7 +120,7 @@ unfolding all_below schema.word_count schema.counts schema.words schema.word_of 
 read-test zero rest = refl
 read-test (suc r) rest = refl
 
-listed-read : (list i : ℕ) (text : List ℕ) (at r : ℕ) (rest : List ℕ) → i < word_count list → drop at text ≡ get_or (words_of list) i [] ++ (stop_of r ∷ rest) → listed_at text at list ≡ Value i (at + length (get_or (words_of list) i []))
+listed-read : (list i : ℕ) (text : List ℕ) (at r : ℕ) (rest : List ℕ) → i < word_count list → drop at text ≡ get_or (words_of list) i [] ++ (stop_of r ∷ rest) → listed_at text at list ≡ Some (span_of i (at + length (get_or (words_of list) i [])))
 unfolding listed_at
 listed-read list i text at r rest h e =
     let w = get_or (words_of list) i [] ++ (stop_of r ∷ rest) in
@@ -142,7 +142,7 @@ cell-word zero cell h = hex-word cell
 cell-word (suc zero) cell h = whole_word cell
 cell-word (suc (suc n)) cell h = rw (above_zero n, above-one n) (listed-word (suc (suc n)) cell (h.listed (omega arith)))
 
-pub cell-read : (kind cell : ℕ) (text : List ℕ) (at r : ℕ) (rest : List ℕ) → CellFits kind cell → drop at text ≡ printed_word kind cell ++ (stop_of r ∷ rest) → cell_at text at kind ≡ Value cell (at + length (printed_word kind cell))
+pub cell-read : (kind cell : ℕ) (text : List ℕ) (at r : ℕ) (rest : List ℕ) → CellFits kind cell → drop at text ≡ printed_word kind cell ++ (stop_of r ∷ rest) → cell_at text at kind ≡ Some (span_of cell (at + length (printed_word kind cell)))
 unfolding cell_at printed_word
 cell-read zero cell text at r rest h = hex-read cell text at (stop_of r ∷ rest) (h.number refl)
 cell-read (suc zero) cell text at r rest h = let w = h.whole refl in whole-read cell text at r rest (omega arith) (omega arith)

@@ -3,7 +3,8 @@
 -- Row 2's other test, "the text is over 65,536 bytes", precedes all lines and is outside: at the limits of all tables together the lines need more bytes.
 use Rattle.std.specs.Prelude.{ℕ, ◌+◌, ◌^◌, ◌<◌, ◌≤◌, ◌≡◌, List, length, get_or, Float}
 use Rattle.reader_schema.specs.Tables.{road_table, table_count, columns_most}
-use Rattle.reader_schema.specs.Schema.{an_f64, a_whole, kind_by, limit_of, word_count, column_kind}
+use Rattle.reader_schema.specs.declared.tables.Kind.TheVariants.{Number, Whole}
+use Rattle.reader_schema.specs.Schema.{kind_by, limit_of, word_count, column_kind}
 use Rattle.reader_cells.specs.Cells.{whole_bias, byte_at}
 use Rattle.reader_lines.specs.Columns.{no_cells, cell_of}
 use Rattle.reader_lines.specs.declared.columns.Cells.{Cells}
@@ -14,8 +15,8 @@ use Rattle.reader_print_laws.specs.Printing.{printed}
 
 -- A cell, by what its column holds: any pattern of an f64; whole_bias + n for a whole number n of "up to 4 digits", -9,999 to 9,999; the place of one of the column's listed words
 pub record CellFits (kind cell : ℕ) : Type 0 where
-  pub number : kind ≡ kind_by an_f64 → cell < 2 ^ 64
-  pub whole : kind ≡ kind_by a_whole → (1 ≤ cell) × (cell ≤ whole_bias + 9999)
+  pub number : kind ≡ kind_by Number → cell < 2 ^ 64
+  pub whole : kind ≡ kind_by Whole → (1 ≤ cell) × (cell ≤ whole_bias + 9999)
   pub listed : 1 < kind → cell < word_count kind
 
 -- A line of a table, its cells by column in 01's order: a cell for each column. A line has eight places, and those past the table's columns hold 0.

@@ -3,7 +3,8 @@
 use Rattle.std.specs.Prelude.{ℕ, zero, suc, ◌+◌, ◌-◌, ◌/◌, ◌%◌, cond, List, [], ◌∷◌, ◌++◌, map, get_or, eqb, ltb}
 use Prim.Native.String.{String}
 use Rattle.reader_schema.specs.Tables.{road_table, table_count}
-use Rattle.reader_schema.specs.Schema.{an_f64, a_whole, kind_by, Table, tables, lists, word_count, column_kind}
+use Rattle.reader_schema.specs.declared.tables.Kind.TheVariants.{Number, Whole}
+use Rattle.reader_schema.specs.Schema.{kind_by, Table, tables, lists, word_count, column_kind}
 use Rattle.reader_cells.specs.Cells.{whole_bias}
 use Rattle.reader_lines.specs.Columns.{cell_of}
 use Rattle.reader_lines.specs.declared.columns.Cells.{Cells}
@@ -38,7 +39,7 @@ whole_of cell = cond (ltb cell whole_bias) (45 ∷ decimals_of 4 (whole_bias - c
 
 -- a cell by its column's kind: "An f64 is its 16 lowercase hexadecimal digits", a whole number, else the word of that list at that place
 unfoldable pub printed_word : ℕ → ℕ → List ℕ
-printed_word kind cell = cond (eqb kind (kind_by an_f64)) (hex_of 16 cell) (cond (eqb kind (kind_by a_whole)) (whole_of cell) (get_or (words_of kind) cell []))
+printed_word kind cell = cond (eqb kind (kind_by Number)) (hex_of 16 cell) (cond (eqb kind (kind_by Whole)) (whole_of cell) (get_or (words_of kind) cell []))
 
 -- "lines of values in that order": the words of n columns, from column i on
 unfoldable pub values_from : ℕ → ℕ → ℕ → Cells → List (List ℕ)
