@@ -150,7 +150,7 @@ impl Vector {
     }
 }
 
-// The place t of the way from a to b; t is not clamped.
+// The place t of the way from a to b; t is not clamped. Not one generic function with the next: the way between two places is no operator, so it would need a trait of its own.
 pub fn place_between(a: Point, b: Point, t: f32) -> Point
     ensures { result ≡ place_between a b t }
 {

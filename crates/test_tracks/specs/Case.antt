@@ -1,5 +1,5 @@
 -- What a line asks: a call on the track that was set, held against the answer that the line has. Read `verdict_of` first.
-use Rattle.std.specs.Prelude.{ℕ, ◌+◌, ◌%◌, ◌^◌, Bool, true, false, cond, ◌&&◌, List, [], ◌∷◌, length, drop, ◌==◌, from_bits, nat_eq, slice_index, slice_index_or, Float}
+use Rattle.std.specs.Prelude.{ℕ, ◌+◌, ◌%◌, ◌^◌, Bool, cond, ◌&&◌, List, [], ◌∷◌, length, drop, ◌==◌, from_bits, nat_eq, slice_index, slice_index_or, Float}
 use Rattle.std.specs.Float.{binary32, nan}
 use Rattle.float_laws.specs.Binary32.{zero32}
 use Rattle.refusals.specs.Answer.{Answer, value, refused}

@@ -8,7 +8,7 @@ pub(crate) fn number(bits: u32) -> f32
     ensures { result ≡ from_bits binary32 bits }
 {
     if 0x7f80_0000 < bits % 0x8000_0000 {
-        0.0f32 / 0.0f32
+        f32::NAN
     } else {
         f32::from_bits(bits)
     }
@@ -22,7 +22,7 @@ pub(crate) fn pattern(x: f32) -> u32
     if x == 0.0 {
         return 0;
     }
-    if x != x {
+    if x.is_nan() {
         return 0x7fc0_0000;
     }
     f32::to_bits(x)
