@@ -1,4 +1,5 @@
-// The text that is written, in memory of its own: bytes, digits and numbers are put behind what stands there.
+// The text that is written, in memory of its own: bytes, digits and numbers are put behind what stands there. The contract of `write!` says
+// nothing where it fails, and no line that fits may be lost, so it is not used here.
 ghost use Rattle.std.specs.Prelude.{◌≡◌, ◌+◌, ◌≤◌, ◌<◌, ℕ, List, [], ◌∷◌, ◌++◌, length, take};
 ghost use Rattle.reader_hex.specs.Digits.{glyph_of, hex_of};
 ghost use Rattle.refusals.specs.Refusal.{number_of};

@@ -2,25 +2,36 @@
 ghost use Rattle.std.specs.Prelude.{◌≡◌, length};
 ghost use Rattle.admission.specs.Admission.{admit_call};
 ghost use Rattle.line_calls.specs.SampleCall.{samples_call};
-ghost use Rattle.test_admission.specs.Case.{admission_word, samples_word};
+ghost use Rattle.test_admission.specs.Case.{admission_word, samples_word, call_word};
 
 use admission::Verdict;
 use line_calls::Sampled;
 
-pub(crate) fn admission_answer(words: &[u16], numbers: &[f64]) -> u64
+fn admission_answer(words: &[u16], numbers: &[f64]) -> u64
     ensures { result ≡ admission_word (admit_call words.now numbers.now) }
 {
     match admission_calls::admit(words, numbers) {
         Verdict::Admitted => 0,
-        Verdict::Refused(why) => refusals::number(why) as u64,
+        Verdict::Refused(why) => u64::from(u32::from(why)),
     }
 }
 
-pub(crate) fn samples_answer(words: &[u16], numbers: &[f64], samples: &mut [f64]) -> u64
+fn samples_answer(words: &[u16], numbers: &[f64], samples: &mut [f64]) -> u64
     ensures { result ≡ samples_word (samples_call words.now numbers.now (length samples.old)) }
 {
     match line_calls::samples(words, numbers, samples) {
-        Sampled::Made(n) => std::num::wrapping_add_u64(n as u64, 0x8000_0000_0000_0000),
-        Sampled::Refused(why) => refusals::number(why) as u64,
+        Sampled::Made(n) => (n as u64).wrapping_add(0x8000_0000_0000_0000),
+        Sampled::Refused(why) => u64::from(u32::from(why)),
     }
+}
+
+// What a call answers: admission to the letter a, samples to any other.
+#[tactic(auto, unfolding(crate::specs::Case::call_word))]
+pub(crate) fn answer(letter: u8, words: &[u16], numbers: &[f64], samples: &mut [f64]) -> u64
+    ensures { result ≡ call_word letter words.now numbers.now (length samples.old) }
+{
+    if letter == b'a' {
+        return admission_answer(words, numbers);
+    }
+    samples_answer(words, numbers, samples)
 }

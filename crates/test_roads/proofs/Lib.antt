@@ -1,2 +1,1 @@
-pub mod AnswerNumbers
 pub mod IdNumbers

@@ -1,5 +1,6 @@
 // What the crates answer, number by number.
 ghost use Rattle.std.specs.Prelude.{◌≡◌, length};
+ghost use Rattle.refusals.specs.Answer.{value};
 ghost use Rattle.records.specs.Roads.{lent_road};
 ghost use Rattle.line_pose.specs.Poses.{pose_of};
 ghost use Rattle.line_calls.specs.SampleCall.{samples_call, samples_list};
@@ -9,6 +10,7 @@ ghost use Rattle.test_roads.specs.Case.{pose_part, across_part, lane_across, tow
 use lanes_calls::{Bordered, Named};
 use line_calls::Sampled;
 use reader_hex::of_bits;
+use test_support::Line;
 
 // x, y and heading of a pose.
 fn pose_part(
@@ -30,6 +32,7 @@ fn pose_part(
 }
 
 // The two borders of a lane and its height at each.
+#[tactic(auto, unfolding(crate::specs::Case::lane_across))]
 fn across_part(words: &[u16], numbers: &[f64], s: f64, lane: u64, part: u64) -> f64
     ensures { result ≡ across_part (lane_across (lent_road words numbers) s lane) part }
 {
@@ -69,27 +72,27 @@ fn name(words: &[u16], numbers: &[f64], s: f64, t: f64) -> f64
     }
 }
 
-// The part of an answer that a letter asks for; lent holds the samples, or what was last written into it.
-pub(crate) fn answer(
-    letter: u8,
-    a: u64,
-    b: u64,
-    part: u64,
-    words: &[u16],
-    numbers: &[f64],
-    lent: &[f64],
-) -> f64
-    ensures { result ≡ answer_part letter a b part words.now numbers.now lent.now }
+// The part of an answer that a line asks for; lent holds the samples, or what was last written into it.
+#[tactic(auto, unfolding(crate::specs::Case::answer_part))]
+pub(crate) fn answer(line: Line, part: u64, words: &[u16], numbers: &[f64], lent: &[f64]) -> f64
+    ensures { result ≡ answer_part line.letter line.a line.b part words.now numbers.now lent.now }
 {
-    let x = of_bits(a);
-    let y = of_bits(b);
-    match letter {
-        b'p' => pose_part(words, numbers, lent, a, y, part),
-        b'h' => across_part(words, numbers, x, b, part),
+    let x = of_bits(line.a);
+    let y = of_bits(line.b);
+    match line.letter {
+        b'p' => pose_part(words, numbers, lent, line.a, y, part),
+        b'h' => across_part(words, numbers, x, line.b, part),
         b't' => lanes_shape::height_toward(words, numbers, x, y, toward(part)),
         b'l' => name(words, numbers, x, y),
-        _ => records_lent::number(lent, std::num::wrapping_add_u64(a, part) as usize),
+        _ => records_lent::number(lent, line.a.wrapping_add(part) as usize),
     }
+}
+
+// A count of samples or lanes as n + 2^63.
+fn count_bits(n: usize) -> u64
+    ensures { result ≡ count_word (value n) }
+{
+    (n as u64).wrapping_add(0x8000_0000_0000_0000)
 }
 
 fn samples_word(words: &[u16], numbers: &[f64], lent: &mut [f64]) -> u64
@@ -97,8 +100,8 @@ fn samples_word(words: &[u16], numbers: &[f64], lent: &mut [f64]) -> u64
     ensures lent_after { lent.new ≡ samples_list words.now numbers.now lent.old }
 {
     match line_calls::samples(words, numbers, lent) {
-        Sampled::Made(n) => std::num::wrapping_add_u64(n as u64, 0x8000_0000_0000_0000),
-        Sampled::Refused(why) => refusals::number(why) as u64,
+        Sampled::Made(n) => count_bits(n),
+        Sampled::Refused(why) => u64::from(u32::from(why)),
     }
 }
 
@@ -107,12 +110,13 @@ fn borders_word(words: &[u16], numbers: &[f64], s: f64, lent: &mut [f64]) -> u64
     ensures lent_after { lent.new ≡ borders_list words.now numbers.now s lent.old }
 {
     match lanes_calls::borders(words, numbers, s, lent) {
-        Bordered::Lanes(n) => std::num::wrapping_add_u64(n as u64, 0x8000_0000_0000_0000),
-        Bordered::Refused(why) => refusals::number(why) as u64,
+        Bordered::Lanes(n) => count_bits(n),
+        Bordered::Refused(why) => u64::from(u32::from(why)),
     }
 }
 
 // Writes the borders at s for the letter b, the samples for any other, and answers how many.
+#[tactic(auto, unfolding(crate::specs::Case::filled_of, crate::specs::Case::filled_list))]
 pub(crate) fn fill(letter: u8, s: u64, words: &[u16], numbers: &[f64], lent: &mut [f64]) -> u64
     ensures value { result ≡ count_word (filled_of letter s words.now numbers.now (length lent.old)) }
     ensures lent_after { lent.new ≡ filled_list letter s words.now numbers.now lent.old }

@@ -9,11 +9,12 @@ use reader_hex::of_bits;
 use refusals::Refusal;
 use std::num::f32_to_f64_with_nan;
 use surface_calls::{Located, Oriented, Stationed, Surfaced};
+use test_support::Line;
 
 fn refusal(why: Refusal) -> [f64; 10]
     ensures { result ≡ refusal_numbers (number_of why) }
 {
-    let number = refusals::number(why) as f64;
+    let number = f64::from(u32::from(why));
     [number, 0.0, 0.0, 0.0, 0.0, 0.0, 0.0, 0.0, 0.0, 0.0]
 }
 
@@ -95,21 +96,20 @@ fn id(n: u64) -> i32
     if n % 2 == 1 { -1 - k } else { k }
 }
 
-// The row of the call that a letter asks for; with is its third argument: the id of a lane, or a guess.
+// The row of the call that a line asks for; with is its third argument: the id of a lane, or a guess.
+#[tactic(auto, unfolding(crate::specs::CallNumbers::call_numbers))]
 pub(crate) fn call(
-    letter: u8,
-    a: u64,
-    b: u64,
+    line: Line,
     with: u64,
     words: &[u16],
     numbers: &[f64],
     samples: &[f64],
 ) -> [f64; 10]
-    ensures { result ≡ call_numbers letter a b with words.now numbers.now samples.now }
+    ensures { result ≡ call_numbers line.letter line.a line.b with words.now numbers.now samples.now }
 {
-    let x = of_bits(a);
-    let y = of_bits(b);
-    match letter {
+    let x = of_bits(line.a);
+    let y = of_bits(line.b);
+    match line.letter {
         b'q' => stationed(surface_calls::station(words, numbers, samples, x)),
         b'a' => oriented(surface_calls::axes(words, numbers, samples, x)),
         b'u' => surfaced(surface_calls::surface(words, numbers, samples, x, y)),

@@ -5,7 +5,6 @@
 mod answers;
 mod calls;
 mod lines;
-mod memory;
 mod patterns;
 
 use std::io;

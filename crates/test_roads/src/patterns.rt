@@ -4,6 +4,7 @@ ghost use Rattle.test_roads.specs.Case.{pattern_of};
 
 use reader_hex::bits_of;
 
+#[tactic(auto, unfolding(crate::specs::Case::pattern_of))]
 pub(crate) fn pattern(x: f64) -> u64
     ensures { result ≡ pattern_of x }
 {

@@ -1,7 +1,0 @@
--- One value, so many times.
-use Rattle.std.proofs.Common.{ℕ, sym}
-use lib.ListN.{length-replicate}
-use Rattle.test_roads.proofs.memory.text_space.Goals as goal
-
-pub returns : goal.returns
-returns c = sym (length-replicate {A = ℕ} 648000 0)
