@@ -7,8 +7,8 @@ use mathlib.Core.List.{List, ◌++◌}
 use lib.Dec.{leb}
 use lib.Ieee.{Float}
 use borrow.Author.Tests.{leb-true}
-use Rattle.refusals.specs.Answer.{Answer, value, refused, Row, checked}
-use Rattle.records.specs.Roads.{Road, road_of}
+use Rattle.refusals.specs.Answer.{Answer, value, Row, checked}
+use Rattle.records.specs.Roads.{road_of}
 use Rattle.admission_structure.specs.Structure.{structured}
 use Rattle.admission_order.specs.Order.{ordered}
 use Rattle.admission.specs.Limits.{limited}
