@@ -1,2 +1,1 @@
 mod Greatest
-mod Parts

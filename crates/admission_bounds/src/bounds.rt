@@ -15,7 +15,8 @@ fn end_at(cubics: &Cubics, end: f64, i: usize) -> f64
     requires { i < length cubics.now }
     ensures { result ≡ end_at cubics.now end i }
 {
-    if i + 1 < cubics.len() {
+    let n = cubics.len();
+    if i + 1 < n {
         cubics.get(i + 1).start
     } else {
         end
@@ -23,6 +24,7 @@ fn end_at(cubics: &Cubics, end: f64, i: usize) -> f64
 }
 
 // The reach D of the i-th cubic.
+#[tactic(auto, unfolding(crate::specs::Bounds::reach_at))]
 fn reach(cubics: &Cubics, end: f64, i: usize) -> f64
     requires { i < length cubics.now }
     ensures { result ≡ reach_at cubics.now end i }
@@ -32,6 +34,7 @@ fn reach(cubics: &Cubics, end: f64, i: usize) -> f64
 }
 
 // The bound B of a cubic over a reach d.
+#[tactic(auto, unfolding(crate::specs::Bounds::bound_of))]
 pub fn bound(c: Cubic, d: f64) -> f64
     ensures { result ≡ bound_of c d }
 {
@@ -39,6 +42,7 @@ pub fn bound(c: Cubic, d: f64) -> f64
 }
 
 // The bound of a cubic's slope over a reach d.
+#[tactic(auto, unfolding(crate::specs::Bounds::slope_bound_of))]
 pub fn slope_bound(c: Cubic, d: f64) -> f64
     ensures { result ≡ slope_bound_of c d }
 {
@@ -54,13 +58,13 @@ fn bound_at(cubics: &Cubics, end: f64, i: usize) -> f64
     bound(c, reach(cubics, end, i))
 }
 
+#[tactic(auto, unfolding(crate::specs::Bounds::cubic_within))]
 fn cubic_within(cubics: &Cubics, lo: f64, hi: f64, end: f64, limit: f64, i: usize) -> bool
     requires { i < length cubics.now }
     ensures { result ≡ cubic_within cubics.now lo hi end limit i }
 {
     let c = cubics.get(i);
-    let b = bound_at(cubics, end, i);
-    in_range(lo, hi, c.start) & (b <= limit)
+    in_range(lo, hi, c.start) && (bound_at(cubics, end, i) <= limit)
 }
 
 // Every start in lo..hi and every B at most the limit, of a list that ends at end.

@@ -51,7 +51,7 @@ fn lane_in_order(road: &LentRoad, place: LanePlace) -> bool
     ensures { result ≡ lane_in_order (lane_of road.now place.section place.right place.k) }
 {
     let lane = lane(road, place);
-    cubics_in_order(&lane.extents) & heights_apart(&lane.heights)
+    cubics_in_order(&lane.extents) && heights_apart(&lane.heights)
 }
 
 // The lanes of a side.
@@ -62,10 +62,11 @@ fn side_in_order(road: &LentRoad, section: usize, right: bool) -> bool
     (0..n).all(|k| lane_in_order(road, LanePlace { section, right, k }))
 }
 
+#[tactic(auto, unfolding(crate::specs::Order::section_in_order))]
 fn section_in_order(road: &LentRoad, i: usize) -> bool
     ensures { result ≡ section_in_order road.now i }
 {
-    side_in_order(road, i, false) & side_in_order(road, i, true)
+    side_in_order(road, i, false) && side_in_order(road, i, true)
 }
 
 fn sections_in_order(road: &LentRoad) -> bool
@@ -102,29 +103,31 @@ fn strips_in_order(road: &LentRoad) -> bool
 fn first_at_zero(road: &LentRoad) -> bool
     ensures { result ≡ eq (geom_at road.now 0).s zero64 && eq (section_of road.now 0).start zero64 }
 {
-    (geom(road, 0).s == 0.0) & (section_start(road, 0) == 0.0)
+    (geom(road, 0).s == 0.0) && (section_start(road, 0) == 0.0)
 }
 
 // The flat tables of cubics.
 fn flat_in_order(road: &LentRoad) -> bool
     ensures { result ≡ cubics_in_order road.now.elevations && cubics_in_order road.now.superelevations && cubics_in_order road.now.offsets && cubics_in_order road.now.tshifts }
 {
-    let elevations = cubics_in_order(&road.elevations());
-    let banks = cubics_in_order(&road.superelevations());
-    let offsets = cubics_in_order(&road.offsets());
-    let tshifts = cubics_in_order(&road.tshifts());
-    elevations & banks & offsets & tshifts
+    cubics_in_order(&road.elevations())
+        && cubics_in_order(&road.superelevations())
+        && cubics_in_order(&road.offsets())
+        && cubics_in_order(&road.tshifts())
 }
 
 // Whether the starts of a road's lists are in the order that row 3 asks for.
+#[tactic(auto, unfolding(crate::specs::Order::ordered, crate::specs::Order::profiles_in_order))]
 pub fn ordered(road: &LentRoad) -> bool
     ensures { result ≡ ordered road.now }
 {
-    let first = first_at_zero(road);
-    let along = first & geoms_in_order(road) & sections_rise(road);
-    let flat = flat_in_order(road);
-    let sections = sections_in_order(road);
-    let profiles = profiles_apart(road) & shapes_in_order(road);
-    let strips = strips_in_order(road);
-    along & flat & sections & profiles & strips & marks_in_order(road)
+    first_at_zero(road)
+        && geoms_in_order(road)
+        && sections_rise(road)
+        && flat_in_order(road)
+        && sections_in_order(road)
+        && profiles_apart(road)
+        && shapes_in_order(road)
+        && strips_in_order(road)
+        && marks_in_order(road)
 }

@@ -1,3 +1,2 @@
 pub mod StructureLaws
 pub mod RangeLaws
-pub mod WordLaws

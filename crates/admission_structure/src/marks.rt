@@ -20,6 +20,7 @@ fn on_lanes(words: &[u16], first: usize, n: usize, lanes: usize) -> bool
 }
 
 // A section's marks: their number first, then the lane of each.
+#[tactic(auto, unfolding(crate::specs::Structure::marks_ok))]
 fn section_marks_ok(words: &[u16], numbers: &[f64], i: usize) -> bool
     requires { i < 65536 }
     ensures { result ≡ marks_ok words.now numbers.now i }
@@ -29,11 +30,8 @@ fn section_marks_ok(words: &[u16], numbers: &[f64], i: usize) -> bool
     let count = word(words, k + 1);
     let section = SECTION_WORDS + i * SECTION_STRIDE;
     let lanes = word(words, section + 1) + word(words, section + 2);
-    if range_ok(0, MOST_MARKS_A_SECTION, MOST_MARKS, first, count) {
-        on_lanes(words, first, count, lanes)
-    } else {
-        false
-    }
+    range_ok(0, MOST_MARKS_A_SECTION, MOST_MARKS, first, count)
+        && on_lanes(words, first, count, lanes)
 }
 
 pub(crate) fn marks_ok(words: &[u16], numbers: &[f64]) -> bool

@@ -23,20 +23,21 @@ pub(crate) fn range_ok(least: usize, most: usize, limit: usize, first: usize, co
     (least <= count) & (count <= most) & (first + count <= limit)
 }
 
+#[tactic(auto, unfolding(crate::specs::Structure::counts_ok))]
 fn counts_ok(words: &[u16], numbers: &[f64]) -> bool
     ensures { result ≡ counts_ok words.now numbers.now }
 {
     let geoms = word(words, GEOM_COUNT_AT);
     let sections = word(words, SECTION_COUNT_AT);
-    let bounded = (1 <= geoms) & (geoms <= MOST_GEOMS);
-    let flat = bounded
-        & (word(words, ELEV_COUNT_AT) <= MOST_ELEVS)
-        & (word(words, BANK_COUNT_AT) <= MOST_BANKS)
-        & (word(words, OFFSET_COUNT_AT) <= MOST_OFFSETS)
-        & (word(words, TSHIFT_COUNT_AT) <= MOST_SHIFTS);
-    flat & (1 <= sections)
-        & (sections <= MOST_SECTIONS)
-        & (word(words, PROFILE_COUNT_AT) <= MOST_PROFILES)
+    (1 <= geoms)
+        && (geoms <= MOST_GEOMS)
+        && (word(words, ELEV_COUNT_AT) <= MOST_ELEVS)
+        && (word(words, BANK_COUNT_AT) <= MOST_BANKS)
+        && (word(words, OFFSET_COUNT_AT) <= MOST_OFFSETS)
+        && (word(words, TSHIFT_COUNT_AT) <= MOST_SHIFTS)
+        && (1 <= sections)
+        && (sections <= MOST_SECTIONS)
+        && (word(words, PROFILE_COUNT_AT) <= MOST_PROFILES)
 }
 
 fn kinds_ok(words: &[u16], numbers: &[f64]) -> bool
@@ -47,6 +48,7 @@ fn kinds_ok(words: &[u16], numbers: &[f64]) -> bool
 }
 
 // The j-th lane's codes and ranges.
+#[tactic(auto, unfolding(crate::specs::Structure::lane_ok))]
 fn lane_ok(words: &[u16], numbers: &[f64], j: usize) -> bool
     requires { j < 262144 }
     ensures { result ≡ lane_ok words.now numbers.now j }
@@ -78,6 +80,7 @@ fn lanes_ok(words: &[u16], numbers: &[f64], first: usize, n: usize) -> bool
 }
 
 // A section's lanes: their number first, then each.
+#[tactic(auto, unfolding(crate::specs::Structure::section_ok))]
 fn section_ok(words: &[u16], numbers: &[f64], i: usize) -> bool
     requires { i < 65536 }
     ensures { result ≡ section_ok words.now numbers.now i }
@@ -86,14 +89,10 @@ fn section_ok(words: &[u16], numbers: &[f64], i: usize) -> bool
     let first = word(words, k);
     let left = word(words, k + 1);
     let right = word(words, k + 2);
-    if (left <= MOST_LANES_A_SIDE)
-        & (right <= MOST_LANES_A_SIDE)
-        & (first + (left + right) <= MOST_LANES)
-    {
-        lanes_ok(words, numbers, first, left + right)
-    } else {
-        false
-    }
+    (left <= MOST_LANES_A_SIDE)
+        && (right <= MOST_LANES_A_SIDE)
+        && (first + (left + right) <= MOST_LANES)
+        && lanes_ok(words, numbers, first, left + right)
 }
 
 fn sections_ok(words: &[u16], numbers: &[f64]) -> bool
@@ -103,6 +102,7 @@ fn sections_ok(words: &[u16], numbers: &[f64]) -> bool
     (0..n).all(|i| section_ok(words, numbers, i))
 }
 
+#[tactic(auto, unfolding(crate::specs::Structure::profile_ok))]
 fn profile_ok(words: &[u16], numbers: &[f64], i: usize) -> bool
     requires { i < 65536 }
     ensures { result ≡ profile_ok words.now numbers.now i }
@@ -124,6 +124,7 @@ fn profiles_ok(words: &[u16], numbers: &[f64]) -> bool
     (0..n).all(|i| profile_ok(words, numbers, i))
 }
 
+#[tactic(auto, unfolding(crate::specs::Structure::column_ok))]
 fn column_ok(words: &[u16], numbers: &[f64], i: usize, column: usize) -> bool
     requires { (i < 4) × (column < 5) }
     ensures { result ≡ column_ok words.now numbers.now i column }
@@ -143,13 +144,8 @@ fn strip_ok(words: &[u16], numbers: &[f64], i: usize) -> bool
     ensures { result ≡ strip_ok words.now numbers.now i }
 {
     let code = word(words, STRIP_WORDS + i * STRIP_STRIDE);
-    let mut ok = true;
-    let mut column = 0;
-    while column < 5 {
-        ok = ok & column_ok(words, numbers, i, column);
-        column += 1;
-    }
-    (code < 3) & ((code == 0) | ok)
+    let columns = (0..5).all(|column| column_ok(words, numbers, i, column));
+    (code < 3) & ((code == 0) | columns)
 }
 
 fn strips_ok(words: &[u16], numbers: &[f64]) -> bool
@@ -159,21 +155,16 @@ fn strips_ok(words: &[u16], numbers: &[f64]) -> bool
 }
 
 // Whether the lent slices hold a road at all: long enough, counts within their limits, codes listed, ranges inside their tables.
+#[tactic(auto, unfolding(crate::specs::Structure::structured))]
 pub fn structured(words: &[u16], numbers: &[f64]) -> bool
     ensures { result ≡ structured words.now numbers.now }
 {
-    if words.len() < WORDS_NEEDED {
-        return false;
-    }
-    if numbers.len() < NUMBERS_NEEDED {
-        return false;
-    }
-    if !counts_ok(words, numbers) {
-        return false;
-    }
-    kinds_ok(words, numbers)
-        & sections_ok(words, numbers)
-        & profiles_ok(words, numbers)
-        & strips_ok(words, numbers)
-        & marks_ok(words, numbers)
+    words.len() >= WORDS_NEEDED
+        && numbers.len() >= NUMBERS_NEEDED
+        && counts_ok(words, numbers)
+        && kinds_ok(words, numbers)
+        && sections_ok(words, numbers)
+        && profiles_ok(words, numbers)
+        && strips_ok(words, numbers)
+        && marks_ok(words, numbers)
 }

@@ -1,21 +1,10 @@
-use Rattle.records.specs.declared.points.HeightDef.{HeightDef}
-use Prim.Native.Nat.{ℕ, ◌-◌}
-use mathlib.Core.Path.{sym, ap, ◌∙◌, ap₂}
-use lib.Ieee.{le}
+use mathlib.Core.Path.{◌∙◌, ap}
+use Rattle.std.proofs.Common.{rules}
 use Rattle.records_lent.specs.Lists.{all_below}
-use Rattle.float_laws.specs.Binary64.{◌⊖◌}
-use Rattle.records_lent.proofs.TableLaws.{all_none, all-next, all_done}
-use Rattle.records.proofs.CubicLaws.{height-count}
-use Rattle.admission_order.specs.Order.{least_gap, apart}
-use borrow.Author.Rules.{rules}
+use Rattle.records_lent.proofs.RangeLaws.{all_range}
+use Rattle.admission_order.specs.Order.{apart}
 use Rattle.admission_order.proofs.order.heights_apart.Goals as goal
-
-pub loop-i-init : goal.loop-i-init
-loop-i-init c = (search rules, sym (all_none _))
-
-pub loop-i-preserved : goal.loop-i-preserved
-loop-i-preserved c = let at = c.loop-i in (search rules, all-next _ at.i at.invariant.1 (ap₂ (λ (x y : HeightDef). le least_gap (y.s_offset ⊖ x.s_offset)) c.height_def-a.ensures c.height_def-b.ensures))
 
 pub returns : goal.returns
 unfolding apart
-returns c = let at = c.loop-i in all_done _ at.i _ at.invariant.0 c.loop-i-test.false at.invariant.1 ∙ ap (all_below _) (c.less_one-n.ensures ∙ ap (λ (k : ℕ). k - 1) (sym (height-count _)))
+returns c = rw (← c.len.ensures) (all_range _ _ c.all.ensures.ran (λ x b q k. search rules) ∙ ap (all_below _) c.saturating_sub-n.ensures)

@@ -1,6 +1,11 @@
--- `lane_in_order`: its two lists, each by its scan.
-use Rattle.admission_order.proofs.OrderTests.{lane_by_lem}
+-- `lane_in_order`: its two lists, by the lane that was read.
+use Rattle.admission_order.specs.Order.{lane_in_order}
 use Rattle.admission_order.proofs.order.lane_in_order.Goals as goal
 
-pub returns : goal.returns
-returns c = lane_by_lem _ _ _ c.cubics_in_order-extents.ensures c.extents.ensures c.heights_apart-heights.ensures c.heights.ensures
+pub returns-then-cubics_in_order : goal.returns-then-cubics_in_order
+unfolding lane_in_order
+returns-then-cubics_in_order c = rw (← c.lane-lane.ensures, ← c.lane.view_is, ← c.cubics_in_order.ensures, c.if-cubics_in_order.true) c.heights_apart.ensures
+
+pub returns-else-cubics_in_order : goal.returns-else-cubics_in_order
+unfolding lane_in_order
+returns-else-cubics_in_order c = rw (← c.lane-lane.ensures, ← c.lane.view_is, ← c.cubics_in_order.ensures, c.if-cubics_in_order.false)

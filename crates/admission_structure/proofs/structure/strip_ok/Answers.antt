@@ -1,16 +1,10 @@
-use mathlib.Core.Path.{sym}
-use Rattle.records_lent.proofs.TableLaws.{all_none, all-next, all_done}
-use Rattle.admission_structure.proofs.WordLaws.{strip_by_lem}
-use borrow.Author.Rules.{rules}
+use Rattle.std.proofs.Common.{rules}
+use Rattle.records_lent.proofs.RangeLaws.{all_range}
+use Rattle.admission_structure.specs.Structure.{column_ok, strip_ok}
 use Rattle.admission_structure.proofs.structure.strip_ok.Goals as goal
 
-pub loop-column-init : goal.loop-column-init
-loop-column-init c = (search rules, sym (all_none _))
-
-pub loop-column-preserved : goal.loop-column-preserved
-loop-column-preserved c = let at = c.loop-column in (search rules, all-next _ at.column at.invariant.1 c.column_ok-ok.ensures)
-
 pub returns : goal.returns
+unfolding strip_ok
 returns c =
-    let at = c.loop-column in
-    strip_by_lem _ _ _ c.word-code.ensures.value (all_done _ at.column _ at.invariant.0 c.loop-column-test.false at.invariant.1)
+    let columns = all_range (column_ok c.args.words.now c.args.numbers.now c.args.i) 5 c.all-columns.ensures.ran (λ x b q k. search rules) in
+    search rules
