@@ -1,5 +1,5 @@
 // A section's borders into a lent list.
-ghost use Rattle.std.specs.Prelude.{◌≡◌, true, false, ◌++◌, ◌+◌, ◌*◌, ◌/◌, ◌≤◌, ◌<◌, leb, length, take, drop};
+ghost use Rattle.std.specs.Prelude.{◌≡◌, true, false, ◌*◌, ◌/◌, leb, length};
 ghost use Rattle.lanes_borders.specs.Borders.{sign_of, borders_at, side_lanes, lanes_of, side_list, border_list};
 ghost use Rattle.lanes_border_list.specs.BorderList.{listed_by};
 
@@ -7,27 +7,17 @@ use lanes_borders::{base_at, next_border};
 use records::{LanePlace, LentRoad};
 use records_sections::{lane_count, section_start};
 
-// Writes the borders of a side's n lanes into the list from a place on, s metres into the section, three numbers a lane.
-fn write_side(
-    road: &LentRoad,
-    section: usize,
-    s: f64,
-    right: bool,
-    base: f64,
-    list: &mut [f64],
-    first: usize,
-    n: usize,
-)
-    requires { first + n * 3 ≤ length list.old }
-    ensures { list.new ≡ (take first list.old ++ side_list (borders_at (side_lanes road.now section right) (sign_of right) base s) n) ++ drop (first + n * 3) list.old }
+// Writes the borders of a side's lanes, s metres into the section, into a list that holds three numbers for each.
+fn write_side(road: &LentRoad, section: usize, s: f64, right: bool, base: f64, list: &mut [f64])
+    requires { length list.old ≡ length (side_lanes road.now section right) * 3 }
+    ensures { list.new ≡ side_list (borders_at (side_lanes road.now section right) (sign_of right) base s) (length (side_lanes road.now section right)) }
 {
     let mut inner = base;
-    for k in 0..n {
+    for k in 0..list.len() / 3 {
         let b = next_border(road, LanePlace { section, right, k }, s, inner);
-        let at = first + k * 3;
-        list[at] = b.inner;
-        list[at + 1] = b.outer;
-        list[at + 2] = b.width;
+        list[k * 3] = b.inner;
+        list[k * 3 + 1] = b.outer;
+        list[k * 3 + 2] = b.width;
         inner = b.outer;
     }
 }
@@ -44,7 +34,9 @@ pub fn list_borders(road: &LentRoad, section: usize, s: f64, list: &mut [f64]) -
     }
     let into = s - section_start(road, section);
     let base = base_at(road, s);
-    write_side(road, section, into, false, base, list, 0, left);
-    write_side(road, section, into, true, base, list, left * 3, right);
+    let (written, _) = list.split_at_mut((left + right) * 3);
+    let (lefts, rights) = written.split_at_mut(left * 3);
+    write_side(road, section, into, false, base, lefts);
+    write_side(road, section, into, true, base, rights);
     true
 }

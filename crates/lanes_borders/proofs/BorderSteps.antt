@@ -9,11 +9,11 @@ use native.Mathlib.Omega.{arith}
 use native.Mathlib.Numerals.{add-one}
 use lib.Dec.{T, leb, ltb, ltb→lt, nltb→le}
 use borrow.Author.Tests.{le-leb, lt-leb}
-use lib.ListN.{length, get_or, take, drop, set, length-append, take-append-drop, get_or-append}
+use lib.ListN.{length, get_or, take, drop, set, length-append, drop_of_length-le, get_or-append}
 use lib.Seq.{take_at, length-take-le, get_or-append-add}
 use lib.Ieee.{Float, lt, of_bits}
 use Rattle.float_laws.specs.Binary64.{◌⊖◌, ◌⊗◌, zero64}
-use Rattle.records_lent.proofs.StoreLaws.{past_head, three-stores}
+use Rattle.records_lent.proofs.StoreLaws.{three-stores}
 use Rattle.records_cubic.specs.declared.cubics.Cubic.{Cubic}
 use Rattle.std.specs.declared.option.Option.TheVariants.{Some, None}
 use Rattle.records_cubic.specs.Cubics.{cubic_at, eval_at}
@@ -58,7 +58,10 @@ pub borders_of_lem :
 unfolding borders_at
 borders_of_lem road i s right k p q e f = rw (f, e, q, p)
 
--- ---- a side written into a list: what stands before it, its numbers, and the old list from there on
+-- ---- a side written into a list: its numbers, and the old list from there on
+
+abbrev pub three : LaneBorders → List Float
+three b = b.inner ∷ b.outer ∷ b.width ∷ []
 
 pub side-length : (b : ℕ → LaneBorders) (n : ℕ) → length (side_list b n) ≡ n * 3
 unfolding side_list
@@ -69,62 +72,29 @@ side-suc : (b : ℕ → LaneBorders) (k : ℕ) → side_list b (k + 1) ≡ side_
 unfolding side_list
 side-suc b k = rw add-one
 
-module _ (b : ℕ → LaneBorders) (old : List Float) (first : ℕ) where
-  head-length : (k : ℕ) → first + k * 3 ≤ length old → length (take first old ++ side_list b k) ≡ first + k * 3
-  head-length k h =
-      let l = length-take-le first old (omega arith) in
-      let m = side-length b k in
-      length-append (take first old) (side_list b k) ∙ (omega arith)
-
-  pub side-none : old ≡ (take first old ++ side_list b 0) ++ drop (first + 0 * 3) old
+module _ (b : ℕ → LaneBorders) (old : List Float) where
+  pub side-none : old ≡ side_list b 0 ++ drop (0 * 3) old
   unfolding side_list
-  side-none = sym (ap (λ (r : List Float). r ++ drop (first + 0) old) (append-nil (take first old)) ∙ ap (λ (k : ℕ). take first old ++ drop k old) (add-zero first) ∙ take-append-drop first old)
+  side-none = refl
 
   -- one lane more: three numbers
   pub side-turn :
-      (list : List Float) (k : ℕ) {x : LaneBorders} → x ≡ b k → first + (k + 1) * 3 ≤ length old → list ≡ (take first old ++ side_list b k) ++ drop (first + k * 3) old
-      → set (set (set list (first + k * 3) x.inner) (first + k * 3 + 1) x.outer) (first + k * 3 + 2) x.width ≡ (take first old ++ side_list b (k + 1)) ++ drop (first + (k + 1) * 3) old
+      (list : List Float) (k : ℕ) {x : LaneBorders} → x ≡ b k → (k + 1) * 3 ≤ length old → list ≡ side_list b k ++ drop (k * 3) old
+      → set (set (set list (k * 3) x.inner) (k * 3 + 1) x.outer) (k * 3 + 2) x.width ≡ side_list b (k + 1) ++ drop ((k + 1) * 3) old
   side-turn list k {x} e h f =
-      let i = first + k * 3 in
-      let vs = (b k).inner ∷ (b k).outer ∷ (b k).width ∷ [] in
-      let p = take first old ++ side_list b k in
-      let n : i + 3 ≡ first + (k + 1) * 3 = omega arith in
+      let i = k * 3 in
+      let p = side_list b k in
+      let n : i + 3 ≡ (k + 1) * 3 = omega arith in
       ap (λ (l : List Float). set (set (set l i x.inner) (i + 1) x.outer) (i + 2) x.width) f
       ∙ ap (λ (y : LaneBorders). set (set (set (p ++ drop i old) i y.inner) (i + 1) y.outer) (i + 2) y.width) e
-      ∙ three-stores p old i (b k).inner (b k).outer (b k).width (head-length k (omega arith)) (omega arith)
-      ∙ ap (λ (m : ℕ). (p ++ vs) ++ drop m old) n
-      ∙ ap (λ (r : List Float). r ++ drop (first + (k + 1) * 3) old) (append_assoc (take first old) (side_list b k) vs ∙ ap (λ (r : List Float). take first old ++ r) (sym (side-suc b k)))
+      ∙ three-stores p old i (b k).inner (b k).outer (b k).width (side-length b k) (omega arith)
+      ∙ ap (λ (m : ℕ). (p ++ three (b k)) ++ drop m old) n
+      ∙ ap (λ (r : List Float). r ++ drop ((k + 1) * 3) old) (sym (side-suc b k))
 
--- the two sides, the right one written after the left one
-pub both-sides :
-    (p q old l₁ l₂ : List Float) (m n : ℕ) → length p ≡ m → length q ≡ n → l₁ ≡ (take 0 old ++ p) ++ drop (0 + m) old → l₂ ≡ (take m l₁ ++ q) ++ drop (m + n) l₁
-    → l₂ ≡ (p ++ q) ++ drop (length (p ++ q)) old
-both-sides p q old l₁ l₂ m n a b e f =
-    let l = p ++ drop m old in
-    let g : l₁ ≡ l = e ∙ ap (λ (k : ℕ). p ++ drop k old) (zero-add m) in
-    let c : m + n ≡ length (p ++ q) = sym (length-append p q ∙ (omega arith)) in
-    f
-    ∙ ap (λ (x : List Float). (take m x ++ q) ++ drop (m + n) x) g
-    ∙ ap (λ (r : List Float). (r ++ q) ++ drop (m + n) l) (take_at p (drop m old) m a)
-    ∙ ap (λ (r : List Float). (p ++ q) ++ r) (past_head p old m n a ∙ ap (λ (k : ℕ). drop k old) c)
-
-pub borders_written_lem :
-    (road : Road) (i : ℕ) (s : Float) (old l₁ l₂ : List Float) {start base : Float} {m n : ℕ} → start ≡ (section_of road i).start → base ≡ base_at road s
-    → m ≡ length (side_lanes road i false) → n ≡ length (side_lanes road i true)
-    → l₁ ≡ (take 0 old ++ side_list (borders_at (side_lanes road i false) (sign_of false) base (s ⊖ start)) m) ++ drop (0 + m * 3) old
-    → l₂ ≡ (take (m * 3) l₁ ++ side_list (borders_at (side_lanes road i true) (sign_of true) base (s ⊖ start)) n) ++ drop (m * 3 + n * 3) l₁
-    → l₂ ≡ border_list road i s ++ drop (length (border_list road i s)) old
-unfolding border_list
-borders_written_lem road i s old l₁ l₂ {start} {base} {m} {n} p q a b e f =
-    let x = side_list (borders_at (side_lanes road i false) (sign_of false) base (s ⊖ start)) m in
-    let y = side_list (borders_at (side_lanes road i true) (sign_of true) base (s ⊖ start)) n in
-    let g : x ++ y ≡ border_list road i s = rw (p, q, a, b) in
-    both-sides x y old l₁ l₂ (m * 3) (n * 3) (side-length _ m) (side-length _ n) e f ∙ ap (λ (r : List Float). r ++ drop (length r) old) g
+  pub side-all : (list : List Float) (k : ℕ) → length old ≡ k * 3 → list ≡ side_list b k ++ drop (k * 3) old → list ≡ side_list b k
+  side-all list k e f = f ∙ ap (λ (r : List Float). side_list b k ++ r) (drop_of_length-le old (omega arith)) ∙ append-nil (side_list b k)
 
 -- ---- what stands where in a written list: number j of lane k at the place k * 3 + j, the right lanes after the left ones
-
-abbrev pub three : LaneBorders → List Float
-three b = b.inner ∷ b.outer ∷ b.width ∷ []
 
 pub side-at : (b : ℕ → LaneBorders) (n k j : ℕ) (d : Float) → k < n → j < 3 → get_or (side_list b n) (k * 3 + j) d ≡ get_or (three (b k)) j d
 side-at b zero k j d h l = absurd (omega arith)
@@ -172,6 +142,19 @@ list_length road i s =
     let e = side-length (borders_of road i s false) n in
     let f = side-length (borders_of road i s true) r in
     length-append (side_list (borders_of road i s false) n) (side_list (borders_of road i s true) r) ∙ (omega arith)
+
+-- the two sides written, and the rest of the old list
+pub borders_written_lem :
+    (road : Road) (i : ℕ) (s : Float) (old : List Float) {l₁ l₂ rest : List Float} {start base : Float} {m n : ℕ} → start ≡ (section_of road i).start → base ≡ base_at road s
+    → m ≡ length (side_lanes road i false) → n ≡ length (side_lanes road i true)
+    → l₁ ≡ side_list (borders_at (side_lanes road i false) (sign_of false) base (s ⊖ start)) (length (side_lanes road i false))
+    → l₂ ≡ side_list (borders_at (side_lanes road i true) (sign_of true) base (s ⊖ start)) (length (side_lanes road i true))
+    → rest ≡ drop ((m + n) * 3) old → (l₁ ++ l₂) ++ rest ≡ border_list road i s ++ drop (length (border_list road i s)) old
+borders_written_lem road i s old {l₁} {l₂} {rest} {start} {base} {m} {n} p q a b e f h =
+    let g : l₁ ++ l₂ ≡ border_list road i s = unfold border_list in rw (e, f, p, q) in
+    let k = list_length road i s in
+    let j : (m + n) * 3 ≡ length (border_list road i s) = omega arith in
+    ap (λ (r : List Float). r ++ rest) g ∙ ap (λ (r : List Float). border_list road i s ++ r) (h ∙ ap (λ (x : ℕ). drop x old) j)
 
 -- a list's whole threes, fewer than the lanes or enough
 module _ (road : Road) (i len : ℕ) {n : ℕ} (e : n ≡ lanes_of road i) where

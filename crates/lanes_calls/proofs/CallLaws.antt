@@ -47,7 +47,7 @@ module _ (words : List ℕ) (numbers : List Float) where
       list-long k m = rw (on-lent s r e, h, room-is, k, m, g, r)
 
   -- the list as `list_borders` leaves it
-  module _ (s : Float) (xs : List Float) {ys : List Float} {road : Road} {i : ℕ} {b : Bool} (f : ys ≡ listed_by b road i s xs) where
+  module _ (s : Float) (xs : List Float) (road : Road) (i : ℕ) {ys : List Float} {b : Bool} (f : ys ≡ listed_by b road i s xs) where
     pub list-kept : b ≡ false → ys ≡ xs
     list-kept k = f ∙ rw k
 

@@ -42,6 +42,8 @@ fn arc_bearing(g: GeomRec, k: f64, ds: f64) -> Bearing
     Bearing { pose, turn }
 }
 
+// A geometry's samples go by the slice, the place of their first and their count, as in the definitions: a struct of the three would need the same bounds in every contract.
+
 // The k-th sample from place first on.
 fn sample_at(samples: &[f64], first: usize, k: usize) -> Sample
     requires { (first < 268435456) × (k < 4096) }

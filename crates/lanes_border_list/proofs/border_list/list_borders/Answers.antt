@@ -16,7 +16,6 @@ returns c =
     record {
       value = list-long a.road.now a.section (length a.list.now) (omega (arith, c.lane_count-left.ensures.value, c.lane_count-right.ensures.value)) c.if-list-left.false;
       list_after =
-          borders_written_lem a.road.now a.section a.s a.list.now _ _
-          c.section_start.ensures c.base_at-base.ensures c.lane_count-left.ensures.value c.lane_count-right.ensures.value
-          c.write_side.ensures c.write_side-2.ensures;
+          borders_written_lem a.road.now a.section a.s a.list.now c.section_start.ensures c.base_at-base.ensures c.lane_count-left.ensures.value c.lane_count-right.ensures.value
+          c.write_side.ensures c.write_side-2.ensures c.split_at_mut-written.ensures.back;
     }
