@@ -1,5 +1,5 @@
 -- What each way out of the functions answers, by the values that they have read: the definitions' cases, one law each.
-use Prim.Native.Nat.{ℕ, ◌+◌, ◌/◌, ◌≤◌, ◌<◌}
+use Prim.Native.Nat.{ℕ, ◌+◌, ◌≤◌, ◌<◌}
 use native.Mathlib.Omega.{arith}
 use mathlib.Core.Path.{◌≡◌, refl, ap, ◌∙◌, sym}
 use mathlib.Core.Bool.{Bool, true, false, ◌&&◌, ◌||◌, not, cond}
@@ -14,12 +14,10 @@ use Rattle.records.specs.declared.points.HeightDef.{HeightDef}
 use Rattle.records.specs.declared.points.StripKind.TheVariants.{Absent, Absolute, Relative}
 use Rattle.std.specs.declared.option.Option.{Option}
 use Rattle.std.specs.declared.option.Option.TheVariants.{Some, None}
-use Rattle.records_cubic.specs.Cubics.{cubics_of, cubic_at, eval_at}
+use Rattle.records_cubic.specs.Cubics.{cubic_at, eval_at}
 use Rattle.records.specs.Active.{active_in, value_in, last_start, active_up_to}
-use Rattle.records.specs.Roads.{Road, Strip, StripDef, absent, present, profile_at, strip_at, heights_of, height_def_at, strip_kind_of, column_of}
+use Rattle.records.specs.Roads.{Road, Strip, StripDef, absent, present, profile_at, strip_at, height_def_at, strip_kind_of, column_of}
 use Rattle.records.proofs.ScanLaws.{last_start-below}
-use Rattle.records_cubic.proofs.CubicTables.{cubic-count}
-use Rattle.records.proofs.CubicLaws.{height-count}
 use Rattle.lanes.specs.declared.pairs.Pair.{Pair}
 use Rattle.lanes.specs.Lateral.{shape_by, profile_height, shape_between, shape_from, shape_of, height_between, height_held, no_heights, height_from, height_of, strip_height, outer_height, past_width, by_width, by_side, is_left, cross_by, cross_height, height_toward, is_present, has_cross_section, flat_across}
 use Rattle.arithmetic_ranges.specs.Ranges.{not_below_zero}
@@ -51,27 +49,24 @@ module _ (hs : List HeightDef) (s : Float) where
   unfolding height_of
   height-first e h = ap (height_from hs s) e ∙ ap (λ (b : Bool). cond b no_heights (height_held (height_def_at hs 0))) (ne_eqb (length hs) 0 h)
 
--- the same, of a part of the lent numbers
-module _ (xs : List Float) (s : Float) {r : Option ℕ} (place : r ≡ height_place (heights_of xs) s) where
-  pub height-below : (i : ℕ) → r ≡ Some i → i < length xs / 3
-  height-below i e =
-      let n = height-count xs in
-      let h = last_start-below (λ (k : ℕ). (height_def_at (heights_of xs) k).s_offset) (active_up_to s) (length (heights_of xs)) i (sym place ∙ e) in
-      omega arith
+-- the same, by what was read of the heights
+module _ (hs : List HeightDef) (s : Float) {n : ℕ} (count : n ≡ length hs) {r : Option ℕ} (place : r ≡ height_place hs s) where
+  pub height-below : (i : ℕ) → r ≡ Some i → i < n
+  height-below i e = rw count (last_start-below (λ (k : ℕ). (height_def_at hs k).s_offset) (active_up_to s) (length hs) i (sym place ∙ e))
 
   pub height_by-next :
-      (i : ℕ) {a b : HeightDef} {p : Pair} → r ≡ Some i → i + 1 < length xs / 3 → a ≡ height_def_at (heights_of xs) i → b ≡ height_def_at (heights_of xs) (i + 1)
-      → p ≡ height_between a b s → p ≡ height_of (heights_of xs) s
-  height_by-next i e h ea eb ep = rw (ep, ea, eb) (sym (height-next (heights_of xs) s i (sym place ∙ e) (rw (height-count xs) h)))
+      (i : ℕ) {a b : HeightDef} {p : Pair} → r ≡ Some i → i + 1 < n → a ≡ height_def_at hs i → b ≡ height_def_at hs (i + 1)
+      → p ≡ height_between a b s → p ≡ height_of hs s
+  height_by-next i e h ea eb ep = rw (ep, ea, eb) (sym (height-next hs s i (sym place ∙ e) (rw count at h)))
 
-  pub height_by-last : (i : ℕ) {a : HeightDef} {p : Pair} → r ≡ Some i → length xs / 3 ≤ i + 1 → a ≡ height_def_at (heights_of xs) i → p ≡ height_held a → p ≡ height_of (heights_of xs) s
-  height_by-last i e h ea ep = rw (ep, ea) (sym (height-last (heights_of xs) s i (sym place ∙ e) (rw (height-count xs) h)))
+  pub height_by-last : (i : ℕ) {a : HeightDef} {p : Pair} → r ≡ Some i → n ≤ i + 1 → a ≡ height_def_at hs i → p ≡ height_held a → p ≡ height_of hs s
+  height_by-last i e h ea ep = rw (ep, ea) (sym (height-last hs s i (sym place ∙ e) (rw count at h)))
 
-  pub height_by-none : r ≡ None → length xs / 3 ≡ 0 → no_heights ≡ height_of (heights_of xs) s
-  height_by-none e h = sym (height-none (heights_of xs) s (sym place ∙ e) (height-count xs ∙ h))
+  pub height_by-none : r ≡ None → n ≡ 0 → no_heights ≡ height_of hs s
+  height_by-none e h = sym (height-none hs s (sym place ∙ e) (sym count ∙ h))
 
-  pub height_by-first : {a : HeightDef} {p : Pair} → r ≡ None → (length xs / 3 ≡ 0 → ⊥) → a ≡ height_def_at (heights_of xs) 0 → p ≡ height_held a → p ≡ height_of (heights_of xs) s
-  height_by-first e h ea ep = rw (ep, ea) (sym (height-first (heights_of xs) s (sym place ∙ e) (λ z. h (sym (height-count xs) ∙ z))))
+  pub height_by-first : {a : HeightDef} {p : Pair} → r ≡ None → (n ≡ 0 → ⊥) → a ≡ height_def_at hs 0 → p ≡ height_held a → p ≡ height_of hs s
+  height_by-first e h ea ep = rw (ep, ea) (sym (height-first hs s (sym place ∙ e) (λ z. h (count ∙ z))))
 
 -- ---- profiles
 
@@ -227,12 +222,10 @@ unfolding height_toward
 toward-by road s t toward e f = rw (e, f)
 
 pub section_by_lem :
-    (road : Road) (xs : List Float) {b0 b1 b2 b3 : Bool} → cubics_of xs ≡ road.tshifts → b0 ≡ is_present (strip_at road 0) → b1 ≡ is_present (strip_at road 1) → b2 ≡ is_present (strip_at road 2) → b3 ≡ is_present (strip_at road 3)
-    → ltb 0 (length xs / 5) || b0 || b1 || b2 || b3 ≡ has_cross_section road
+    (road : Road) {n : ℕ} {cs : List Cubic} → cs ≡ road.tshifts → n ≡ length cs
+    → ((((ltb 0 n || is_present (strip_at road 0)) || is_present (strip_at road 1)) || is_present (strip_at road 2)) || is_present (strip_at road 3)) ≡ has_cross_section road
 unfolding has_cross_section
-section_by_lem road xs e e0 e1 e2 e3 =
-    let h : length xs / 5 ≡ length road.tshifts = sym (cubic-count xs) ∙ ap (λ (ys : List Cubic). length ys) e in
-    rw (h, e0, e1, e2, e3)
+section_by_lem road e h = rw (h, e)
 
 pub flat-by : (road : Road) {n : ℕ} {b : Bool} → n ≡ length road.profiles → b ≡ has_cross_section road → eqb n 0 && not b ≡ flat_across road
 unfolding flat_across

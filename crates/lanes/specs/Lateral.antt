@@ -1,12 +1,10 @@
 -- Document 01, "Values": "`shape_at`, `height_at`: linear between neighbours, constant outside; before a profile's first shape its a counts", and the cross section, grouped as in src/road.rs.
-use Rattle.std.specs.Prelude.{ℕ, ◌+◌, Bool, true, false, ◌&&◌, ◌||◌, not, cond, List, length, ltb, eqb, Float}
+use Rattle.std.specs.Prelude.{ℕ, ◌+◌, Bool, true, false, ◌&&◌, ◌||◌, not, cond, List, length, ltb, eqb, Float, Option, Some, None}
 use Rattle.std.specs.Float.Ieee.{lt}
 use Rattle.float_laws.specs.Binary64.{◌⊕◌, ◌⊖◌, ◌⊗◌, ◌⊘◌, f64, zero64, abs_of}
 use Rattle.records_cubic.specs.declared.cubics.Cubic.{Cubic}
 use Rattle.arithmetic_ranges.specs.Ranges.{not_below_zero}
 use Rattle.records.specs.declared.points.HeightDef.{HeightDef}
-use Rattle.std.specs.Prelude.{Option}
-use Rattle.std.specs.Prelude.{Some, None}
 use Rattle.records_cubic.specs.Cubics.{cubic_at, eval_at}
 use Rattle.records.specs.Active.{active_in, value_in, last_start, active_up_to}
 use Rattle.records.specs.Roads.{Road, Strip, StripDef, absent, present, profile_at, strip_at, height_def_at, column_by}

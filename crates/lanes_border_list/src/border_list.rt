@@ -18,7 +18,7 @@ fn write_side(
     first: usize,
     n: usize,
 )
-    requires { (first + n * 3 ≤ length list.old) × (n ≤ length (side_lanes road.now section right)) × (n < 65536) }
+    requires { first + n * 3 ≤ length list.old }
     ensures { list.new ≡ (take first list.old ++ side_list (borders_at (side_lanes road.now section right) (sign_of right) base s) n) ++ drop (first + n * 3) list.old }
 {
     let mut inner = base;

@@ -24,35 +24,9 @@ use Rattle.arithmetic_ranges.specs.Ranges.{not_below_zero}
 use Rattle.lanes_borders.specs.declared.across.LaneBorders.{LaneBorders}
 use Rattle.lanes_borders.specs.Borders.{sign_of, border_width, width_of, outer_after, borders_from, borders_at, base_at, side_lanes, lanes_of, borders_of, side_list, border_list}
 
--- ---- the lanes of a side
-
-pub count-right : (road : Road) (i : ℕ) {right : Bool} {n : ℕ} → right ≡ true → n ≡ length (section_of road i).right → n ≡ length (side_lanes road i right)
-count-right road i e h = rw e h
-
-pub count_left : (road : Road) (i : ℕ) {right : Bool} {n : ℕ} → right ≡ false → n ≡ length (section_of road i).left → n ≡ length (side_lanes road i right)
-count_left road i e h = rw e h
-
--- a count is a word
-pub side-small : (words : List ℕ) (numbers : List Float) (i : ℕ) (right : Bool) → ((k : ℕ) → get_or words k 0 < 65536) → length (side_lanes (road_of words numbers) i right) < 65536
-side-small words numbers i right h = go (ltb i (get_or words 5 0)) (ltb→lt i (get_or words 5 0)) (nltb→le i (get_or words 5 0)) right
-  where
-    go : (b : Bool) → (T b → i < get_or words 5 0) → (T (not b) → get_or words 5 0 ≤ i) → (right : Bool) → length (side_lanes (road_of words numbers) i right) < 65536
-    go true u v true = rw (right_count_lem words numbers i (u tt)) (h (73 + i * 3))
-    go true u v false = rw (left_count_lem words numbers i (u tt)) (h (72 + i * 3))
-    go false u v true = rw (section-past words numbers i (v tt)) (omega arith)
-    go false u v false = rw (section-past words numbers i (v tt)) (omega arith)
-
 -- ---- a lane's width
 
 module _ (lane : Lane) (sign inner s : Float) where
-  pub border-at :
-      (xs : List Cubic) (i : ℕ) {x : Float} → xs ≡ lane.extents → active_in xs s ≡ Some i → x ≡ eval_at (cubic_at xs i) s
-      → sign ⊗ (x ⊖ inner) ≡ border_width lane sign inner s (active_in lane.extents s)
-  border-at xs i p e f = rw (← p, e, f)
-
-  pub border-none : (xs : List Cubic) → xs ≡ lane.extents → active_in xs s ≡ None → zero64 ≡ border_width lane sign inner s (active_in lane.extents s)
-  border-none xs p e = rw (← p, e)
-
   pub width-border : {w : Float} → lane.border ≡ true → w ≡ border_width lane sign inner s (active_in lane.extents s) → not_below_zero w ≡ width_of lane sign inner s
   unfolding width_of
   width-border e f = ap not_below_zero (f ∙ sym (ap (λ (b : Bool). cond b (border_width lane sign inner s (active_in lane.extents s)) (value_in lane.extents s)) e))
@@ -62,15 +36,6 @@ module _ (lane : Lane) (sign inner s : Float) where
   width-value xs e p f =
       ap not_below_zero
       (f ∙ ap (λ (cs : List Cubic). value_in cs s) p ∙ sym (ap (λ (b : Bool). cond b (border_width lane sign inner s (active_in lane.extents s)) (value_in lane.extents s)) e))
-
-module _ (sign inner s : Float) where
-  -- the width of one lane is that of the same lane found otherwise; no lane has none
-  pub width-by : {lane other : Lane} {w : Float} → lane ≡ other → w ≡ width_of other sign inner s → w ≡ width_of lane sign inner s
-  width-by e f = rw e f
-
-  pub width-none : zero64 ≡ width_of no_lane sign inner s
-  unfolding width_of value_in active_in lt of_bits
-  width-none = refl
 
 -- ---- the running outer border
 

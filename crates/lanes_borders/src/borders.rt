@@ -1,14 +1,13 @@
 // Where the lanes of a section lie across the road. A side is left or right of the center; its lanes count from the center outward.
 ghost use Rattle.std.specs.Prelude.{◌≡◌};
 ghost use Rattle.records.specs.Active.{active_in};
-ghost use Rattle.records.specs.Roads.{Lane, lane_of};
+ghost use Rattle.records.specs.Roads.{lane_of};
 ghost use Rattle.lanes_borders.specs.Borders.{sign_of, border_width, width_of, outer_after, borders_from, base_at, side_lanes, lanes_of, borders_of};
 
 use crate::across::LaneBorders;
 use arithmetic_ranges::not_below_zero;
 use records::{LanePlace, LentRoad};
 use records_active::{active, value};
-use records_cubic::Cubics;
 use records_lanes::{LentLane, lane};
 use records_sections::{lane_count, section_start};
 
@@ -34,11 +33,11 @@ pub fn sign_of(right: bool) -> f64
 }
 
 // From the inner border to the active border record's t, no width where none is active.
-fn border_width(borders: &Cubics, sign: f64, inner: f64, s: f64) -> f64
-    ensures { (lane : Lane) → borders.now ≡ lane.extents → result ≡ border_width lane sign inner s (active_in lane.extents s) }
+fn border_width(lane: &LentLane, s: f64, sign: f64, inner: f64) -> f64
+    ensures { result ≡ border_width lane.now sign inner s (active_in lane.now.extents s) }
 {
-    match active(borders, s) {
-        Some(i) => sign * (borders.get(i).eval(s) - inner),
+    match active(&lane.extents, s) {
+        Some(i) => sign * (lane.extents.get(i).eval(s) - inner),
         None => 0.0,
     }
 }
@@ -48,7 +47,7 @@ fn lane_width(lane: &LentLane, s: f64, sign: f64, inner: f64) -> f64
     ensures { result ≡ width_of lane.now sign inner s }
 {
     if lane.border {
-        not_below_zero(border_width(&lane.extents, sign, inner, s))
+        not_below_zero(border_width(lane, s, sign, inner))
     } else {
         not_below_zero(value(&lane.extents, s))
     }

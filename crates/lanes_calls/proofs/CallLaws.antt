@@ -1,62 +1,70 @@
 -- How the two calls go on after the road's rows: each way out is the tests on its way.
 use Prim.Native.Nat.{ℕ, ◌/◌}
 use mathlib.Core.Path.{◌≡◌, refl, sym, ◌∙◌, ap}
-use mathlib.Core.Bool.{Bool, true, false, not}
-use mathlib.Core.List.{List}
+use mathlib.Core.Bool.{Bool, true, false}
+use mathlib.Core.List.{List, []}
 use lib.Dec.{leb}
-use lib.Ieee.{Float, neg}
+use lib.Ieee.{Float}
+use lib.IntN.{ℤ}
 use lib.ListN.{length}
-use borrow.Author.Tests.{not-true, not-false}
+use Rattle.std.specs.declared.option.Option.{Option}
 use Rattle.refusals.specs.Answer.{Answer, value, refused, checked}
-use Rattle.records.specs.Roads.{Road, road_of}
-use Rattle.arithmetic_ranges.specs.Ranges.{in_range}
+use Rattle.records.specs.Roads.{Road, road_of, section_index}
 use Rattle.admission.specs.Limits.{on_road}
-use Rattle.admission_arguments.specs.Arguments.{half_width}
-use Rattle.admission.specs.Admission.{admit_call}
-use Rattle.admission.proofs.AdmissionLaws.{road-refused, road-admitted, value-admitted}
+use Rattle.admission_arguments.specs.Arguments.{across_road}
+use Rattle.admission.specs.Admission.{road_rows}
+use Rattle.admission_calls.proofs.RowLaws.{first-refused, first-passed}
 use Rattle.lanes_borders.specs.Borders.{lanes_of}
 use Rattle.lanes_border_list.specs.BorderList.{listed_by}
 use Rattle.lanes_naming.specs.Naming.{lane_named}
-use Rattle.lanes_naming.specs.declared.lane_names.LaneName.{LaneName}
 use Rattle.lanes_calls.specs.LaneCalls.{section_at, lanes_at, list_rows, borders_call, borders_written, borders_list, name_rows, name_at, lane_named_call}
 
 module _ (words : List ℕ) (numbers : List Float) where
-  abbrev road : Road
-  road = road_of words numbers
+  abbrev lent : Road
+  lent = road_of words numbers
+
+  pub admitted-road : {road : Road} → value road ≡ checked (road_rows words numbers) (value lent) → road ≡ lent
+  admitted-road e = (first-passed (road_rows words numbers) [] lent (value lent) e).0
+
+  on-lent : (s : Float) {road : Road} → road ≡ lent → {a : Bool} → a ≡ on_road road s → on_road lent s ≡ a
+  on-lent s r e = sym (e ∙ ap (λ (x : Road). on_road x s) r)
 
   -- ---- the borders
 
-  module _ (s : Float) (len : ℕ) {a : Bool} (e : a ≡ on_road road s) where
-    pub list-off : not a ≡ true → refused 7 ≡ checked (list_rows words numbers s len) (value (lanes_at words numbers s))
-    list-off h = rw (sym e ∙ not-true a h)
+  -- by what was read of the admitted road
+  module _ (s : Float) (len : ℕ) {road : Road} (r : road ≡ lent) {a : Bool} (e : a ≡ on_road road s) where
+    pub list-off : a ≡ false → refused 7 ≡ checked (list_rows words numbers s len) (value (lanes_at words numbers s))
+    list-off h = rw (on-lent s r e, h)
 
-    module _ (h : not a ≡ false) {i : ℕ} (g : i ≡ section_at words numbers s) {b : Bool} (f : b ≡ leb (lanes_of road i) (len / 3)) where
+    module _ (h : a ≡ true) {i : ℕ} (g : i ≡ section_index road s) {b : Bool} (f : b ≡ leb (lanes_of road i) (len / 3)) where
       room-is : leb (lanes_at words numbers s) (len / 3) ≡ b
-      room-is = ap (λ (j : ℕ). leb (lanes_of road j) (len / 3)) (sym g) ∙ sym f
+      room-is = sym (f ∙ rw (g, r))
 
-      pub list-short : not b ≡ true → refused 11 ≡ checked (list_rows words numbers s len) (value (lanes_at words numbers s))
-      list-short k = rw (sym e ∙ not-false a h, room-is ∙ not-true b k)
+      pub list-short : b ≡ false → refused 11 ≡ checked (list_rows words numbers s len) (value (lanes_at words numbers s))
+      list-short k = rw (on-lent s r e, h, room-is, k)
 
-      pub list-long : not b ≡ false → {n : ℕ} → n ≡ lanes_of road i → value n ≡ checked (list_rows words numbers s len) (value (lanes_at words numbers s))
-      list-long k m = rw (sym e ∙ not-false a h, room-is ∙ not-false b k, m, g)
+      pub list-long : b ≡ true → {n : ℕ} → n ≡ lanes_of road i → value n ≡ checked (list_rows words numbers s len) (value (lanes_at words numbers s))
+      list-long k m = rw (on-lent s r e, h, room-is, k, m, g, r)
 
   -- the list as `list_borders` leaves it
-  module _ (s : Float) (xs : List Float) {ys : List Float} (i : ℕ) (b : Bool) (f : ys ≡ listed_by b road i s xs) where
-    pub list-kept : not b ≡ true → ys ≡ xs
-    list-kept k = f ∙ ap (λ (c : Bool). listed_by c road i s xs) (not-true b k)
+  module _ (s : Float) (xs : List Float) {ys : List Float} {road : Road} {i : ℕ} {b : Bool} (f : ys ≡ listed_by b road i s xs) where
+    pub list-kept : b ≡ false → ys ≡ xs
+    list-kept k = f ∙ rw k
 
-    pub list-made : not b ≡ false → i ≡ section_at words numbers s → ys ≡ listed_by true road (section_at words numbers s) s xs
-    list-made k g = f ∙ ap (λ (c : Bool). listed_by c road i s xs) (not-false b k) ∙ ap (λ (j : ℕ). listed_by true road j s xs) g
+    pub list-made : b ≡ true → road ≡ lent → i ≡ section_index road s → (n : ℕ) → ys ≡ borders_written words numbers (value n) s xs
+    list-made k r g n = f ∙ rw (k, g, r)
 
   -- the road is refused, or its own rows decide
-  pub borders-refused : (s : Float) (len n : ℕ) → refused n ≡ admit_call words numbers → refused n ≡ borders_call words numbers s len
+  pub borders-refused : (s : Float) (len : ℕ) {n : ℕ} → refused n ≡ checked (road_rows words numbers) (value lent) → refused n ≡ borders_call words numbers s len
   unfolding borders_call
-  borders-refused s len n e = road-refused words numbers (list_rows words numbers s len) n (value (lanes_at words numbers s)) e
+  borders-refused s len e = first-refused (road_rows words numbers) (list_rows words numbers s len) lent (value (lanes_at words numbers s)) e
 
-  pub borders-admitted : (s : Float) (len : ℕ) {a : Answer ℕ} → value tt ≡ admit_call words numbers
-      → a ≡ checked (list_rows words numbers s len) (value (lanes_at words numbers s)) → a ≡ borders_call words numbers s len
+  pub borders-admitted : (s : Float) (len : ℕ) {road : Road} {a : Answer ℕ} → value road ≡ checked (road_rows words numbers) (value lent)
+      → (road ≡ lent → a ≡ checked (list_rows words numbers s len) (value (lanes_at words numbers s))) → a ≡ borders_call words numbers s len
   unfolding borders_call
-  borders-admitted s len e f = f ∙ sym (road-admitted words numbers (list_rows words numbers s len) (value (lanes_at words numbers s)) (value-admitted words numbers (sym e)))
+  borders-admitted s len e f =
+      let p = first-passed (road_rows words numbers) (list_rows words numbers s len) lent (value (lanes_at words numbers s)) e in
+      f p.0 ∙ sym p.1
 
   -- the list by the answer
   pub list-by : (s : Float) (xs : List Float) {ys : List Float} {a : Answer ℕ} → a ≡ borders_call words numbers s (length xs) → ys ≡ borders_written words numbers a s xs → ys ≡ borders_list words numbers s xs
@@ -69,21 +77,24 @@ module _ (words : List ℕ) (numbers : List Float) where
 
   -- ---- the name
 
-  module _ (s t : Float) {a : Bool} (e : a ≡ on_road road s) where
-    pub name-off : not a ≡ true → refused 7 ≡ checked (name_rows words numbers s t) (value (name_at words numbers s t))
-    name-off h = rw (sym e ∙ not-true a h)
+  module _ (s t : Float) {road : Road} (r : road ≡ lent) {a : Bool} (e : a ≡ on_road road s) where
+    pub name-off : a ≡ false → refused 7 ≡ checked (name_rows words numbers s t) (value (name_at words numbers s t))
+    name-off h = rw (on-lent s r e, h)
 
-    module _ (h : not a ≡ false) {b : Bool} (f : b ≡ in_range (neg half_width) half_width t) where
-      pub name-beyond : not b ≡ true → refused 8 ≡ checked (name_rows words numbers s t) (value (name_at words numbers s t))
-      name-beyond k = rw (sym e ∙ not-false a h, sym f ∙ not-true b k)
+    module _ (h : a ≡ true) {b : Bool} (f : b ≡ across_road t) where
+      pub name-beyond : b ≡ false → refused 8 ≡ checked (name_rows words numbers s t) (value (name_at words numbers s t))
+      name-beyond k = rw (on-lent s r e, h, sym f ∙ k)
 
-      pub name-found : not b ≡ false → {i : ℕ} → i ≡ section_at words numbers s → {n m : LaneName} → m ≡ lane_named road i s t → m ≡ n → value n ≡ checked (name_rows words numbers s t) (value (name_at words numbers s t))
-      name-found k g {n} {m} l o = rw (sym e ∙ not-false a h, sym f ∙ not-false b k, sym o, l, g)
+      pub name-found : b ≡ true → {i : ℕ} → i ≡ section_index road s → {m : Option ℤ} → m ≡ lane_named road i s t → value m ≡ checked (name_rows words numbers s t) (value (name_at words numbers s t))
+      name-found k g l = rw (on-lent s r e, h, sym f ∙ k, l, g, r)
 
-  pub named-refused : (s t : Float) (n : ℕ) → refused n ≡ admit_call words numbers → refused n ≡ lane_named_call words numbers s t
+  pub named-refused : (s t : Float) {n : ℕ} → refused n ≡ checked (road_rows words numbers) (value lent) → refused n ≡ lane_named_call words numbers s t
   unfolding lane_named_call
-  named-refused s t n e = road-refused words numbers (name_rows words numbers s t) n (value (name_at words numbers s t)) e
+  named-refused s t e = first-refused (road_rows words numbers) (name_rows words numbers s t) lent (value (name_at words numbers s t)) e
 
-  pub named-admitted : (s t : Float) {a : Answer LaneName} → value tt ≡ admit_call words numbers → a ≡ checked (name_rows words numbers s t) (value (name_at words numbers s t)) → a ≡ lane_named_call words numbers s t
+  pub named-admitted : (s t : Float) {road : Road} {a : Answer (Option ℤ)} → value road ≡ checked (road_rows words numbers) (value lent)
+      → (road ≡ lent → a ≡ checked (name_rows words numbers s t) (value (name_at words numbers s t))) → a ≡ lane_named_call words numbers s t
   unfolding lane_named_call
-  named-admitted s t e f = f ∙ sym (road-admitted words numbers (name_rows words numbers s t) (value (name_at words numbers s t)) (value-admitted words numbers (sym e)))
+  named-admitted s t e f =
+      let p = first-passed (road_rows words numbers) (name_rows words numbers s t) lent (value (name_at words numbers s t)) e in
+      f p.0 ∙ sym p.1

@@ -1,38 +1,43 @@
 -- The steps of a side's heights as the code takes them: level from its lane outward and one lane across from where its inner neighbour ends.
-use mathlib.Core.Path.{◌≡◌, refl}
+use mathlib.Core.Path.{◌≡◌, refl, ap, ◌∙◌, sym}
 use mathlib.Core.Bool.{Bool, true, false, ◌||◌}
 use mathlib.Core.List.{List}
-use Prim.Native.Nat.{ℕ, zero, suc, ◌+◌, ◌/◌}
+use Prim.Native.Nat.{ℕ, zero, suc, ◌+◌}
 use native.Mathlib.Numerals.{add-one}
-use lib.Dec.{ltb}
-use lib.ListN.{length, get_or}
+use lib.ListN.{get_or}
 use lib.Ieee.{Float}
 use Rattle.float_laws.specs.Binary64.{◌⊖◌}
-use Rattle.records.specs.declared.points.HeightDef.{HeightDef}
-use Rattle.records.specs.Roads.{Road, Lane, no_lane, section_of, lane_of, heights_of}
-use Rattle.records.proofs.CubicLaws.{height-count}
+use Rattle.records_lent.specs.Lists.{any_below}
+use Rattle.records.specs.Roads.{Road, Lane, no_lane, section_of, lane_of}
 use Rattle.lanes.specs.declared.pairs.Pair.{Pair}
 use Rattle.lanes.specs.Lateral.{height_of, height_toward}
 use Rattle.lanes_borders.specs.declared.across.LaneBorders.{LaneBorders}
 use Rattle.lanes_heights.specs.declared.across.Across.{Across}
 use Rattle.lanes_borders.specs.Borders.{sign_of, outer_after, borders_from, borders_at, base_at, side_lanes, borders_of}
-use Rattle.lanes_heights.specs.Heights.{level_up_to, level_heights, tilted_heights, across_by, own_heights, height_after, heights_at, across_at, is_raised}
+use Rattle.lanes_heights.specs.Heights.{level_up_to, level_heights, tilted_heights, across_by, own_heights, height_after, heights_at, across_at}
 
 -- ---- level
 
--- one of the first k lanes is level
-abbrev pub level_below : List Lane → ℕ → Bool
-level_below lanes zero = false
-level_below lanes (suc k) = level_up_to lanes k
+abbrev pub is_level : List Lane → ℕ → Bool
+is_level lanes k = (get_or lanes k no_lane).level
 
 module _ (lanes : List Lane) where
-  pub level-here : (k : ℕ) {l m : Bool} → l ≡ level_below lanes k → m ≡ (get_or lanes k no_lane).level → l || m ≡ level_up_to lanes k
-  unfolding level_up_to
-  level-here zero e f = rw (e, f)
-  level-here (suc k) e f = rw (e, f)
+  level-any : (k : ℕ) → any_below (is_level lanes) k || is_level lanes k ≡ level_up_to lanes k
+  unfolding any_below level_up_to
+  level-any zero = refl
+  level-any (suc k) = ap (λ b. b || is_level lanes (suc k)) (level-any k)
 
-  pub level-next : (k : ℕ) {l : Bool} → l ≡ level_up_to lanes k → l ≡ level_below lanes (k + 1)
-  level-next k e = rw add-one e
+  pub level-none : false ≡ any_below (is_level lanes) 0
+  unfolding any_below
+  level-none = refl
+
+  -- from the lanes below the k-th and the k-th
+  pub level-here : (k : ℕ) {l m : Bool} → l ≡ any_below (is_level lanes) k → m ≡ is_level lanes k → l || m ≡ level_up_to lanes k
+  level-here k e f = rw (e, f) (level-any k)
+
+  pub level-next : (k : ℕ) {l : Bool} → l ≡ level_up_to lanes k → l ≡ any_below (is_level lanes) (k + 1)
+  unfolding any_below
+  level-next k e = rw add-one (e ∙ sym (level-any k))
 
 -- ---- a lane across
 
@@ -42,18 +47,18 @@ paired b h = record { inner_t = b.inner; outer_t = b.outer; inner_height = h.inn
 module _ (road : Road) (i : ℕ) (s tangent : Float) (right : Bool) (k : ℕ) where
   -- from what the calls give
   module _
-      (inner outer : Float) {start sign : Float} {b : LaneBorders} {hs : List HeightDef} {own h : Pair} {level : Bool} {a : Across}
+      (inner outer : Float) {start sign : Float} {b : LaneBorders} {own h : Pair} {level : Bool} {a : Across}
       (p : start ≡ (section_of road i).start) (q : b ≡ borders_from (lane_of road i right k) (sign_of right) inner (s ⊖ start))
-      (e : hs ≡ (lane_of road i right k).heights) (f : own ≡ height_of hs (s ⊖ start)) (g : sign ≡ sign_of right) (r : a ≡ paired b h) where
+      (f : own ≡ height_of (lane_of road i right k).heights (s ⊖ start)) (g : sign ≡ sign_of right) (r : a ≡ paired b h) where
     pub across-level :
         level ≡ true → h ≡ level_heights own outer sign b.width tangent
         → a ≡ across_by road s (own_heights road i s tangent right k) (borders_from (lane_of road i right k) (sign_of right) inner (s ⊖ (section_of road i).start)) outer (sign_of right) tangent level
-    across-level l t = rw (r, t, g, f, e, q, p, l)
+    across-level l t = rw (r, t, g, f, q, p, l)
 
     pub across-tilted :
         level ≡ false → h ≡ tilted_heights road s own b sign
         → a ≡ across_by road s (own_heights road i s tangent right k) (borders_from (lane_of road i right k) (sign_of right) inner (s ⊖ (section_of road i).start)) outer (sign_of right) tangent level
-    across-tilted l t = rw (r, t, g, f, e, q, p, l)
+    across-tilted l t = rw (r, t, g, f, q, p, l)
 
   -- from the running border, height and level
   pub across-here :
@@ -73,17 +78,12 @@ module _ (road : Road) (i : ℕ) (s tangent : Float) (right : Bool) (k : ℕ) wh
   height_after_lem e = rw (add-one, e)
 
 -- with no level lane up to it a lane's heights are its own and the road's
-pub across-alone : (road : Road) (i : ℕ) (s tangent : Float) (right : Bool) (k : ℕ) {start sign : Float} {b : LaneBorders} {hs : List HeightDef} {own h : Pair} {a : Across}
-    → b ≡ borders_of road i s right k → start ≡ (section_of road i).start → hs ≡ (lane_of road i right k).heights → own ≡ height_of hs (s ⊖ start) → sign ≡ sign_of right → h ≡ tilted_heights road s own b sign → a ≡ paired b h
+pub across-alone : (road : Road) (i : ℕ) (s tangent : Float) (right : Bool) (k : ℕ) {start sign : Float} {b : LaneBorders} {own h : Pair} {a : Across}
+    → b ≡ borders_of road i s right k → start ≡ (section_of road i).start → own ≡ height_of (lane_of road i right k).heights (s ⊖ start) → sign ≡ sign_of right → h ≡ tilted_heights road s own b sign → a ≡ paired b h
     → level_up_to (side_lanes road i right) k ≡ false → a ≡ across_at road i s tangent right k
 unfolding across_at heights_at
-across-alone road i s tangent right k q p e f g t r l = rw (r, t, g, f, e, q, p, l)
+across-alone road i s tangent right k q p f g t r l = rw (r, t, g, f, q, p, l)
 
 pub height-first : (road : Road) (i : ℕ) (s tangent : Float) (right : Bool) {base sign h : Float} → base ≡ base_at road s → sign ≡ sign_of right → h ≡ height_toward road s base sign → h ≡ height_after road i s tangent right 0
 unfolding height_after
 height-first road i s tangent right e f g = rw (g, f, e)
-
--- ---- some lane
-
-pub raised_is : (lane : Lane) (xs : List Float) {m : Bool} → heights_of xs ≡ lane.heights → m ≡ lane.level → ltb 0 (length xs / 3) || m ≡ is_raised lane
-raised_is lane xs e f = rw (← height-count xs, e, f)

@@ -3,6 +3,7 @@
 ghost use Rattle.std.specs.Prelude.{◌≡◌, false, Float};
 ghost use Rattle.float_laws.specs.Binary64.{◌⊖◌};
 ghost use Rattle.records.specs.Roads.{section_of, lane_of};
+ghost use Rattle.lanes.specs.Lateral.{height_of};
 ghost use Rattle.lanes_borders.specs.Borders.{sign_of, side_lanes, borders_from};
 ghost use Rattle.lanes_heights.specs.Heights.{level_up_to, level_heights, tilted_heights, across_by, own_heights, across_at};
 
@@ -14,6 +15,20 @@ use lanes_shape::height_toward;
 use records::{LanePlace, LentRoad};
 use records_lanes::lane;
 use records_sections::section_start;
+
+// A lane's own heights, s metres into its section.
+fn own_heights(road: &LentRoad, place: LanePlace, s: f64) -> Pair
+    ensures { result ≡ height_of (lane_of road.now place.section place.right place.k).heights s }
+{
+    let lane = lane(road, place);
+    height_at(&lane.heights, s)
+}
+
+fn is_level(road: &LentRoad, place: LanePlace) -> bool
+    ensures { result ≡ (lane_of road.now place.section place.right place.k).level }
+{
+    lane(road, place).level
+}
 
 // ---- a lane across the road
 fn level_heights(own: Pair, outer: f64, sign: f64, width: f64, tangent: f64) -> Pair
@@ -59,7 +74,7 @@ fn next_across(road: &LentRoad, place: LanePlace, s: f64, tangent: f64, edge: Ed
 {
     let into = s - section_start(road, place.section);
     let b = next_border(road, place, into, edge.t);
-    let own = height_at(&lane(road, place).heights, into);
+    let own = own_heights(road, place, into);
     let sign = sign_of(place.right);
     if edge.level {
         across_of(b, level_heights(own, edge.height, sign, b.width, tangent))
@@ -72,7 +87,7 @@ fn next_across(road: &LentRoad, place: LanePlace, s: f64, tangent: f64, edge: Ed
 fn level_up_to(road: &LentRoad, place: LanePlace) -> bool
     ensures { result ≡ level_up_to (side_lanes road.now place.section place.right) place.k }
 {
-    (0..place.k).any(|k| lane(road, LanePlace { k, ..place }).level) | lane(road, place).level
+    (0..place.k).any(|k| is_level(road, LanePlace { k, ..place })) | is_level(road, place)
 }
 
 // A lane across the road at s where no lane up to it is level: its neighbours' heights don't count.
@@ -81,7 +96,7 @@ fn tilted_across(road: &LentRoad, place: LanePlace, s: f64) -> Across
 {
     let b = lane_borders(road, place, s);
     let into = s - section_start(road, place.section);
-    let own = height_at(&lane(road, place).heights, into);
+    let own = own_heights(road, place, into);
     across_of(b, tilted_heights(road, s, own, b, sign_of(place.right)))
 }
 
@@ -97,12 +112,12 @@ fn stacked_across(road: &LentRoad, place: LanePlace, s: f64, tangent: f64) -> Ac
     };
     for k in 0..place.k {
         let inner = LanePlace { k, ..place };
-        edge.level |= lane(road, inner).level;
+        edge.level |= is_level(road, inner);
         let a = next_across(road, inner, s, tangent, edge);
         edge.t = a.outer_t;
         edge.height = a.outer_height;
     }
-    edge.level |= lane(road, place).level;
+    edge.level |= is_level(road, place);
     next_across(road, place, s, tangent, edge)
 }
 

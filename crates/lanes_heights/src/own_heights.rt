@@ -30,17 +30,18 @@ fn held(h: HeightDef) -> Pair
 pub fn height_at(heights: &Heights, s: f64) -> Pair
     ensures { result ≡ height_of heights.now s }
 {
+    let count = heights.len();
     match active_height(heights, s) {
         Some(i) => {
             let h = heights.get(i);
-            if i + 1 < heights.len() {
+            if i + 1 < count {
                 between(h, heights.get(i + 1), s)
             } else {
                 held(h)
             }
         }
         None => {
-            if heights.len() == 0 {
+            if count == 0 {
                 Pair {
                     inner: 0.0,
                     outer: 0.0,

@@ -1,23 +1,22 @@
--- The scan for the last lane that passes, as the code runs it over a side's running border, and the numbers 0 for none and k + 1 for place k as names and places.
+-- The scan for the last lane that passes, as the code runs it over a side's running border, and a place as a name.
 use mathlib.Core.Path.{◌≡◌, refl, sym, ap, ◌∙◌, subst}
-use mathlib.Core.Bool.{Bool, true, false}
+use mathlib.Core.Bool.{Bool, true, false, cond}
 use Prim.Native.Nat.{ℕ, zero, suc, ◌+◌, ◌-◌, ◌≤◌, ◌<◌}
 use native.Mathlib.Omega.{arith}
 use native.Mathlib.Numerals.{add-one}
-use lib.IntN.{ℤ, pos, negsuc, ◌-ℤ◌, +ℤ_idl}
+use lib.IntN.{ℤ, pos, negsuc, ◌+ℤ◌, ◌-ℤ◌}
 use lib.Ieee.{Float, lt}
 use mir.Syntax.{w32}
 use mir.Val.{SFits, of_z, to_z}
 use mir.ValLaws.{to_z_pos, to_z-of_z}
 use Rattle.float_laws.specs.Binary64.{◌⊖◌, ◌⊗◌, zero64}
 use Rattle.std.specs.declared.option.Option.{Option}
-use Rattle.records.specs.Active.{found_of}
+use Rattle.std.specs.declared.option.Option.TheVariants.{Some, None}
+use Rattle.records_lent.specs.Lists.{last_that}
 use Rattle.records.specs.Roads.{Road, lane_of, section_of}
 use Rattle.lanes_borders.specs.declared.across.LaneBorders.{LaneBorders}
-use Rattle.lanes_naming.specs.declared.lane_names.LaneAt.TheVariants as place
-use Rattle.lanes_naming.specs.declared.lane_names.LaneName.TheVariants as name
 use Rattle.lanes_borders.specs.Borders.{sign_of, outer_after, borders_from, borders_at, base_at, borders_of}
-use Rattle.lanes_naming.specs.Naming.{last_that, beyond_test, name_by, place_by}
+use Rattle.lanes_naming.specs.Naming.{beyond_test}
 
 -- ---- the running inner border
 
@@ -37,60 +36,41 @@ module _ (road : Road) (i : ℕ) (s : Float) (right : Bool) where
 -- ---- the scan
 
 module _ (p : ℕ → Bool) where
-  pub that-none : found_of 0 ≡ last_that p 0
-  unfolding found_of last_that
+  pub that-none : None ≡ last_that p 0
+  unfolding last_that
   that-none = refl
 
-  pub that-hit : (k : ℕ) → p k ≡ true → found_of (k + 1) ≡ last_that p (k + 1)
-  unfolding found_of last_that
+  pub that-hit : (k : ℕ) → p k ≡ true → Some k ≡ last_that p (k + 1)
+  unfolding last_that
   that-hit k h = rw (add-one, h)
 
   pub that-miss : (k : ℕ) {x : Option ℕ} → p k ≡ false → x ≡ last_that p k → x ≡ last_that p (k + 1)
   unfolding last_that
   that-miss k h e = rw (add-one, h) e
 
--- ---- names and places
+  pub that-below : (n k : ℕ) → last_that p n ≡ Some k → k < n
+  unfolding last_that
+  that-below zero k e = let z : ◌≡◌ {A = ℕ} 0 1 = cc in absurd (omega arith)
+  that-below (suc n) k e = go (p n) (that-below n k) e
+    where
+      go : (b : Bool) → (last_that p n ≡ Some k → k < n) → cond b (Some n) (last_that p n) ≡ Some k → k < suc n
+      go true f h = let i : n ≡ k = cc in omega arith
+      go false f h = let l = f h in omega arith
 
-less_one : (j : ℕ) → suc j - 1 ≡ j
-less_one j = omega arith
+-- ---- the names: a lane's place less than 2 ^ 16 as an i32
 
-minus_is : (j : ℕ) → suc j < 65536 → pos 0 -ℤ to_z w32 (suc j) ≡ negsuc j
-minus_is j h = ap (λ (z : ℤ). pos 0 -ℤ z) (to_z_pos w32 (suc j) (omega arith)) ∙ +ℤ_idl (negsuc j)
+minus_is : (k : ℕ) → k < 65536 → negsuc 0 -ℤ to_z w32 k ≡ negsuc k
+minus_is k h = ap (λ (z : ℤ). negsuc 0 -ℤ z) (to_z_pos w32 k (omega arith)) ∙ back k
+  where
+    back : (k : ℕ) → negsuc 0 -ℤ pos k ≡ negsuc k
+    back zero = refl
+    back (suc j) = ap (λ (n : ℕ). negsuc (suc n)) (let e : 0 + j ≡ j = omega arith in e)
 
-pub minus-fits : (r : ℕ) → 0 < r → r < 65536 → SFits w32 (pos 0 -ℤ to_z w32 r)
-minus-fits zero p h = absurd (omega arith)
-minus-fits (suc j) p h = subst (λ (z : ℤ). SFits w32 z) (sym (minus_is j h)) (record { sfits = omega arith })
+pub name-right : (k : ℕ) → k < 65536 → to_z w32 (of_z w32 (negsuc 0 -ℤ to_z w32 k)) ≡ negsuc k
+name-right k h = to_z-of_z w32 (negsuc 0 -ℤ to_z w32 k) (subst (λ (z : ℤ). SFits w32 z) (sym (minus_is k h)) (record { sfits = omega arith })) ∙ minus_is k h
 
-pub name-right : (left right : ℕ) → 0 < right → right < 65536 → name.Id (to_z w32 (of_z w32 (pos 0 -ℤ to_z w32 right))) ≡ name_by (found_of left) (found_of right)
-unfolding found_of
-name-right left zero p h = absurd (omega arith)
-name-right left (suc j) p h = ap name.Id (to_z-of_z w32 (pos 0 -ℤ to_z w32 (suc j)) (minus-fits (suc j) p h) ∙ minus_is j h)
+plus_is : (k : ℕ) → k < 65536 → to_z w32 k +ℤ pos 1 ≡ pos (suc k)
+plus_is k h = ap (λ (z : ℤ). z +ℤ pos 1) (to_z_pos w32 k (omega arith)) ∙ ap pos (add-one k)
 
-pub name-left : (left right : ℕ) → right ≤ 0 → 0 < left → left < 65536 → name.Id (to_z w32 left) ≡ name_by (found_of left) (found_of right)
-unfolding found_of
-name-left zero right q p h = absurd (omega arith)
-name-left (suc j) zero q p h = ap name.Id (to_z_pos w32 (suc j) (omega arith))
-name-left (suc j) (suc i) q p h = absurd (omega arith)
-
-pub name-none : (left right : ℕ) → right ≤ 0 → left ≤ 0 → name.Nothing ≡ name_by (found_of left) (found_of right)
-unfolding found_of
-name-none zero zero q p = refl
-name-none (suc j) zero q p = absurd (omega arith)
-name-none left (suc i) q p = absurd (omega arith)
-
-pub place-right : (left right : ℕ) → 0 < right → place.Right (right - 1) ≡ place_by (found_of left) (found_of right)
-unfolding found_of
-place-right left zero p = absurd (omega arith)
-place-right left (suc j) p = ap place.Right (less_one j)
-
-pub place-left : (left right : ℕ) → right ≤ 0 → 0 < left → place.Left (left - 1) ≡ place_by (found_of left) (found_of right)
-unfolding found_of
-place-left zero right q p = absurd (omega arith)
-place-left (suc j) zero q p = ap place.Left (less_one j)
-place-left (suc j) (suc i) q p = absurd (omega arith)
-
-pub place_none : (left right : ℕ) → right ≤ 0 → left ≤ 0 → place.Nothing ≡ place_by (found_of left) (found_of right)
-unfolding found_of
-place_none zero zero q p = refl
-place_none (suc j) zero q p = absurd (omega arith)
-place_none left (suc i) q p = absurd (omega arith)
+pub name-left : (k : ℕ) → k < 65536 → to_z w32 (of_z w32 (to_z w32 k +ℤ pos 1)) ≡ pos (suc k)
+name-left k h = to_z-of_z w32 (to_z w32 k +ℤ pos 1) (subst (λ (z : ℤ). SFits w32 z) (sym (plus_is k h)) (record { sfits = omega arith })) ∙ plus_is k h

@@ -1,8 +1,6 @@
 // Which lane lies at t: the name that the naming call answers, and the lane by whose heights the surface goes.
-ghost use Rattle.std.specs.Prelude.{◌≡◌, ℕ, ◌<◌, Some, length};
-ghost use Rattle.records_lent.specs.Lists.{last_that};
-ghost use Rattle.lanes_borders.specs.Borders.{sign_of, side_lanes, borders_of};
-ghost use Rattle.lanes_naming.specs.Naming.{beyond_test, lane_named, lane_at};
+ghost use Rattle.std.specs.Prelude.{◌≡◌, ℕ, ◌<◌, Some};
+ghost use Rattle.lanes_naming.specs.Naming.{beyond_on, lane_named, lane_at};
 
 use lanes_borders::{base_at, next_border, sign_of};
 use records::{LanePlace, LentRoad};
@@ -10,7 +8,7 @@ use records_sections::{lane_count, section_start};
 
 // The outermost lane of a side whose inner border t lies beyond.
 fn last_beyond(road: &LentRoad, section: usize, s: f64, t: f64, right: bool) -> Option<usize>
-    ensures value { result ≡ last_that (λ (k : ℕ). beyond_test (sign_of right) (borders_of road.now section s right k).inner t) (length (side_lanes road.now section right)) }
+    ensures value { result ≡ beyond_on road.now section s t right }
     ensures small { (k : ℕ) → result ≡ Some k → k < 65536 }
 {
     let into = s - section_start(road, section);

@@ -1,3 +1,4 @@
 pub mod SampleWriting
 pub mod SampleCalls
 pub mod PoseCalls
+mod Refused

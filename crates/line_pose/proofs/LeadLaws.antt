@@ -2,7 +2,7 @@
 use Prim.Native.Nat.{ℕ, ◌+◌, ◌-◌, ◌*◌, ◌<◌, ◌≤◌}
 use native.Mathlib.Omega.{arith}
 use mathlib.Core.Path.{◌≡◌, refl, ◌∙◌, ap}
-use mathlib.Core.Bool.{Bool, true, false, ◌&&◌, not}
+use mathlib.Core.Bool.{Bool, true, false, ◌&&◌}
 use mathlib.Core.List.{List}
 use lib.ListN.{get_or}
 use lib.Ieee.{Float, nan, le}
@@ -12,10 +12,6 @@ use Rattle.line_pose.proofs.PoseLaws.{lead-start, lead-next}
 both : (a b : Bool) → a && b ≡ true → (a ≡ true) × (b ≡ true)
 both true b h = (refl, h)
 both false b h = (h, cc)
-
-pub not-false : (b : Bool) → not b ≡ false → b ≡ true
-not-false true h = refl
-not-false false h = cc
 
 module _ (samples : List Float) (d : Float) (at : ℕ) where
   -- the test of the sample at place j of the slice
@@ -57,11 +53,11 @@ module _ (samples : List Float) (d : Float) (at : ℕ) where
         ∙ ap (λ (m : ℕ). 8 + leading samples (at + 8) d m) e
 
 -- eight more, where the loop has counted k of n
-pub lead-eights : (samples : List Float) (d : Float) (first n k : ℕ) → k + 8 ≤ n
+pub lead-eights : (samples : List Float) (d : Float) (first n k j : ℕ) → j ≡ k + 8 → j ≤ n
     → ((m : ℕ) → leading samples (first + k) d (m + 8) ≡ 8 + leading samples (first + k + 8) d m)
-    → k + leading samples (first + k) d (n - k) ≡ k + 8 + leading samples (first + (k + 8)) d (n - (k + 8))
-lead-eights samples d first n k l h =
-    let e : n - k ≡ n - (k + 8) + 8 = omega arith in
-    let f : first + k + 8 ≡ first + (k + 8) = omega arith in
-    let g : k + leading samples (first + k) d (n - k) ≡ k + (8 + leading samples (first + (k + 8)) d (n - (k + 8))) = ap (λ (m : ℕ). k + leading samples (first + k) d m) e ∙ ap (λ (m : ℕ). k + m) (h (n - (k + 8)) ∙ ap (λ (i : ℕ). 8 + leading samples i d (n - (k + 8))) f) in
+    → k + leading samples (first + k) d (n - k) ≡ j + leading samples (first + j) d (n - j)
+lead-eights samples d first n k j p l h =
+    let e : n - k ≡ n - j + 8 = omega arith in
+    let f : first + k + 8 ≡ first + j = omega arith in
+    let g : k + leading samples (first + k) d (n - k) ≡ k + (8 + leading samples (first + j) d (n - j)) = ap (λ (m : ℕ). k + leading samples (first + k) d m) e ∙ ap (λ (m : ℕ). k + m) (h (n - j) ∙ ap (λ (i : ℕ). 8 + leading samples i d (n - j)) f) in
     g ∙ omega arith

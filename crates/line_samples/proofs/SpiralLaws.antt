@@ -138,10 +138,10 @@ module _ (road : Road) where
   pub before_more : (i : ℕ) {sum n : ℕ} {g : GeomRec} → sum ≡ samples_before road i → g ≡ geom_at road i → n ≡ sample_count g → sum + n ≡ samples_before road (i + 1)
   before_more i e f h = rw (e, h, f, add-one) (sym (before-next i))
 
-  pub before-done : (i k m : ℕ) → m ≡ length road.geoms → k ≡ min i m → samples_before road k ≡ samples_before road i
-  before-done i k m e h = go (leb i m) (leb→le i m) (nleb→lt i m)
+  pub before-done : (i k : ℕ) → k ≡ min i (length road.geoms) → samples_before road k ≡ samples_before road i
+  before-done i k h = go (leb i (length road.geoms)) (leb→le i (length road.geoms)) (nleb→lt i (length road.geoms))
     where
-      go : (b : Bool) → (T b → i ≤ m) → (T (not b) → m < i) → samples_before road k ≡ samples_before road i
+      go : (b : Bool) → (T b → i ≤ length road.geoms) → (T (not b) → length road.geoms < i) → samples_before road k ≡ samples_before road i
       go true p q = let l = p tt in let s : k ≡ i = omega arith in ap (samples_before road) s
       go false p q =
           let l = q tt in

@@ -8,15 +8,15 @@ use native.Mathlib.Nat.{le_of_suc-le-suc, eq-or-lt_of_le}
 use lib.Ieee.{Float, le}
 use Rattle.std.specs.declared.option.Option.TheVariants.{Some}
 use Rattle.records_lent.specs.Lists.{last_that}
+use Rattle.records_lent.proofs.TableLaws.{last_that-same}
 use Rattle.records.specs.Active.{last_start}
 
 weaker : (i n : ℕ) → i < n → i < suc n
 weaker i n h = omega arith
 
 pub last_start-same : (f g : ℕ → Float) (limit : Float) (n : ℕ) → ((i : ℕ) → i < n → f i ≡ g i) → last_start f limit n ≡ last_start g limit n
-unfolding last_start last_that
-last_start-same f g limit zero h = refl
-last_start-same f g limit (suc n) h = rw (h n (omega arith), last_start-same f g limit n (λ i l. h i (weaker i n l)))
+unfolding last_start
+last_start-same f g limit n h = last_that-same _ _ n (λ i l. ap (λ (x : Float). le x limit) (h i l))
 
 same_place : {i j : ℕ} → Some i ≡ Some j → i ≡ j
 same_place e = cc

@@ -1,4 +1,4 @@
--- The lists of `Lists`: a table's length and its lines, the elements of a span, and `all_below` and `any_below` as a loop meets them. By induction.
+-- The lists of `Lists`: a table's length and its lines, the elements of a span, `all_below` and `any_below` as a loop meets them, and what `last_that` depends on. By induction.
 use Prim.Native.Nat.{ℕ, zero, suc, ◌+◌, ◌<◌, ◌≤◌}
 use native.Mathlib.Omega.{arith}
 use native.Mathlib.Numerals.{add-one}
@@ -9,7 +9,7 @@ use mathlib.Core.List.{List}
 use mathlib.Core.Logic.{⊎_elim}
 use lib.ListN.{length, get_or, drop, get_or-eq_default}
 use lib.Seq.{get_or-take, get_or-drop}
-use Rattle.records_lent.specs.Lists.{tabulate, span, all_below, any_below}
+use Rattle.records_lent.specs.Lists.{tabulate, span, all_below, any_below, last_that}
 
 -- ---- tables
 
@@ -77,3 +77,13 @@ module _ (p : ℕ → Bool) where
       go : (a : Bool) → (a ≡ true → (i : ℕ) × (i < n) × (p i ≡ true)) → a || p n ≡ true → (i : ℕ) × (i < suc n) × (p i ≡ true)
       go true f e = let m = f refl in let l = m.1 in (m.0, omega arith, m.2)
       go false f e = (n, omega arith, e)
+
+-- ---- the last that passes: the tests below n alone decide
+
+weaker : (i n : ℕ) → i < n → i < suc n
+weaker i n h = omega arith
+
+pub last_that-same : (p q : ℕ → Bool) (n : ℕ) → ((i : ℕ) → i < n → p i ≡ q i) → last_that p n ≡ last_that q n
+unfolding last_that
+last_that-same p q zero h = refl
+last_that-same p q (suc n) h = rw (h n (omega arith), last_that-same p q n (λ i l. h i (weaker i n l)))

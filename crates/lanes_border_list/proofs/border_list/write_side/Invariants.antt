@@ -1,18 +1,12 @@
 -- `write_side`: after k turns the list holds k lanes from its place on, and inner is where they end.
 use mathlib.Core.Path.{◌≡◌}
 use mathlib.Core.List.{◌++◌}
-use Prim.Native.Nat.{◌≤◌, ◌+◌, ◌-◌, ◌*◌}
-use lib.ListN.{length, take, drop}
-use Rattle.records.specs.Roads.{road_of}
+use Prim.Native.Nat.{◌+◌, ◌*◌}
+use lib.ListN.{take, drop}
 use Rattle.lanes_borders.specs.Borders.{sign_of, side_lanes, outer_after, borders_at, side_list}
 use Rattle.lanes_border_list.proofs.border_list.write_side.Given as goal
 
 abbrev pub invariant-loop-k : goal.invariant-loop-k
 invariant-loop-k l =
-    (l.k ≤ l.n)
-    × (length l.list ≡ length l.initial.list)
-    × (l.inner ≡ outer_after (side_lanes (road_of l.words l.numbers) l.section l.right) (sign_of l.right) l.base l.s l.k)
-    × (l.list ≡ (take l.first l.initial.list ++ side_list (borders_at (side_lanes (road_of l.words l.numbers) l.section l.right) (sign_of l.right) l.base l.s) l.k) ++ drop (l.first + l.k * 3) l.initial.list)
-
-abbrev pub decreases-loop-k : goal.decreases-loop-k
-decreases-loop-k l = l.n - l.k
+    (l.inner ≡ outer_after (side_lanes l.road l.section l.right) (sign_of l.right) l.base l.s l.k)
+    × (l.list ≡ (take l.first l.initial.list ++ side_list (borders_at (side_lanes l.road l.section l.right) (sign_of l.right) l.base l.s) l.k) ++ drop (l.first + l.k * 3) l.initial.list)

@@ -1,25 +1,50 @@
--- `borders`: a road that is refused, else what rows 7 and 11 say.
-use mathlib.Core.Path.{refl}
+-- `borders`: a road that is refused, else what rows 7 and 11 say; `list_borders` has kept or written the list.
+use mathlib.Core.Path.{refl, ◌∙◌}
 use lib.ListN.{length}
-use Rattle.admission.proofs.AdmissionLaws.{refused-of, admitted_of}
-use Rattle.lanes_calls.proofs.CallLaws.{borders-refused, borders-admitted, list-by}
+use Rattle.lanes_calls.proofs.Refused.{told}
+use Rattle.lanes_calls.proofs.CallLaws.{admitted-road, list-off, list-short, list-long, list-kept, list-made, list-by, borders-refused, borders-admitted}
 use Rattle.lanes_calls.proofs.border_call.borders.Goals as goal
 
-pub returns-in-Refused : goal.returns-in-Refused
-returns-in-Refused c =
-    let a = c.args in
-    let w = a.words.now in
-    let d = a.numbers.now in
-    let xs = a.list.now in
-    let e = borders-refused w d a.s (length xs) _ (refused-of w d c.admit.ensures c.in-Refused.is) in
-    record { result_value = e; list_after = list-by w d a.s xs e refl }
+pub returns-in_err-road : goal.returns-in_err-road
+returns-in_err-road c =
+    let w = c.args.words.now in
+    let d = c.args.numbers.now in
+    let s = c.args.s in
+    let xs = c.args.list.now in
+    let e = borders-refused w d s (length xs) c.in_err-road.ensures in
+    record { result_value = told c.from_residual.result _ c.from_residual.ensures.1 ∙ e; list_after = list-by w d s xs e refl }
 
-pub returns-in-Admitted : goal.returns-in-Admitted
-returns-in-Admitted c =
-    let m = c.list_at in
-    let a = c.args in
-    let w = a.words.now in
-    let d = a.numbers.now in
-    let xs = a.list.now in
-    let e = borders-admitted w d a.s (length xs) (admitted_of w d c.admit.ensures c.in-Admitted.is) m.ensures.result_value in
-    record { result_value = e; list_after = list-by w d a.s xs e m.ensures.list_after }
+pub returns-then-not-on_road : goal.returns-then-not-on_road
+returns-then-not-on_road c =
+    let w = c.args.words.now in
+    let d = c.args.numbers.now in
+    let s = c.args.s in
+    let xs = c.args.list.now in
+    let e = borders-admitted w d s (length xs) c.in_ok-road.ensures (λ r. list-off w d s (length xs) r c.on_road.ensures c.if-not-on_road.true) in
+    record { result_value = e; list_after = list-by w d s xs e refl }
+
+pub returns-then-not-list_borders : goal.returns-then-not-list_borders
+returns-then-not-list_borders c =
+    let w = c.args.words.now in
+    let d = c.args.numbers.now in
+    let s = c.args.s in
+    let xs = c.args.list.now in
+    let listed = c.list_borders.ensures in
+    let e =
+    borders-admitted w d s (length xs) c.in_ok-road.ensures
+    (λ r. list-short w d s (length xs) r c.on_road.ensures c.if-not-on_road.false c.section_at-section.ensures listed.value c.if-not-list_borders.true)
+    in
+    record { result_value = e; list_after = list-by w d s xs e (list-kept w d s xs listed.list_after c.if-not-list_borders.true) }
+
+pub returns : goal.returns
+returns c =
+    let w = c.args.words.now in
+    let d = c.args.numbers.now in
+    let s = c.args.s in
+    let xs = c.args.list.now in
+    let listed = c.list_borders.ensures in
+    let e =
+    borders-admitted w d s (length xs) c.in_ok-road.ensures
+    (λ r. list-long w d s (length xs) r c.on_road.ensures c.if-not-on_road.false c.section_at-section.ensures listed.value c.if-not-list_borders.false c.section_lanes.ensures)
+    in
+    record { result_value = e; list_after = list-by w d s xs e (list-made w d s xs listed.list_after c.if-not-list_borders.false (admitted-road w d c.in_ok-road.ensures) c.section_at-section.ensures _) }

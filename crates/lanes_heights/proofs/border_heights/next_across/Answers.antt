@@ -1,16 +1,17 @@
 -- `next_across`: by whether the lane is level.
-use Rattle.records.specs.Roads.{road_of}
 use Rattle.lanes_heights.proofs.RaisingSteps.{across-level, across-tilted}
 use Rattle.lanes_heights.proofs.border_heights.next_across.Goals as goal
 
-pub returns-then-level : goal.returns-then-level
-returns-then-level c =
+pub returns-then-edge : goal.returns-then-edge
+returns-then-edge c =
     let a = c.args in
-    across-level (road_of a.words.now a.numbers.now) a.section a.s a.tangent a.right a.k a.inner a.outer
-    c.section_start.ensures c.next_border-b.ensures c.heights.ensures c.height_at-own.ensures c.sign_of-sign.ensures c.across_of.ensures c.if-level.true c.level_heights.ensures
+    let place = a.place in
+    across-level a.road.now place.section a.s a.tangent place.right place.k a.edge.t a.edge.height
+    c.section_start.ensures c.next_border-b.ensures c.own_heights-own.ensures c.sign_of-sign.ensures c.across_of.ensures c.if-edge.true c.level_heights.ensures
 
-pub returns-else-level : goal.returns-else-level
-returns-else-level c =
+pub returns-else-edge : goal.returns-else-edge
+returns-else-edge c =
     let a = c.args in
-    across-tilted (road_of a.words.now a.numbers.now) a.section a.s a.tangent a.right a.k a.inner a.outer
-    c.section_start.ensures c.next_border-b.ensures c.heights.ensures c.height_at-own.ensures c.sign_of-sign.ensures c.across_of-else-level.ensures c.if-level.false c.tilted_heights.ensures
+    let place = a.place in
+    across-tilted a.road.now place.section a.s a.tangent place.right place.k a.edge.t a.edge.height
+    c.section_start.ensures c.next_border-b.ensures c.own_heights-own.ensures c.sign_of-sign.ensures c.across_of-else-edge.ensures c.if-edge.false c.tilted_heights.ensures

@@ -1,18 +1,13 @@
--- `stacked_across`: before turn j the border, the height and level are those after j lanes.
+-- `stacked_across`: before turn k the edge is that of the k lanes inside.
 use mathlib.Core.Path.{◌≡◌}
-use Prim.Native.Nat.{◌≤◌, ◌-◌}
-use Rattle.records.specs.Roads.{road_of}
+use Rattle.records_lent.specs.Lists.{any_below}
 use Rattle.lanes_borders.specs.Borders.{side_lanes, borders_of}
 use Rattle.lanes_heights.specs.Heights.{height_after}
-use Rattle.lanes_heights.proofs.RaisingSteps.{level_below}
+use Rattle.lanes_heights.proofs.RaisingSteps.{is_level}
 use Rattle.lanes_heights.proofs.border_heights.stacked_across.Given as goal
 
-abbrev pub invariant-loop-j : goal.invariant-loop-j
-invariant-loop-j l =
-    (l.j ≤ l.k)
-    × (l.inner ≡ (borders_of (road_of l.words l.numbers) l.section l.s l.right l.j).inner)
-    × (l.outer ≡ height_after (road_of l.words l.numbers) l.section l.s l.tangent l.right l.j)
-    × (l.level ≡ level_below (side_lanes (road_of l.words l.numbers) l.section l.right) l.j)
-
-abbrev pub decreases-loop-j : goal.decreases-loop-j
-decreases-loop-j l = l.k - l.j
+abbrev pub invariant-loop-k : goal.invariant-loop-k
+invariant-loop-k l =
+    (l.edge.t ≡ (borders_of l.road l.place.section l.s l.place.right l.k).inner)
+    × (l.edge.height ≡ height_after l.road l.place.section l.s l.tangent l.place.right l.k)
+    × (l.edge.level ≡ any_below (is_level (side_lanes l.road l.place.section l.place.right)) l.k)

@@ -1,12 +1,11 @@
 -- `section_raised`: the two sides.
 use Rattle.lanes_heights.specs.Heights.{section_raised}
-use mathlib.Core.Path.{sym, ◌∙◌}
 use Rattle.lanes_heights.proofs.raised.section_raised.Goals as goal
 
 pub returns-then-side_raised : goal.returns-then-side_raised
 unfolding section_raised
-returns-then-side_raised c = let e = sym c.side_raised.ensures ∙ c.if-side_raised.true in rw e
+returns-then-side_raised c = rw (← c.side_raised.ensures, c.if-side_raised.true)
 
-pub returns : goal.returns
+pub returns-else-side_raised : goal.returns-else-side_raised
 unfolding section_raised
-returns c = let e = sym c.side_raised.ensures ∙ c.if-side_raised.false in rw (c.side_raised-2.ensures, e)
+returns-else-side_raised c = rw (c.side_raised-else-side_raised.ensures, ← c.side_raised.ensures, c.if-side_raised.false)

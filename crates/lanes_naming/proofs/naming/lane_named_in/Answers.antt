@@ -1,15 +1,17 @@
--- `lane_named_in`: the two sides, then which of them has a lane; the naming test is the one of the scan.
-use mathlib.Core.Path.{◌∙◌, ap}
-use Rattle.std.specs.declared.option.Option.{Option}
-use Rattle.records.specs.Active.{found_of}
-use Rattle.lanes_naming.specs.Naming.{name_by, lane_named, named_on}
+-- `lane_named_in`: the right side, then the left one; the naming test is the one of the scan.
+use Rattle.lanes_naming.specs.Naming.{lane_named, named_on, beyond_on}
+use Rattle.lanes_naming.proofs.NamingSteps.{name-right, name-left}
 use Rattle.lanes_naming.proofs.naming.lane_named_in.Goals as goal
 
+pub returns-in-Some : goal.returns-in-Some
+unfolding lane_named named_on beyond_on
+returns-in-Some c = rw (name-right c.in-Some.k (c.last_beyond.ensures.small _ c.in-Some.is), ← c.last_beyond.ensures.value, c.in-Some.is)
+
+pub returns-in_err-left : goal.returns-in_err-left
+unfolding lane_named named_on beyond_on
+returns-in_err-left c = rw (c.from_residual.ensures, ← c.last_beyond.ensures.value, c.in_default.is, ← c.last_beyond-2.ensures.value, c.in_err-left.was)
+
 pub returns : goal.returns
-unfolding lane_named named_on
+unfolding lane_named named_on beyond_on
 returns c =
-    let left = c.last_beyond-left in
-    let right = c.last_beyond-right in
-    c.name_of.ensures
-    ∙ ap (λ (x : Option ℕ). name_by x (found_of right.result)) left.ensures.result_value
-    ∙ ap (name_by _) right.ensures.result_value
+    rw (name-left c.in_ok-left.left (c.last_beyond-2.ensures.small _ c.in_ok-left.was), ← c.last_beyond.ensures.value, c.in_default.is, ← c.last_beyond-2.ensures.value, c.in_ok-left.was)

@@ -1,9 +1,26 @@
--- `has_cross_section`: by the strips and the shifts.
-use Rattle.records.specs.Roads.{road_of}
+-- `has_cross_section`: by the shifts and the strips.
+use Prim.Native.Nat.{ℕ}
+use mathlib.Core.Path.{◌≡◌, refl, ap, ◌∙◌}
+use mathlib.Core.Bool.{Bool, true, false, ◌||◌}
+use lib.Dec.{ltb}
+use borrow.Author.Rules.{rules}
+use Rattle.records_lent.specs.Lists.{any_below}
+use Rattle.records_lent.proofs.RangeLaws.{any_range}
+use Rattle.records.specs.Roads.{strip_at}
+use Rattle.lanes.specs.Lateral.{is_present}
 use Rattle.lanes.proofs.LateralLaws.{section_by_lem}
 use Rattle.lanes_shape.proofs.across.has_cross_section.Goals as goal
 
+four-more : (x a b c d : Bool) → x || (((a || b) || c) || d) ≡ (((x || a) || b) || c) || d
+four-more true a b c d = refl
+four-more false a b c d = refl
+
 pub returns : goal.returns
+unfolding any_below
 returns c =
-    let a = c.args in
-    section_by_lem (road_of a.words.now a.numbers.now) _ c.tshifts.ensures c.is_present.ensures c.is_present-2.ensures c.is_present-3.ensures c.is_present-4.ensures
+    let road = c.args.road.now in
+    let p = λ (i : ℕ). is_present (strip_at road i) in
+    let x = ltb 0 c.len.result in
+    ap (λ (b : Bool). x || b) (any_range p 4 c.any.ensures.ran (λ x b q k. search rules))
+    ∙ four-more x (p 0) (p 1) (p 2) (p 3)
+    ∙ section_by_lem road c.tshifts.ensures c.len.ensures

@@ -1,32 +1,31 @@
 -- `shape_at`: each way out is one case of the definition.
 use native.Mathlib.Omega.{arith}
 use mathlib.Core.Path.{◌∙◌}
-use Rattle.records.specs.Roads.{road_of}
 use Rattle.lanes.proofs.LateralLaws.{profile-below, shape-next, shape-last, shape-none, shape-first}
 use Rattle.lanes_shape.proofs.profiles.shape_at.Goals as goal
 
 pub overflow_add-i : goal.overflow_add-i
 overflow_add-i c =
     let a = c.args in
-    let h = profile-below (road_of a.words.now a.numbers.now) a.s a.t c.profile_count-count.result c.profile_count-count.ensures c.profile_at.ensures _ c.in-At.is in
+    let h = profile-below a.road.now a.s a.t c.profile_count-count.result c.profile_count-count.ensures c.profile_at.ensures _ c.in-Some.is in
     omega arith
 
 pub returns-then-i-count : goal.returns-then-i-count
 returns-then-i-count c =
     let a = c.args in
-    c.shape_between.ensures ∙ shape-next (road_of a.words.now a.numbers.now) a.s a.t c.profile_count-count.result c.profile_count-count.ensures c.profile_at.ensures _ c.in-At.is c.if-i-count.true
+    c.shape_between.ensures ∙ shape-next a.road.now a.s a.t c.profile_count-count.result c.profile_count-count.ensures c.profile_at.ensures _ c.in-Some.is c.if-i-count.true
 
 pub returns-else-i-count : goal.returns-else-i-count
 returns-else-i-count c =
     let a = c.args in
-    c.profile_height.ensures ∙ shape-last (road_of a.words.now a.numbers.now) a.s a.t c.profile_count-count.result c.profile_count-count.ensures c.profile_at.ensures _ c.in-At.is c.if-i-count.false
+    c.profile_height.ensures ∙ shape-last a.road.now a.s a.t c.profile_count-count.result c.profile_count-count.ensures c.profile_at.ensures _ c.in-Some.is c.if-i-count.false
 
 pub returns-then-count-eq0 : goal.returns-then-count-eq0
 returns-then-count-eq0 c =
     let a = c.args in
-    shape-none (road_of a.words.now a.numbers.now) a.s a.t c.profile_count-count.result c.profile_count-count.ensures c.profile_at.ensures c.in-Nothing.is c.if-count-eq0.true
+    shape-none a.road.now a.s a.t c.profile_count-count.result c.profile_count-count.ensures c.profile_at.ensures c.in-None.is c.if-count-eq0.true
 
 pub returns-else-count-eq0 : goal.returns-else-count-eq0
 returns-else-count-eq0 c =
     let a = c.args in
-    c.profile_height-else-count-eq0.ensures ∙ shape-first (road_of a.words.now a.numbers.now) a.s a.t c.profile_count-count.result c.profile_count-count.ensures c.profile_at.ensures c.in-Nothing.is c.if-count-eq0.false
+    c.profile_height-else-count-eq0.ensures ∙ shape-first a.road.now a.s a.t c.profile_count-count.result c.profile_count-count.ensures c.profile_at.ensures c.in-None.is c.if-count-eq0.false

@@ -1,5 +1,6 @@
 -- `write_geom`: one law for each shape. A spiral has its first sample, so the steps are one less than its samples.
 use native.Mathlib.Omega.{arith}
+use mathlib.Core.Logic.{⊎_elim}
 use Rattle.line_calls.proofs.SampleWriting.{geom-some, geom-spiral, geom-arc, geom-line}
 use Rattle.line_calls.proofs.sample_call.write_geom.Goals as goal
 
@@ -27,9 +28,4 @@ returns-in-Spiral c =
 pub returns-in-Arc : goal.returns-in-Arc
 returns-in-Arc c =
     let a = c.args in
-    geom-arc a.g a.at a.samples.now c.in-Arc.is
-
-pub returns-in-Line : goal.returns-in-Line
-returns-in-Line c =
-    let a = c.args in
-    geom-line a.g a.at a.samples.now c.in-Line.is
+    ⊎_elim (λ s. geom-arc a.g a.at a.samples.now s.1) (λ s. geom-line a.g a.at a.samples.now s) c.in-Arc.is

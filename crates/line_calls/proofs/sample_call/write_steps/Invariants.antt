@@ -1,16 +1,9 @@
 -- `write_steps`: what the loop has yet to store, stored, gives what all steps store. A turn takes the first of them.
 use mathlib.Core.Path.{◌≡◌}
-use Prim.Native.Nat.{◌≤◌, ◌+◌, ◌-◌, ◌*◌}
-use lib.ListN.{length}
+use Prim.Native.Nat.{◌+◌, ◌-◌, ◌*◌}
 use lib.Seq.{sets}
 use Rattle.line_samples.specs.Samples.{later_samples, flat}
 use Rattle.line_calls.proofs.sample_call.write_steps.Given as goal
 
 abbrev pub invariant-loop-i : goal.invariant-loop-i
-invariant-loop-i l =
-    (l.i ≤ l.n)
-    × (length l.samples ≡ length l.initial.samples)
-    × (sets l.samples (l.at + l.i * 4) (flat (later_samples l.g l.k0 l.k1 (l.n - l.i) l.last)) ≡ sets l.initial.samples l.at (flat (later_samples l.g l.k0 l.k1 l.n l.initial.last)))
-
-abbrev pub decreases-loop-i : goal.decreases-loop-i
-decreases-loop-i l = l.n - l.i
+invariant-loop-i l = sets l.samples (l.at + l.i * 4) (flat (later_samples l.g l.k0 l.k1 (l.n - l.i) l.last)) ≡ sets l.initial.samples l.at (flat (later_samples l.g l.k0 l.k1 l.n l.initial.last))

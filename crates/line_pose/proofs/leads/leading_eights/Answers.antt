@@ -1,22 +1,23 @@
+use Prim.Native.Nat.{◌+◌, ◌*◌, ◌/◌}
 use native.Mathlib.Omega.{arith}
-use mathlib.Core.Path.{◌∙◌}
+use mathlib.Core.Path.{◌≡◌, ◌∙◌}
 use Rattle.line_pose.proofs.PoseLaws.{lead-start}
-use Rattle.line_pose.proofs.LeadLaws.{lead-eights, not-false}
+use Rattle.line_pose.proofs.LeadLaws.{lead-eights}
 use Rattle.line_pose.proofs.leads.leading_eights.Goals as goal
 
-pub loop-k-init : goal.loop-k-init
-loop-k-init c = let a = c.args in (omega arith, lead-start a.samples.now a.d a.first a.n)
+pub loop-eight-init : goal.loop-eight-init
+loop-eight-init c = let a = c.args in lead-start a.samples.now a.d a.first a.n
 
-pub returns-then-whole-first : goal.returns-then-whole-first
-returns-then-whole-first c = record { n_value = c.loop-k.invariant.1; small = c.loop-k.invariant.0 }
-
-pub returns-then-not-eight_lead : goal.returns-then-not-eight_lead
-returns-then-not-eight_lead c = record { n_value = c.loop-k.invariant.1; small = c.loop-k.invariant.0 }
-
-pub loop-k-preserved : goal.loop-k-preserved
-loop-k-preserved c =
+pub loop-eight-preserved : goal.loop-eight-preserved
+loop-eight-preserved c =
     let a = c.args in
-    (omega arith, c.loop-k.invariant.1 ∙ lead-eights a.samples.now a.d a.first a.n c.loop-k.k c.loop-k-test.true (c.eight_lead.ensures (not-false _ c.if-not-eight_lead.false-raw)))
+    let at = c.loop-eight.eight in
+    let more = c.loop-eight-test.true in
+    c.loop-eight.invariant ∙ lead-eights a.samples.now a.d a.first a.n (at * 8) ((at + 1) * 8) (omega arith) (omega arith) (c.eight_lead.ensures c.if-not-eight_lead.false)
 
 pub returns : goal.returns
-returns c = record { n_value = c.loop-k.invariant.1; small = c.loop-k.invariant.0 }
+returns c =
+    let most = c.loop-eight.auto.eight-end in
+    let end = c.loop-eight-test.false in
+    let e : c.loop-eight.eight ≡ c.args.n / 8 = omega arith in
+    record { n_value = rw e at c.loop-eight.invariant; small = omega arith }

@@ -6,7 +6,7 @@ pub returns : goal.returns
 returns c =
     let a = c.args in
     spiral-made a.samples.now a.first a.n a.ds
-    c.less.ensures
+    c.saturating_sub.ensures
     c.sample_at-last.ensures
     c.clamp-d.ensures
     c.leading_at.ensures.value

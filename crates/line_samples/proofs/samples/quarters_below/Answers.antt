@@ -12,12 +12,12 @@ pub estimate-requires : goal.estimate-requires
 estimate-requires c = let x = c.args.x in both (le least_estimated x) (le x greatest_estimated) c.if-inside.true
 
 pub int_to_float-n : goal.int_to_float-n
-int_to_float-n c = number_fits c.least-n.result (omega (arith, c.least-n.ensures))
+int_to_float-n c = number_fits c.min-n.result (omega (arith, c.min-n.ensures))
 
 pub returns-then-n-x : goal.returns-then-n-x
 returns-then-n-x c =
     let x = c.args.x in
-    (omega (arith, c.least-n.ensures), inr (subst T (sym c.if-n-x.true) tt, (both (le least_estimated x) (le x greatest_estimated) c.if-inside.true).1))
+    (omega (arith, c.min-n.ensures), inr (subst T (sym c.if-n-x.true) tt, (both (le least_estimated x) (le x greatest_estimated) c.if-inside.true).1))
 
 pub returns-else-n-x : goal.returns-else-n-x
 returns-else-n-x c = (omega arith, inl refl)

@@ -14,28 +14,34 @@ fit : (c : Start) → T (fits binary64 c.args.length)
 fit c = search rules
 
 pub loop-n-init : goal.loop-n-init
-loop-n-init c =
-    let q = c.quarters_below-n.ensures in
-    (omega (arith, q.0), steps_from_lem c.args.length c.quarters_below-n.result (fit (goal.at.loop-n-init c).Start) q)
+loop-n-init c = steps_from_lem c.args.length c.quarters_below-counted.result (fit (goal.at.loop-n-init c).Start) c.quarters_below-counted.ensures
 
 pub int_to_float-u : goal.int_to_float-u
-int_to_float-u c = number_fits c.quarters_below-n.result c.quarters_below-n.ensures.0
+int_to_float-u c = number_fits c.quarters_below-counted.result c.quarters_below-counted.ensures.0
 
 pub loop-n-preserved : goal.loop-n-preserved
 unfolding goes_on
 loop-n-preserved c =
     let len = c.args.length in
-    (omega arith, c.loop-n.invariant.1 ∙ steps_next len c.loop-n.u c.loop-n.n (goes_on len c.loop-n.u) c.step_at-u.result c.loop-n-test.true c.if-u-last.true c.step_at-u.ensures)
+    c.loop-n.invariant ∙ steps_next len c.loop-n.u c.loop-n.n (goes_on len c.loop-n.u) c.step_at-u.result c.loop-n-test.true c.if-not-u-last.false c.step_at-u.ensures
 
-pub returns-else-u-last : goal.returns-else-u-last
+pub returns-then-not-u-last : goal.returns-then-not-u-last
 unfolding goes_on
-returns-else-u-last c =
+returns-then-not-u-last c =
     let len = c.args.length in
-    let none = steps-stop len c.loop-n.u (most_steps - c.loop-n.n) (goes_on len c.loop-n.u) c.if-u-last.false in
-    let inv = c.loop-n.invariant.1 in
-    record { value = omega arith; small = c.loop-n.invariant.0 }
+    let none = steps-stop len c.loop-n.u (most_steps - c.loop-n.n) (goes_on len c.loop-n.u) c.if-not-u-last.true in
+    let inv = c.loop-n.invariant in
+    let end = c.loop-n-test.true in
+    record { value = omega arith; small = omega arith }
 
 pub returns : goal.returns
 returns c =
     let len = c.args.length in
-    record { value = sym (c.loop-n.invariant.1 ∙ steps-full len c.loop-n.u c.loop-n.n (goes_on len c.loop-n.u) c.loop-n.invariant.0 c.loop-n-test.false); small = c.loop-n.invariant.0 }
+    let at = c.loop-n.auto in
+    let from = c.quarters_below-counted.ensures.0 in
+    let end = c.loop-n-test.false in
+    let most = at.n-end (omega arith) in
+    record {
+      value = omega arith ∙ sym (c.loop-n.invariant ∙ steps-full len c.loop-n.u c.loop-n.n (goes_on len c.loop-n.u) most end);
+      small = omega arith;
+    }
