@@ -1,62 +1,26 @@
 -- What admission says of a road, and how a call goes on whose rows begin with the road's. The rows are one list, so each law is one of RowLaws at that list.
-use Prim.Native.Nat.{ℕ, ◌*◌, ◌/◌, ◌≤◌, ◌<◌}
+use Prim.Native.Nat.{ℕ, ◌≤◌}
 use native.Mathlib.Omega.{arith}
-use mathlib.Core.Path.{◌≡◌, refl, sym, ◌∙◌, ap}
-use mathlib.Core.Bool.{Bool, true, false, not, cond, ◌&&◌}
-use mathlib.Core.List.{List, [], ◌∷◌, ◌++◌}
+use mathlib.Core.Path.{◌≡◌, refl}
+use mathlib.Core.Bool.{Bool, true, false, ◌&&◌}
+use mathlib.Core.List.{List, ◌++◌}
 use lib.Dec.{leb}
 use lib.Ieee.{Float}
-use lib.ListN.{length, drop}
-use borrow.Author.Tests.{not-true, not-false, le-leb, lt-leb, leb-true}
+use borrow.Author.Tests.{leb-true}
 use Rattle.refusals.specs.Answer.{Answer, value, refused, Row, checked}
-use Rattle.refusals.specs.Refusal.{number_of}
-use Rattle.refusals.specs.declared.refusals.Refusal.{Refusal}
-use Rattle.records.specs.Roads.{road_of}
+use Rattle.records.specs.Roads.{Road, road_of}
 use Rattle.admission_structure.specs.Structure.{structured}
 use Rattle.admission_order.specs.Order.{ordered}
 use Rattle.admission.specs.Limits.{limited}
 use Rattle.line_samples.specs.Samples.{samples_needed, most_samples}
-use Rattle.admission.specs.declared.verdicts.Verdict.{Verdict}
-use Rattle.admission.specs.declared.verdicts.Verdict.TheVariants.{Admitted, Refused}
-use Rattle.admission.specs.Admission.{road_rows, admit_call, admitted, admit_answer}
-use Rattle.admission.proofs.RowLaws.{pass-checked, checked-pass, checked-first, refused-more, pass-more}
+use Rattle.admission.specs.Admission.{road_rows, admit_call, admitted}
+use Rattle.admission.proofs.RowLaws.{pass-checked, checked-pass, checked-first, pass-more}
 
 both : (a b : Bool) → a && b ≡ true → (a ≡ true) × (b ≡ true)
 both true b e = (refl, e)
 both false b e = let z : ◌≡◌ {A = ℕ} 0 1 = cc in absurd (omega arith)
 
 module _ (words : List ℕ) (numbers : List Float) where
-  -- the ways out of `admit`
-  pub not-structured : {a : Bool} → a ≡ structured words numbers → not a ≡ true → refused 3 ≡ admit_call words numbers
-  unfolding admit_call
-  not-structured {a} e h = rw (sym e ∙ not-true a h)
-
-  pub not-ordered : {a b : Bool} → a ≡ structured words numbers → not a ≡ false → b ≡ ordered (road_of words numbers) → not b ≡ true → refused 3 ≡ admit_call words numbers
-  unfolding admit_call
-  not-ordered {a} {b} e h f k = rw (sym e ∙ not-false a h, sym f ∙ not-true b k)
-
-  pub not-limited : {a b c : Bool} → a ≡ structured words numbers → not a ≡ false → b ≡ ordered (road_of words numbers) → not b ≡ false
-      → c ≡ limited (road_of words numbers) → not c ≡ true → refused 4 ≡ admit_call words numbers
-  unfolding admit_call
-  not-limited {a} {b} {c} e h f k g l = rw (sym e ∙ not-false a h, sym f ∙ not-false b k, sym g ∙ not-true c l)
-
-  pub not-fitting : {a b c d : Bool} → a ≡ structured words numbers → not a ≡ false → b ≡ ordered (road_of words numbers) → not b ≡ false
-      → c ≡ limited (road_of words numbers) → not c ≡ false → d ≡ leb (samples_needed (road_of words numbers)) most_samples → not d ≡ true → refused 5 ≡ admit_call words numbers
-  unfolding admit_call
-  not-fitting {a} {b} {c} {d} e h f k g l i m = rw (sym e ∙ not-false a h, sym f ∙ not-false b k, sym g ∙ not-false c l, sym i ∙ not-true d m)
-
-  pub all_pass : {a b c d : Bool} → a ≡ structured words numbers → not a ≡ false → b ≡ ordered (road_of words numbers) → not b ≡ false
-      → c ≡ limited (road_of words numbers) → not c ≡ false → d ≡ leb (samples_needed (road_of words numbers)) most_samples → not d ≡ false → value tt ≡ admit_call words numbers
-  unfolding admit_call
-  all_pass {a} {b} {c} {d} e h f k g l i m = rw (sym e ∙ not-false a h, sym f ∙ not-false b k, sym g ∙ not-false c l, sym i ∙ not-false d m)
-
-  -- what a verdict says
-  pub refused-of : {v : Verdict} {r : Refusal} → admit_answer v ≡ admit_call words numbers → v ≡ Refused r → refused (number_of r) ≡ admit_call words numbers
-  refused-of e f = sym (ap admit_answer f) ∙ e
-
-  pub admitted_of : {v : Verdict} → admit_answer v ≡ admit_call words numbers → v ≡ Admitted → value tt ≡ admit_call words numbers
-  admitted_of e f = sym (ap admit_answer f) ∙ e
-
   -- a road is admitted exactly where its rows let a value through
   pub admitted-value : admitted words numbers ≡ true → admit_call words numbers ≡ value tt
   unfolding admitted admit_call
@@ -66,11 +30,7 @@ module _ (words : List ℕ) (numbers : List Float) where
   unfolding admitted admit_call
   value-admitted e = checked-pass (road_rows words numbers) (value tt) tt e
 
-  -- a call whose rows begin with the road's: a refused road is its refusal, an admitted one leaves it to its own rows, and a value comes of an admitted road only
-  pub road-refused : {B : Type 0} (rows : List Row) (n : ℕ) (b : Answer B) → refused n ≡ admit_call words numbers → ◌≡◌ {A = Answer B} (refused n) (checked (road_rows words numbers ++ rows) b)
-  unfolding admit_call
-  road-refused rows n b e = refused-more (road_rows words numbers) rows n tt b e
-
+  -- a call whose rows begin with the road's: an admitted road leaves it to its own rows, and a value comes of an admitted road only
   pub road-admitted : {B : Type 0} (rows : List Row) (b : Answer B) → admitted words numbers ≡ true → checked (road_rows words numbers ++ rows) b ≡ checked rows b
   unfolding admitted
   road-admitted rows b e = pass-more (road_rows words numbers) rows b e

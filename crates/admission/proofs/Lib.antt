@@ -1,3 +1,2 @@
-pub mod LimitTests
 pub mod RowLaws
 pub mod AdmissionLaws

@@ -35,19 +35,6 @@ module _ {A : Type 0} where
   checked-first [] ss a x e = refl
   checked-first (r ∷ rs) ss a x e = one-pass r.passes (number_of r.refusal) (checked (rs ++ ss) a) x (pass rs) (checked-first rs ss a x) e
 
-module _ {A B : Type 0} where
-  refused-one : (p : Bool) (m n : ℕ) (a : Answer A) (b : Answer B)
-      → (◌≡◌ {A = Answer A} (refused n) a → ◌≡◌ {A = Answer B} (refused n) b)
-      → ◌≡◌ {A = Answer A} (refused n) (cond p a (refused m))
-      → ◌≡◌ {A = Answer B} (refused n) (cond p b (refused m))
-  refused-one true m n a b f e = f e
-  refused-one false m n a b f e = cc
-
-  -- a refusal by the first rows is that of all of them
-  pub refused-more : (rs ss : List Row) (n : ℕ) (x : A) (b : Answer B) → ◌≡◌ {A = Answer A} (refused n) (checked rs (value x)) → ◌≡◌ {A = Answer B} (refused n) (checked (rs ++ ss) b)
-  refused-more [] ss n x b e = absurd (no_value n x e)
-  refused-more (r ∷ rs) ss n x b e = refused-one r.passes (number_of r.refusal) n (checked rs (value x)) (checked (rs ++ ss) b) (refused-more rs ss n x b) e
-
 -- rows that pass leave it to the others
 pub pass-more : {B : Type 0} (rs ss : List Row) (b : Answer B) → pass rs ≡ true → checked (rs ++ ss) b ≡ checked ss b
 pass-more [] ss b e = refl

@@ -4,6 +4,10 @@ ghost use Rattle.refusals.specs.Answer.{answered, checked, value};
 ghost use Rattle.records.specs.Roads.{road_of};
 ghost use Rattle.admission.specs.Admission.{road_rows};
 
+use admission_limits::limited;
+use admission_order::ordered;
+use admission_structure::structured;
+use line_samples::samples_fit;
 use records::LentRoad;
 use refusals::Refusal;
 
@@ -12,16 +16,13 @@ pub fn admit<'a>(words: &'a [u16], numbers: &'a [f64]) -> Result<LentRoad<'a>, R
     ensures { answered result ≡ checked (road_rows words.now numbers.now) (value (road_of words.now numbers.now)) }
 {
     let road = LentRoad::new(words, numbers);
-    if !admission_structure::structured(words, numbers) {
+    if !(structured(words, numbers) && ordered(&road)) {
         return Err(Refusal::Structure);
     }
-    if !admission_order::ordered(&road) {
-        return Err(Refusal::Structure);
-    }
-    if !admission_limits::limited(&road) {
+    if !limited(&road) {
         return Err(Refusal::Range);
     }
-    if !line_samples::samples_fit(&road) {
+    if !samples_fit(&road) {
         return Err(Refusal::SampleBudget);
     }
     Ok(road)

@@ -18,6 +18,7 @@ const GREATEST_BORDER: f64 = 36.0;
 
 // ---- sections and their lanes
 // How far a section reaches: to the next one's start, the last to the road's end. NaN where there is no section.
+#[tactic(auto, unfolding(admission::specs::Limits::section_extent))]
 pub fn section_extent(road: &LentRoad, i: usize) -> f64
     ensures { result ≡ section_extent road.now i }
 {
@@ -29,12 +30,13 @@ pub fn section_extent(road: &LentRoad, i: usize) -> f64
     }
 }
 
+#[tactic(auto, unfolding(admission::specs::Limits::height_limited))]
 fn height_limited(h: HeightDef) -> bool
     ensures { result ≡ height_limited h }
 {
     sized(LARGEST, h.s_offset)
-        & sized(GREATEST_LANE_HEIGHT, h.inner)
-        & sized(GREATEST_LANE_HEIGHT, h.outer)
+        && sized(GREATEST_LANE_HEIGHT, h.inner)
+        && sized(GREATEST_LANE_HEIGHT, h.outer)
 }
 
 fn heights_limited(heights: &Heights) -> bool
@@ -59,7 +61,7 @@ fn lane_limited(road: &LentRoad, extent: f64, place: LanePlace) -> bool
 {
     let lane = lane(road, place);
     let limit = lane_limit(lane.border);
-    cubics_within(&lane.extents, -LARGEST, LARGEST, extent, limit) & heights_limited(&lane.heights)
+    cubics_within(&lane.extents, -LARGEST, LARGEST, extent, limit) && heights_limited(&lane.heights)
 }
 
 // The lanes of a side.
@@ -70,13 +72,14 @@ fn side_limited(road: &LentRoad, extent: f64, section: usize, right: bool) -> bo
     (0..n).all(|k| lane_limited(road, extent, LanePlace { section, right, k }))
 }
 
+#[tactic(auto, unfolding(admission::specs::Limits::section_limited))]
 fn section_limited(road: &LentRoad, i: usize) -> bool
     ensures { result ≡ section_limited road.now i }
 {
     let extent = section_extent(road, i);
     in_range(0.0, road.length(), section_start(road, i))
-        & side_limited(road, extent, i, false)
-        & side_limited(road, extent, i, true)
+        && side_limited(road, extent, i, false)
+        && side_limited(road, extent, i, true)
 }
 
 pub fn sections_limited(road: &LentRoad) -> bool

@@ -25,6 +25,7 @@ const GREATEST_ARC_CURVATURE: f64 = 1.0;
 
 const GREATEST_SPIRAL_CURVATURE: f64 = 1.0;
 
+#[tactic(auto, unfolding(admission::specs::Limits::shape_limited))]
 fn shape_limited(shape: GeomShape) -> bool
     ensures { result ≡ shape_limited shape }
 {
@@ -32,25 +33,26 @@ fn shape_limited(shape: GeomShape) -> bool
         GeomShape::Line => true,
         GeomShape::Arc(k) => {
             sized(STRAIGHT_CURVATURE, k)
-                | in_range(LEAST_ARC_CURVATURE, GREATEST_ARC_CURVATURE, abs(k))
+                || in_range(LEAST_ARC_CURVATURE, GREATEST_ARC_CURVATURE, abs(k))
         }
         GeomShape::Spiral(a, b) => {
-            sized(GREATEST_SPIRAL_CURVATURE, a) & sized(GREATEST_SPIRAL_CURVATURE, b)
+            sized(GREATEST_SPIRAL_CURVATURE, a) && sized(GREATEST_SPIRAL_CURVATURE, b)
         }
     }
 }
 
+#[tactic(auto, unfolding(admission::specs::Limits::geom_limited))]
 fn geom_limited(road: &LentRoad, i: usize) -> bool
     ensures { result ≡ geom_limited road.now i }
 {
     let g = geom(road, i);
     in_range(0.0, road.length(), g.s)
-        & sized(GREATEST_PLACE, g.x)
-        & sized(GREATEST_PLACE, g.y)
-        & sized(GREATEST_HEADING, g.hdg)
-        & in_range(LEAST_GEOM_LENGTH, GREATEST_GEOM_LENGTH, g.length)
-        & shape_limited(g.shape)
-        & unused_zero(road, i)
+        && sized(GREATEST_PLACE, g.x)
+        && sized(GREATEST_PLACE, g.y)
+        && sized(GREATEST_HEADING, g.hdg)
+        && in_range(LEAST_GEOM_LENGTH, GREATEST_GEOM_LENGTH, g.length)
+        && shape_limited(g.shape)
+        && unused_zero(road, i)
 }
 
 pub fn geoms_limited(road: &LentRoad) -> bool
@@ -69,5 +71,5 @@ pub fn elevations_limited(road: &LentRoad) -> bool
 {
     let elevations = road.elevations();
     road_cubics_within(road, &elevations, GREATEST_ELEVATION)
-        & slopes_within(&elevations, road.length(), GREATEST_GRADE)
+        && slopes_within(&elevations, road.length(), GREATEST_GRADE)
 }

@@ -25,20 +25,21 @@ fn tables_limited(road: &LentRoad) -> bool
     ensures { result ≡ (road_cubics_within road.now road.now.superelevations greatest_bank && road_cubics_within road.now road.now.offsets greatest_offset && road_cubics_within road.now road.now.tshifts greatest_shift) }
 {
     road_cubics_within(road, &road.superelevations(), GREATEST_BANK)
-        & road_cubics_within(road, &road.offsets(), GREATEST_OFFSET)
-        & road_cubics_within(road, &road.tshifts(), GREATEST_SHIFT)
+        && road_cubics_within(road, &road.offsets(), GREATEST_OFFSET)
+        && road_cubics_within(road, &road.tshifts(), GREATEST_SHIFT)
 }
 
 // Whether every number of a road is finite and within its limit.
+#[tactic(auto, unfolding(admission::specs::Limits::limited))]
 pub fn limited(road: &LentRoad) -> bool
     ensures { result ≡ limited road.now }
 {
     in_range(LEAST_LENGTH, GREATEST_LENGTH, road.length())
-        & geoms_limited(road)
-        & elevations_limited(road)
-        & tables_limited(road)
-        & sections_limited(road)
-        & profiles_limited(road)
-        & strips_limited(road)
-        & marks_limited(road)
+        && geoms_limited(road)
+        && elevations_limited(road)
+        && tables_limited(road)
+        && sections_limited(road)
+        && profiles_limited(road)
+        && strips_limited(road)
+        && marks_limited(road)
 }

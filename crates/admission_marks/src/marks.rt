@@ -14,14 +14,15 @@ const LEAST_KIND: usize = 1;
 const GREATEST_KIND: usize = 255;
 
 // The kind, and the span inside a section of this extent. Each comparison has to pass, so a NaN fails it.
+#[tactic(auto, unfolding(admission::specs::Limits::mark_limited))]
 fn mark_limited(extent: f64, mark: Mark) -> bool
     ensures { result ≡ mark_limited extent mark }
 {
     (LEAST_KIND <= mark.kind)
-        & (mark.kind <= GREATEST_KIND)
-        & (0.0 <= mark.start)
-        & (mark.start <= mark.end)
-        & (mark.end <= extent)
+        && (mark.kind <= GREATEST_KIND)
+        && (0.0 <= mark.start)
+        && (mark.start <= mark.end)
+        && (mark.end <= extent)
 }
 
 fn section_marks_limited(road: &LentRoad, section: usize) -> bool

@@ -25,11 +25,12 @@ const FARTHEST_ACROSS: f64 = 88.0;
 const GREATEST_STRIP_HEIGHT: f64 = 40.0;
 
 // ---- profiles and strips
+#[tactic(auto, unfolding(admission::specs::Limits::profile_limited))]
 fn profile_limited(road: &LentRoad, i: usize) -> bool
     ensures { result ≡ profile_limited road.now i }
 {
     in_range(0.0, road.length(), profile_start(road, i))
-        & cubics_within(
+        && cubics_within(
             &shapes(road, i),
             -GREATEST_SHAPE_START,
             GREATEST_SHAPE_START,
@@ -75,12 +76,13 @@ fn terms_within(road: &LentRoad, i: usize) -> bool
     (0..4).all(|term| column_within(road, i, term + 1, LARGEST))
 }
 
+#[tactic(auto, unfolding(admission::specs::Limits::strip_limited))]
 fn strip_limited(road: &LentRoad, i: usize) -> bool
     ensures { result ≡ strip_limited road.now (strip_at road.now i) }
 {
     column_within(road, i, 0, GREATEST_STRIP_WIDTH)
-        & terms_within(road, i)
-        & (terms_bound(road, i) <= GREATEST_STRIP_HEIGHT)
+        && terms_within(road, i)
+        && (terms_bound(road, i) <= GREATEST_STRIP_HEIGHT)
 }
 
 pub fn strips_limited(road: &LentRoad) -> bool

@@ -1,7 +1,13 @@
--- `lane_limited`: the lane's parts put together.
-use Rattle.admission.proofs.LimitTests.{lane_by_lem}
+-- `lane_limited`: its two lists, by the lane that was read.
+use Rattle.admission.specs.Limits.{lane_limited}
 use Rattle.admission_lanes.proofs.sections.lane_limited.Goals as goal
 
-pub returns : goal.returns
-returns c =
-    lane_by_lem _ _ c.lane_is_border.ensures c.lane_limit-limit.ensures c.extents-extents.ensures c.cubics_within-within.ensures c.heights.ensures c.heights_limited.ensures
+pub returns-then-cubics_within : goal.returns-then-cubics_within
+unfolding lane_limited
+returns-then-cubics_within c =
+    rw (← c.lane-lane.ensures, ← c.lane.view_is, ← c.lane_limit-limit.ensures, ← c.cubics_within.ensures, c.if-cubics_within.true) c.heights_limited.ensures
+
+pub returns-else-cubics_within : goal.returns-else-cubics_within
+unfolding lane_limited
+returns-else-cubics_within c =
+    rw (← c.lane-lane.ensures, ← c.lane.view_is, ← c.lane_limit-limit.ensures, ← c.cubics_within.ensures, c.if-cubics_within.false)

@@ -1,14 +1,8 @@
-use mathlib.Core.Path.{sym, ◌∙◌, ap}
+use mathlib.Core.Path.{◌∙◌, ap}
+use Rattle.std.proofs.Common.{rules}
 use Rattle.records_lent.specs.Lists.{all_below}
-use Rattle.records_lent.proofs.TableLaws.{all_none, all-next, all_done}
-use borrow.Author.Rules.{rules}
+use Rattle.records_lent.proofs.RangeLaws.{all_range}
 use Rattle.admission_lanes.proofs.sections.sections_limited.Goals as goal
 
-pub loop-i-init : goal.loop-i-init
-loop-i-init c = (search rules, sym (all_none _))
-
-pub loop-i-preserved : goal.loop-i-preserved
-loop-i-preserved c = let at = c.loop-i in (search rules, all-next _ at.i at.invariant.1 c.section_limited-ok.ensures)
-
 pub returns : goal.returns
-returns c = let at = c.loop-i in all_done _ _ _ at.invariant.0 c.loop-i-test.false at.invariant.1 ∙ ap (all_below _) c.section_count-n.ensures
+returns c = all_range _ _ c.all.ensures.ran (λ x b q k. search rules) ∙ ap (all_below _) c.section_count.ensures

@@ -1,6 +1,8 @@
--- `section_marks_limited`: the extent, the number of marks and their scan put together.
-use Rattle.admission.proofs.LimitTests.{marks-by}
+use Rattle.std.proofs.Common.{rules}
+use Rattle.records_lent.proofs.RangeLaws.{all_range}
+use Rattle.admission.specs.Limits.{marks_limited}
 use Rattle.admission_marks.proofs.marks.section_marks_limited.Goals as goal
 
 pub returns : goal.returns
-returns c = marks-by _ _ c.section_extent-extent.ensures c.mark_count-n.ensures c.first_marks_limited.ensures
+unfolding marks_limited
+returns c = rw (← c.mark_count.ensures) (all_range _ _ c.all.ensures.ran (λ x b q k. search rules))
