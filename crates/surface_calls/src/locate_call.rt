@@ -4,9 +4,8 @@ ghost use Rattle.refusals.specs.Answer.{answered};
 ghost use Rattle.arithmetic_ranges.specs.Ranges.{finite64};
 ghost use Rattle.surface_calls.specs.LocateCall.{on_map, locate_call};
 
-use admission_calls::admit;
+use crate::entries::sampled;
 use arithmetic_ranges::{LARGEST, sized};
-use line_samples::samples_needed;
 use refusals::Refusal;
 use surface_locate::{Position, Vector, locate_from};
 
@@ -27,6 +26,7 @@ fn on_map(x: f64, y: f64) -> bool
 }
 
 // Where the point x, y lies on the road, from a guess of s, with the lent samples: s and t, the count of moves, and whether they converged; rows 3, 4, 5, 6, 7 and 9. On a straight road along x from the origin, target 3, 2 and guess 3: s 3, t 2, no move, converged.
+#[tactic(auto, unfolding(crate::specs::LocateCall::locate_call))]
 pub fn locate(
     words: &[u16],
     numbers: &[f64],
@@ -37,10 +37,7 @@ pub fn locate(
 ) -> Result<Position, Refusal>
     ensures { answered result ≡ locate_call words.now numbers.now samples.now x y guess }
 {
-    let road = admit(words, numbers)?;
-    if samples.len() / 4 < samples_needed(&road) {
-        return Err(Refusal::SampleSpace);
-    }
+    let road = sampled(words, numbers, samples)?;
     if !finite(guess) {
         return Err(Refusal::Station);
     }

@@ -13,6 +13,7 @@ use surface_points::{SurfacePoint32, lane_surface_in, surface_in};
 use surface_station::{Axes, axes_at, station_at};
 
 // The eight numbers of the reference line at s, with the lent samples; rows 3, 4, 5, 6 and 7.
+#[tactic(auto, unfolding(crate::specs::SurfaceCalls::station_call))]
 pub fn station(words: &[u16], numbers: &[f64], samples: &[f64], s: f64) -> Result<RefPoint, Refusal>
     ensures { answered result ≡ station_call words.now numbers.now samples.now s }
 {
@@ -21,6 +22,7 @@ pub fn station(words: &[u16], numbers: &[f64], samples: &[f64], s: f64) -> Resul
 }
 
 // The road's own axes at s; rows 3, 4, 5, 6 and 7.
+#[tactic(auto, unfolding(crate::specs::SurfaceCalls::axes_call))]
 pub fn axes(words: &[u16], numbers: &[f64], samples: &[f64], s: f64) -> Result<Axes, Refusal>
     ensures { answered result ≡ axes_call words.now numbers.now samples.now s }
 {
@@ -29,6 +31,7 @@ pub fn axes(words: &[u16], numbers: &[f64], samples: &[f64], s: f64) -> Result<A
 }
 
 // The surface at s and t: x, y and z in f32, and the heading; rows 3, 4, 5, 6, 7 and 8.
+#[tactic(auto, unfolding(crate::specs::SurfaceCalls::surface_call))]
 pub fn surface(
     words: &[u16],
     numbers: &[f64],
@@ -46,6 +49,7 @@ pub fn surface(
 }
 
 // The surface of the lane of an id at s and t, straight across the lane and on past its borders; rows 3, 4, 5, 6, 7, 8 and 10.
+#[tactic(auto, unfolding(crate::specs::SurfaceCalls::lane_surface_call))]
 pub fn lane_surface(
     words: &[u16],
     numbers: &[f64],
@@ -60,8 +64,6 @@ pub fn lane_surface(
     if !across(t) {
         return Err(Refusal::Offset);
     }
-    match lane_with_id(&road, section_at(&road, s), id) {
-        Some(place) => Ok(lane_surface_in(&road, samples, place, s, t)),
-        None => Err(Refusal::Lane),
-    }
+    let place = lane_with_id(&road, section_at(&road, s), id).ok_or(Refusal::Lane)?;
+    Ok(lane_surface_in(&road, samples, place, s, t))
 }

@@ -1,24 +1,18 @@
--- The shared rows refuse, or the call's own decide, by the place that the id names.
-use Rattle.surface_calls.proofs.CallSteps.{lane-refused, lane-admitted}
-use mathlib.Core.Path.{◌∙◌, ap}
-use mir.Syntax.{w32}
-use mir.Val.{SFits}
-use mir.ValLaws.{to_z-of_z}
-use Rattle.surface_calls.specs.SurfaceCalls.{place_of_id}
-use borrow.Author.Rules.{rules}
+-- A refusal by rows 3 to 7 is that of all of them.
+use mathlib.Core.Path.{◌∙◌}
+use Rattle.records.specs.Roads.{road_of}
+use Rattle.admission_calls.proofs.RowLaws.{first-refused}
+use Rattle.surface_calls.specs.SurfaceCalls.{station_rows, lane_rows, lane_held, lane_here, lane_surface_call}
+use Rattle.surface_calls.proofs.Refused.{told}
 use Rattle.surface_calls.proofs.point_calls.lane_surface.Goals as goal
-use Rattle.surface_calls.proofs.point_calls.lane_surface.Goals.{After-lane_surface_on}
 
--- the id is an i32
-held : (c : After-lane_surface_on) → SFits w32 c.args.id
-held c = search rules
-
-pub returns-in-Refused : goal.returns-in-Refused
-returns-in-Refused c =
-    let a = c.args in
-    lane-refused a.words.now a.numbers.now a.samples.now a.s c.enter.ensures a.t a.id c.in-Refused.is
-
-pub returns-in-Admitted : goal.returns-in-Admitted
-returns-in-Admitted c =
-    let a = c.args in
-    lane-admitted a.words.now a.numbers.now a.samples.now a.s c.enter.ensures a.t a.id c.in-Admitted.is (c.place_of_id.ensures ∙ ap place_of_id (to_z-of_z w32 a.id (held (goal.at.returns-in-Admitted c).After-lane_surface_on))) c.lane_surface_on.ensures
+pub returns-in_err-road : goal.returns-in_err-road
+unfolding lane_surface_call
+returns-in_err-road c =
+    let w = c.args.words.now in
+    let d = c.args.numbers.now in
+    let xs = c.args.samples.now in
+    let s = c.args.s in
+    let t = c.args.t in
+    told c.from_residual.result _ c.from_residual.ensures.1
+    ∙ first-refused (station_rows w d xs s) (lane_rows w d c.args.id s t) (road_of w d) (lane_here w d xs (lane_held w d c.args.id s) s t) c.in_err-road.ensures
