@@ -1,12 +1,14 @@
 -- Whether hypot is under a bound, without its root: the root never falls as its argument grows, so on either side of the two brackets the answer is that of the bracket.
-use mathlib.Core.Path.{◌≡◌, refl, sym, subst}
+use mathlib.Core.Path.{◌≡◌, refl}
 use mathlib.Core.Bool.{Bool, true, false, not, ◌&&◌}
 use Prim.Native.Nat.{ℕ, ◌+◌, ◌≤◌, ◌<◌}
 use native.Mathlib.Omega.{arith}
 use lib.Dec.{T}
 use lib.Ieee.{Float, nan, inf, fin, binary64, of_bits, mul, le, lt, fits}
 use lib.Ieee.Fits.{and_l, and_r}
+use lib.Ieee.Bits.{is_true}
 use lib.Ieee.Scale.{finite}
+use Rattle.std.specs.Bool.{passes}
 use Rattle.float_laws.specs.Binary64.{zero64}
 use Rattle.float_laws.proofs.Value.{pl, mi, Real, le→units, lt→units, units→lt}
 use Rattle.float_laws.proofs.Interval.{le→parts}
@@ -27,13 +29,6 @@ square-nn (fin true m e) = mul-nn binary64 (fin false m e) (fin false m e) tt tt
 square-nn (fin false m e) = mul-nn binary64 (fin false m e) (fin false m e) tt tt
 
 -- ---- the tests of the brackets
-true_of : (b : Bool) → b ≡ true → T b
-true_of b e = subst T (sym e) tt
-
-is_true : (b : Bool) → T b → b ≡ true
-is_true true t = refl
-is_true false t = absurd t
-
 is_false : (b : Bool) → (T b → ⊥) → b ≡ false
 is_false true h = absurd (h tt)
 is_false false h = refl
@@ -57,7 +52,7 @@ bracketing low high bound e =
     let t3 = le zero64 high && t4 in
     let t2 = real64 bound && t3 in
     let t1 = real64 high && t2 in
-    let a = true_of (real64 low && t1) e in
+    let a = passes (real64 low && t1) e in
     let b = and_r (real64 low) t1 a in
     let c = and_r (real64 high) t2 b in
     let d = and_r (real64 bound) t3 c in

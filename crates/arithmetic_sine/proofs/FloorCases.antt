@@ -6,6 +6,7 @@ use native.Mathlib.Omega.{arith}
 use mathlib.Core.Bool.{Bool, true, false, not, cond}
 use lib.Dec.{T, leb, leb→le, nleb→lt, lit≤}
 use lib.Ieee.{Float, nan, inf, fin, Format, binary64, low, hid, add, sub, neg, lt, le, eq, fits, is_nan, to_bits, of_bits}
+use Rattle.std.specs.Bool.{passes, fails}
 use Rattle.float_laws.proofs.Value.{mag, pl, mi, Real, mag_is, mi-le, lt→units, neg-real}
 use Rattle.float_laws.proofs.Interval.{nil, finite-between}
 use Rattle.float_laws.proofs.Size.{within-of_le}
@@ -13,12 +14,6 @@ use Rattle.float_laws.proofs.Zero.{sub-zero}
 use Rattle.float_laws.proofs.Whole.{Whole, Nearest, nearest-magic, whole-bits, one-whole, steps-sub, magic, magic-number, unit, one, is_zero, not-zero}
 use Rattle.arithmetic_sine.specs.Floor.{floor_of, below_reach, quarter_of}
 use Rattle.arithmetic_sine.proofs.FloorLaws.{nearby, stays, falls, less_one, floor-zero, quarter-whole}
-
-pub yes : {b : Bool} → b ≡ true → T b
-yes e = subst T (sym e) tt
-
-pub no : {b : Bool} → b ≡ false → T (not b)
-no e = subst (λ (b : Bool). T (not b)) (sym e) tt
 
 -- ---- `below`: |x| is at most 2 ^ 50
 reach-real : Real binary64 below_reach
@@ -78,7 +73,7 @@ module _ (x : Float) (fit : T (fits binary64 x)) (a : T (le (neg below_reach) x)
 
   pub below-zero : eq x nil ≡ true → (x ≡ floor_of binary64 x) × (0 ≡ quarter_of (floor_of binary64 x))
   below-zero e =
-      let z = is_zero binary64 x fit (yes e) in
+      let z = is_zero binary64 x fit (passes _ e) in
       let w = floor-zero binary64 x z.0 z.1 in
       (w, sym (quarter-whole binary64 x 0 0 (zero-whole binary64 x z.0 z.1)) ∙ ap quarter_of w)
 
@@ -88,7 +83,7 @@ module _ (x : Float) (fit : T (fits binary64 x)) (a : T (le (neg below_reach) x)
       let n = nearby binary64 x magic in
       let i = sum_is in
       let k = i.k in
-      let w = stays binary64 x magic magic-number real (not-zero binary64 x real (no e)) i (lit≤ tt) (no h) in
+      let w = stays binary64 x magic magic-number real (not-zero binary64 x real (fails _ e)) i (lit≤ tt) (fails _ h) in
       (w, ap (λ (b : ℕ). b % 4) i.bits ∙ quarter-stays k ∙ sym (quarter-whole binary64 n (k - magic-number) (magic-number - k) i.is) ∙ ap quarter_of w)
 
   pub below-falls : eq x nil ≡ false → lt x (nearby binary64 x magic) ≡ true
@@ -97,8 +92,8 @@ module _ (x : Float) (fit : T (fits binary64 x)) (a : T (le (neg below_reach) x)
       let n = sub binary64 (nearby binary64 x magic) one in
       let i = sum_is in
       let k = i.k in
-      let s = not-zero binary64 x real (no e) in
-      let w = falls binary64 x magic magic-number real s i (lit≤ tt) (yes h) in
+      let s = not-zero binary64 x real (fails _ e) in
+      let w = falls binary64 x magic magic-number real s i (lit≤ tt) (passes _ h) in
       (w, ap (λ (b : ℕ). (b % 4 + 3) % 4) i.bits ∙ quarter-falls k ∙ sym (quarter-whole binary64 n _ _ (less_one binary64 x magic magic-number real s i (lit≤ tt))) ∙ ap quarter_of w)
 
   -- ---- what is taken off, of n and of the sum, is 1 or 0
@@ -112,7 +107,7 @@ module _ (x : Float) (fit : T (fits binary64 x)) (a : T (le (neg below_reach) x)
       let k = i.k in
       let n = nearby binary64 x magic in
       let m = le_trans (mi-le binary64 x) (le_trans (within-of_le binary64 x below_reach real reach-real a b).le (le_of_eq (reach-pl ∙ ap (λ (u : ℕ). 2 ^ 50 * u) unit-is))) in
-      let l = reaches k (2 ^ low binary64) (pl binary64 n) (mi binary64 n) (pl binary64 x) (mi binary64 x) i.is.plus i.is.minus (lt→units binary64 x n real i.is.value (yes h)) m in
+      let l = reaches k (2 ^ low binary64) (pl binary64 n) (mi binary64 n) (pl binary64 x) (mi binary64 x) i.is.plus i.is.minus (lt→units binary64 x n real i.is.value (passes _ h)) m in
       let u = i.most in
       let s = steps-sub binary64 (low binary64) (add binary64 x magic) one k 0 1 0 i.sum (one-whole binary64) (le_refl (low binary64)) (omega arith) (omega arith) in
       (subst (λ (v : ℕ). Whole binary64 (sub binary64 (add binary64 x magic) one) (k - 1) v) (let z : 0 + 1 - (k + 0) ≡ 0 = omega arith in z) (subst (λ (v : ℕ). Whole binary64 (sub binary64 (add binary64 x magic) one) v (0 + 1 - (k + 0))) (let z : k + 0 - (0 + 1) ≡ k - 1 = omega arith in z) s), l)
