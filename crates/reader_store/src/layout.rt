@@ -140,7 +140,7 @@ const WORDS: [Lines; TABLE_COUNT] = [
 ];
 
 // Which of its line's numbers, or words, each column of a table is, counted from 1; 0 where it is none. A row of Options is twice as long and made anew
-// for each column: a text of 57,213 bytes takes 100 µs to read, with these LATER.
+// for each column: a text of 57,213 bytes takes 100 µs to read with them, 94 with these.
 type Row = [u8; COLUMNS_MOST];
 
 // Lanes, strips and wants have no numbers.
