@@ -1,7 +1,7 @@
 // The cells of line k of a table, each put where its column is kept.
 ghost use Rattle.std.specs.Prelude.{◌≡◌, ◌+◌, ◌<◌};
 ghost use Rattle.reader_schema.specs.Tables.{columns_most};
-ghost use Rattle.reader_store.specs.Layout.{placed, place_number, numbers_below, words_below, wants_kept};
+ghost use Rattle.reader_store.specs.Layout.{placed, numbers_below, words_below, wants_kept};
 
 use crate::layout::{number_lines, number_place, word_lines, word_place};
 use crate::memory::code;
@@ -9,13 +9,13 @@ use reader_lines::{Cells, put};
 use reader_schema::tables::{COLUMNS_MOST, WANT_TABLE};
 use records::layout::WANT_STRIDE;
 
-// Keeps a value at its place in the line that begins at `line`, if it has one there.
+// Keeps a value at its place, counted from 1, of the line that begins at `line`; 0 is no place.
 #[tactic(auto, unfolding(crate::specs::Layout::placed))]
-fn put_cell<T: Copy>(list: &mut [T], line: usize, place: Option<u8>, value: T)
+fn put_cell<T: Copy>(list: &mut [T], line: usize, place: u8, value: T)
     requires { line < 1000000000000000 }
-    ensures { list.new ≡ placed line (place_number place) value list.old }
+    ensures { list.new ≡ placed line place value list.old }
 {
-    if let Some(d) = place {
+    if let Some(d) = place.checked_sub(1) {
         put(list, line + d as usize, value);
     }
 }

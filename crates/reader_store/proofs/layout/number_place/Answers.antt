@@ -7,9 +7,9 @@ use mathlib.Core.Logic.{◌⊎◌, inl, inr}
 use borrow.Author.Tests.{lt-ltb, le-ltb, ne_eqb}
 use borrow.Author.Rules.{rules}
 use lib.Dec.{eqb}
-use lib.ListN.{get_or, get_or-map}
+use lib.ListN.{get_or}
 use Rattle.reader_schema.proofs.Zeros.{zero_row}
-use Rattle.reader_store.specs.Layout.{numbers, number_place, place_number}
+use Rattle.reader_store.specs.Layout.{numbers, number_place}
 use Rattle.reader_store.proofs.layout.number_place.Goals as goal
 
 -- a table's row
@@ -39,47 +39,47 @@ returns-then-column-ge-COLUMNS_MOST c = rw (le-ltb _ 8 c.if-column-ge-COLUMNS_MO
 
 pub returns-in-0 : goal.returns-in-0
 unfolding number_place numbers row
-returns-in-0 c = let a = c.args in rw (← get_or-map place_number, lt-ltb _ 8 c.if-column-ge-COLUMNS_MOST.false) (one a.table a.column c.in-0.is)
+returns-in-0 c = let a = c.args in rw (lt-ltb _ 8 c.if-column-ge-COLUMNS_MOST.false) (one a.table a.column c.in-0.is)
 
 pub returns-in-2 : goal.returns-in-2
 unfolding number_place numbers
-returns-in-2 c = rw (← get_or-map place_number, c.in-2.is, lt-ltb _ 8 c.if-column-ge-COLUMNS_MOST.false)
+returns-in-2 c = rw (c.in-2.is, lt-ltb _ 8 c.if-column-ge-COLUMNS_MOST.false)
 
 pub returns-in-3 : goal.returns-in-3
 unfolding number_place numbers
-returns-in-3 c = rw (← get_or-map place_number, c.in-3.is, lt-ltb _ 8 c.if-column-ge-COLUMNS_MOST.false)
+returns-in-3 c = rw (c.in-3.is, lt-ltb _ 8 c.if-column-ge-COLUMNS_MOST.false)
 
 pub returns-in-4 : goal.returns-in-4
 unfolding number_place numbers
-returns-in-4 c = rw (← get_or-map place_number, c.in-4.is, lt-ltb _ 8 c.if-column-ge-COLUMNS_MOST.false)
+returns-in-4 c = rw (c.in-4.is, lt-ltb _ 8 c.if-column-ge-COLUMNS_MOST.false)
 
 pub returns-in-5 : goal.returns-in-5
 unfolding number_place numbers
-returns-in-5 c = rw (← get_or-map place_number, c.in-5.is, lt-ltb _ 8 c.if-column-ge-COLUMNS_MOST.false)
+returns-in-5 c = rw (c.in-5.is, lt-ltb _ 8 c.if-column-ge-COLUMNS_MOST.false)
 
 pub returns-in-1 : goal.returns-in-1
 unfolding number_place numbers
-returns-in-1 c = rw (← get_or-map place_number, c.in-1.is, lt-ltb _ 8 c.if-column-ge-COLUMNS_MOST.false)
+returns-in-1 c = rw (c.in-1.is, lt-ltb _ 8 c.if-column-ge-COLUMNS_MOST.false)
 
 pub returns-in-8 : goal.returns-in-8
 unfolding number_place numbers
-returns-in-8 c = rw (← get_or-map place_number, c.in-8.is, lt-ltb _ 8 c.if-column-ge-COLUMNS_MOST.false)
+returns-in-8 c = rw (c.in-8.is, lt-ltb _ 8 c.if-column-ge-COLUMNS_MOST.false)
 
 pub returns-in-9 : goal.returns-in-9
 unfolding number_place numbers
-returns-in-9 c = rw (← get_or-map place_number, c.in-9.is, lt-ltb _ 8 c.if-column-ge-COLUMNS_MOST.false)
+returns-in-9 c = rw (c.in-9.is, lt-ltb _ 8 c.if-column-ge-COLUMNS_MOST.false)
 
 pub returns-in-11 : goal.returns-in-11
 unfolding number_place numbers
-returns-in-11 c = rw (← get_or-map place_number, c.in-11.is, lt-ltb _ 8 c.if-column-ge-COLUMNS_MOST.false)
+returns-in-11 c = rw (c.in-11.is, lt-ltb _ 8 c.if-column-ge-COLUMNS_MOST.false)
 
 pub returns-in-13 : goal.returns-in-13
 unfolding number_place numbers
-returns-in-13 c = rw (← get_or-map place_number, c.in-13.is, lt-ltb _ 8 c.if-column-ge-COLUMNS_MOST.false)
+returns-in-13 c = rw (c.in-13.is, lt-ltb _ 8 c.if-column-ge-COLUMNS_MOST.false)
 
 pub returns-in-14 : goal.returns-in-14
 unfolding number_place numbers
-returns-in-14 c = rw (← get_or-map place_number, c.in-14.is, lt-ltb _ 8 c.if-column-ge-COLUMNS_MOST.false)
+returns-in-14 c = rw (c.in-14.is, lt-ltb _ 8 c.if-column-ge-COLUMNS_MOST.false)
 
 pub returns-in_default : goal.returns-in_default
 unfolding number_place row

@@ -6,9 +6,9 @@ use mathlib.Core.List.{[]}
 use borrow.Author.Tests.{lt-ltb, le-ltb, ne_eqb}
 use borrow.Author.Rules.{rules}
 use lib.Dec.{eqb}
-use lib.ListN.{get_or, get_or-map}
+use lib.ListN.{get_or}
 use Rattle.reader_schema.proofs.Zeros.{zero_row}
-use Rattle.reader_store.specs.Layout.{words, word_place, place_number}
+use Rattle.reader_store.specs.Layout.{words, word_place}
 use Rattle.reader_store.proofs.layout.word_place.Goals as goal
 
 -- the tables that have an arm
@@ -25,11 +25,11 @@ returns-then-column-ge-COLUMNS_MOST c = rw (le-ltb _ 8 c.if-column-ge-COLUMNS_MO
 
 pub returns-in-1 : goal.returns-in-1
 unfolding word_place words
-returns-in-1 c = rw (← get_or-map place_number, c.in-1.is, lt-ltb _ 8 c.if-column-ge-COLUMNS_MOST.false)
+returns-in-1 c = rw (c.in-1.is, lt-ltb _ 8 c.if-column-ge-COLUMNS_MOST.false)
 
 pub returns-in-7 : goal.returns-in-7
 unfolding word_place words
-returns-in-7 c = rw (← get_or-map place_number, c.in-7.is, lt-ltb _ 8 c.if-column-ge-COLUMNS_MOST.false)
+returns-in-7 c = rw (c.in-7.is, lt-ltb _ 8 c.if-column-ge-COLUMNS_MOST.false)
 
 pub returns-in_default : goal.returns-in_default
 unfolding word_place
