@@ -1,25 +1,22 @@
 -- The steps of a side's borders as the code takes them: a side's lanes, a lane's width by its kind, the running outer border, and a side's numbers written into a list.
 use mathlib.Core.Path.{◌≡◌, refl, sym, ap, ◌∙◌}
-use mathlib.Core.Bool.{Bool, true, false, not, cond}
-use mathlib.Core.List.{List, [], ◌∷◌, ◌++◌, append-nil, append_assoc}
+use mathlib.Core.Bool.{Bool, true, false, cond}
+use mathlib.Core.List.{List, [], ◌∷◌, ◌++◌, append-nil}
 use mathlib.Core.Logic.{⊎_elim}
 use Prim.Native.Nat.{ℕ, zero, suc, ◌+◌, ◌*◌, ◌/◌, ◌≤◌, ◌<◌}
-use native.Mathlib.Nat.{add-zero, zero-add, eq-or-lt_of_le, le_of_suc-le-suc}
+use native.Mathlib.Nat.{eq-or-lt_of_le, le_of_suc-le-suc}
 use native.Mathlib.Omega.{arith}
 use native.Mathlib.Numerals.{add-one}
-use lib.Dec.{T, leb, ltb, ltb→lt, nltb→le}
+use lib.Dec.{leb}
 use borrow.Author.Tests.{le-leb, lt-leb}
-use lib.ListN.{length, get_or, take, drop, set, length-append, drop_of_length-le, get_or-append}
-use lib.Seq.{take_at, length-take-le, get_or-append-add}
-use lib.Ieee.{Float, lt, of_bits}
-use Rattle.float_laws.specs.Binary64.{◌⊖◌, ◌⊗◌, zero64}
+use lib.ListN.{length, get_or, drop, set, length-append, drop_of_length-le, get_or-append}
+use lib.Seq.{get_or-append-add}
+use lib.Ieee.{Float}
+use Rattle.float_laws.specs.Binary64.{◌⊖◌}
 use Rattle.records_lent.proofs.StoreLaws.{three-stores}
 use Rattle.records_cubic.specs.declared.cubics.Cubic.{Cubic}
-use Rattle.std.specs.declared.option.Option.TheVariants.{Some, None}
-use Rattle.records_cubic.specs.Cubics.{cubic_at, eval_at}
 use Rattle.records.specs.Active.{active_in, value_in}
-use Rattle.records.specs.Roads.{Road, Lane, no_lane, section_of, lane_of, road_of}
-use Rattle.records.proofs.RoadLaws.{left_count_lem, right_count_lem, section-past}
+use Rattle.records.specs.Roads.{Road, Lane, no_lane, section_of, lane_of}
 use Rattle.arithmetic_ranges.specs.Ranges.{not_below_zero}
 use Rattle.lanes_borders.specs.declared.across.LaneBorders.{LaneBorders}
 use Rattle.lanes_borders.specs.Borders.{sign_of, border_width, width_of, outer_after, borders_from, borders_at, base_at, side_lanes, lanes_of, borders_of, side_list, border_list}

@@ -17,7 +17,7 @@ use Rattle.admission_calls.proofs.RowLaws.{first-refused, first-passed}
 use Rattle.lanes_borders.specs.Borders.{lanes_of}
 use Rattle.lanes_border_list.specs.BorderList.{listed_by}
 use Rattle.lanes_naming.specs.Naming.{lane_named}
-use Rattle.lanes_calls.specs.LaneCalls.{section_at, lanes_at, list_rows, borders_call, borders_written, borders_list, name_rows, name_at, lane_named_call}
+use Rattle.lanes_calls.specs.LaneCalls.{lanes_at, list_rows, borders_call, borders_written, borders_list, name_rows, name_at, lane_named_call}
 
 module _ (words : List ℕ) (numbers : List Float) where
   abbrev lent : Road

@@ -1,7 +1,7 @@
 -- The scan for the last lane that passes, as the code runs it over a side's running border, and a place as a name.
 use mathlib.Core.Path.{◌≡◌, refl, sym, ap, ◌∙◌, subst}
 use mathlib.Core.Bool.{Bool, true, false, cond}
-use Prim.Native.Nat.{ℕ, zero, suc, ◌+◌, ◌-◌, ◌≤◌, ◌<◌}
+use Prim.Native.Nat.{ℕ, zero, suc, ◌+◌, ◌-◌, ◌<◌}
 use native.Mathlib.Omega.{arith}
 use native.Mathlib.Numerals.{add-one}
 use lib.IntN.{ℤ, pos, negsuc, ◌+ℤ◌, ◌-ℤ◌}
@@ -15,7 +15,7 @@ use Rattle.std.specs.declared.option.Option.TheVariants.{Some, None}
 use Rattle.records_lent.specs.Lists.{last_that}
 use Rattle.records.specs.Roads.{Road, lane_of, section_of}
 use Rattle.lanes_borders.specs.declared.across.LaneBorders.{LaneBorders}
-use Rattle.lanes_borders.specs.Borders.{sign_of, outer_after, borders_from, borders_at, base_at, borders_of}
+use Rattle.lanes_borders.specs.Borders.{sign_of, outer_after, borders_from, borders_at, borders_of}
 use Rattle.lanes_naming.specs.Naming.{beyond_test}
 
 -- ---- the running inner border

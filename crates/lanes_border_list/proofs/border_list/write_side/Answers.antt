@@ -1,6 +1,6 @@
-use mathlib.Core.Path.{◌≡◌, ◌∙◌}
+use mathlib.Core.Path.{◌≡◌}
 use native.Mathlib.Omega.{arith}
-use lib.ListN.{length, length-set}
+use lib.ListN.{length}
 use Rattle.lanes_borders.specs.Borders.{sign_of, side_lanes, borders_at}
 use Rattle.lanes_borders.proofs.BorderSteps.{outer-none, outer-turn, borders-turn, side-none, side-turn, side-all}
 use Rattle.lanes_border_list.proofs.border_list.write_side.Goals as goal

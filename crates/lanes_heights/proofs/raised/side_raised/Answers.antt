@@ -1,5 +1,5 @@
 -- `side_raised`: some lane is.
-use mathlib.Core.Path.{◌≡◌, ◌∙◌, ap}
+use mathlib.Core.Path.{◌∙◌, ap}
 use borrow.Author.Rules.{rules}
 use Rattle.records_lent.specs.Lists.{any_below}
 use Rattle.records_lent.proofs.RangeLaws.{any_range}
