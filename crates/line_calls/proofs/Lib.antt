@@ -1,4 +1,3 @@
 pub mod SampleWriting
 pub mod SampleCalls
 pub mod PoseCalls
-mod Refused

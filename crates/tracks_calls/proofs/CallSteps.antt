@@ -24,12 +24,6 @@ use Rattle.tracks.specs.Poses.{track_pose_of}
 use Rattle.tracks.specs.Projections.{project_of}
 use Rattle.tracks_calls.specs.TrackCalls.{track_counted, all_inside, point_inside, track_call, tangents_call, tangents_after, tangents_list, track_pose_call, project_call}
 
--- ---- what a `?` hands on
-
-pub told : {A : Type 0} (q : Result A Refusal) (e : Refusal) → IsErrAnd q (λ y. y ≡ e) → answered q ≡ refused (number_of e)
-told (Ok a) e h = absurd h
-told (Err y) e h = ap (λ (r : Refusal). refused (number_of r)) h
-
 -- ---- a track is refused by one of the rows, or passes both
 
 data Refused (a b : Bool) (n : ℕ) : Type 0 where

@@ -1,7 +1,7 @@
 -- `borders`: a road that is refused, else what rows 7 and 11 say; `list_borders` has kept or written the list.
 use mathlib.Core.Path.{refl, ◌∙◌}
 use lib.ListN.{length}
-use Rattle.lanes_calls.proofs.Refused.{told}
+use Rattle.refusals.proofs.ResultLaws.{told}
 use Rattle.lanes_calls.proofs.CallLaws.{admitted-road, list-off, list-short, list-long, list-kept, list-made, list-by, borders-refused, borders-admitted}
 use Rattle.lanes_calls.proofs.border_call.borders.Goals as goal
 

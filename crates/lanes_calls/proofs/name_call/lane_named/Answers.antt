@@ -1,6 +1,6 @@
 -- `lane_named`: a road that is refused, else what rows 7 and 8 say.
 use mathlib.Core.Path.{◌∙◌}
-use Rattle.lanes_calls.proofs.Refused.{told}
+use Rattle.refusals.proofs.ResultLaws.{told}
 use Rattle.lanes_calls.proofs.CallLaws.{name-off, name-beyond, name-found, named-refused, named-admitted}
 use Rattle.lanes_calls.proofs.name_call.lane_named.Goals as goal
 

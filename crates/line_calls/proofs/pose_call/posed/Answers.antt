@@ -1,6 +1,6 @@
 -- `posed`: a road that is refused, else what the call's own rows say.
 use mathlib.Core.Path.{◌∙◌}
-use Rattle.line_calls.proofs.Refused.{told}
+use Rattle.refusals.proofs.ResultLaws.{told}
 use Rattle.line_calls.proofs.PoseCalls.{pose-space, pose-geometry, pose-station, pose-found, posed-refused, posed-admitted}
 use Rattle.line_calls.proofs.pose_call.posed.Goals as goal
 

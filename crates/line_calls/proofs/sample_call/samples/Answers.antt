@@ -1,7 +1,7 @@
 -- `samples`: a road that is refused, else what row 6 says.
 use mathlib.Core.Path.{refl, ◌∙◌}
 use lib.ListN.{length}
-use Rattle.line_calls.proofs.Refused.{told}
+use Rattle.refusals.proofs.ResultLaws.{told}
 use Rattle.line_calls.proofs.SampleCalls.{sampled-refused, sampled-made, no_room, room, list_written, made_list, admitted-road}
 use Rattle.line_calls.proofs.sample_call.samples.Goals as goal
 

@@ -3,7 +3,7 @@ use mathlib.Core.Path.{◌∙◌}
 use Rattle.records.specs.Roads.{road_of}
 use Rattle.admission_calls.proofs.RowLaws.{first-refused}
 use Rattle.surface_calls.specs.SurfaceCalls.{station_rows, lane_rows, lane_held, lane_here, lane_surface_call}
-use Rattle.surface_calls.proofs.Refused.{told}
+use Rattle.refusals.proofs.ResultLaws.{told}
 use Rattle.surface_calls.proofs.point_calls.lane_surface.Goals as goal
 
 pub returns-in_err-road : goal.returns-in_err-road

@@ -4,7 +4,7 @@ use Rattle.refusals.specs.Answer.{value}
 use Rattle.records.specs.Roads.{road_of}
 use Rattle.admission_calls.proofs.RowLaws.{first-refused}
 use Rattle.surface_calls.specs.SurfaceCalls.{station_rows, across_rows, surface_here, surface_call}
-use Rattle.surface_calls.proofs.Refused.{told}
+use Rattle.refusals.proofs.ResultLaws.{told}
 use Rattle.surface_calls.proofs.point_calls.surface.Goals as goal
 
 pub returns-in_err-road : goal.returns-in_err-road

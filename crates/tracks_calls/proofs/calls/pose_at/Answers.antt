@@ -1,6 +1,7 @@
 -- The track is refused, or has the pose.
 use mathlib.Core.Path.{◌∙◌}
-use Rattle.tracks_calls.proofs.CallSteps.{told, pose_refused, pose_passed}
+use Rattle.refusals.proofs.ResultLaws.{told}
+use Rattle.tracks_calls.proofs.CallSteps.{pose_refused, pose_passed}
 use Rattle.tracks_calls.proofs.calls.pose_at.Goals as goal
 
 pub returns-in_err-checked_track : goal.returns-in_err-checked_track

@@ -1,6 +1,7 @@
 -- The track is refused, the place is outside, or there is a projection.
 use mathlib.Core.Path.{◌∙◌}
-use Rattle.tracks_calls.proofs.CallSteps.{told, project_refused, project_outside, project_passed}
+use Rattle.refusals.proofs.ResultLaws.{told}
+use Rattle.tracks_calls.proofs.CallSteps.{project_refused, project_outside, project_passed}
 use Rattle.tracks_calls.proofs.calls.project.Goals as goal
 
 pub returns-in_err-track : goal.returns-in_err-track

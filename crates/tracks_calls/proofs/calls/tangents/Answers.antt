@@ -2,7 +2,8 @@
 use mathlib.Core.Path.{refl, ◌∙◌}
 use Prim.Native.Nat.{◌/◌}
 use lib.ListN.{length}
-use Rattle.tracks_calls.proofs.CallSteps.{told, no_room, room, passed, tangents_refused, tangents_passed, list_by, list_written}
+use Rattle.refusals.proofs.ResultLaws.{told}
+use Rattle.tracks_calls.proofs.CallSteps.{no_room, room, passed, tangents_refused, tangents_passed, list_by, list_written}
 use Rattle.tracks_calls.proofs.calls.tangents.Goals as goal
 
 pub returns-then-list-points-clause-result_value : goal.returns-then-list-points-clause-result_value
