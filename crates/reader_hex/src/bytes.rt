@@ -10,7 +10,7 @@ pub fn byte_at(text: &[u8], at: usize) -> u8
 }
 
 // The value of a hexadecimal digit in lower case, 16 for any other byte. Both ends are tested together, so that no branch of the machine's goes by what
-// digits the text has: a match on the two ranges takes 320 µs for a text of 57,213 bytes, this 84.
+// digits the text has: a match on the two ranges takes 320 µs to read a text of 57,213 bytes, this 95.
 #[tactic(auto, unfolding(crate::specs::Hex::digit_of))]
 pub fn digit(b: u8) -> u8
     ensures { result ≡ digit_of b }

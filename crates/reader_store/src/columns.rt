@@ -3,7 +3,7 @@ ghost use Rattle.std.specs.Prelude.{◌≡◌, ◌+◌, ◌<◌};
 ghost use Rattle.reader_schema.specs.Tables.{columns_most};
 ghost use Rattle.reader_store.specs.Layout.{placed, numbers_below, words_below, wants_kept};
 
-use crate::layout::{number_lines, number_place, word_lines, word_place};
+use crate::layout::{number_lines, number_row, word_lines, word_row};
 use crate::memory::code;
 use reader_lines::{Cells, put};
 use reader_schema::tables::{COLUMNS_MOST, WANT_TABLE};
@@ -25,9 +25,10 @@ pub(crate) fn put_numbers(numbers: &mut [f64], table: usize, k: u16, cells: Cell
     ensures { numbers.new ≡ numbers_below table k cells columns_most numbers.old }
 {
     let line = number_lines(table).line(k as u32);
+    let places = number_row(table);
     for column in 0..COLUMNS_MOST {
         let value = reader_hex::of_bits(cells.of[column]);
-        put_cell(numbers, line, number_place(table, column), value);
+        put_cell(numbers, line, places[column], value);
     }
 }
 
@@ -36,9 +37,10 @@ pub(crate) fn put_words(words: &mut [u16], table: usize, k: u16, cells: Cells)
     ensures { words.new ≡ words_below table k cells columns_most words.old }
 {
     let line = word_lines(table).line(k as u32);
+    let places = word_row(table);
     for column in 0..COLUMNS_MOST {
         let value = code(cells.of[column]);
-        put_cell(words, line, word_place(table, column), value);
+        put_cell(words, line, places[column], value);
     }
 }
 

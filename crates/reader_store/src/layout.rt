@@ -1,5 +1,6 @@
 // The layout of a lent road's memory by table, as data: its places and strides are those of crate records.
-ghost use Rattle.std.specs.Prelude.{◌≡◌, ◌+◌, ◌*◌, ◌<◌};
+ghost use Rattle.std.specs.Prelude.{◌≡◌, ℕ, ◌+◌, ◌*◌, ◌<◌, get_or};
+ghost use Rattle.reader_schema.specs.Tables.{columns_most};
 ghost use Rattle.reader_store.specs.Layout.{first_number, numbers_a_line, first_word, words_a_line, place_at, place_number, number_place, word_place, count_place, rule_number, rule_of, family_number, base_of, stride_of};
 
 use reader_schema::tables::{
@@ -16,7 +17,7 @@ use records::layout::{
     TSHIFT_COUNT_AT,
 };
 
-// A constant is made anew where it is read, so what is read for each column has a short one of its own.
+// A constant is made anew where it is read, so each row has one of its own.
 
 // Where lines stand in a slice: the first, and how far each is from the one before.
 #[derive(Clone, Copy, Debug, PartialEq, Eq)]
@@ -139,9 +140,11 @@ const WORDS: [Lines; TABLE_COUNT] = [
     NONE, // want
 ];
 
-// Which of its line's numbers, or words, each column of a table is, counted from 1; 0 where it is none. A row of Options is twice as long and made anew
-// for each column: a text of 57,213 bytes takes 100 µs to read with them, 94 with these.
+// Which of its line's numbers, or words, each column of a table is, counted from 1; 0 where it is none. Options in place of the numbers are laid out one to
+// a line, and read for each column took 100 µs of a text of 57,213 bytes where these took 94.
 type Row = [u8; COLUMNS_MOST];
+
+const NO_PLACES: Row = [0; COLUMNS_MOST];
 
 // Lanes, strips and wants have no numbers.
 const ONE: Row = [1, 0, 0, 0, 0, 0, 0, 0]; // road, section, profile
@@ -276,38 +279,34 @@ pub(crate) fn word_lines(table: usize) -> Lines
     }
 }
 
-pub(crate) fn number_place(table: usize, column: usize) -> u8
-    ensures { result ≡ number_place table column }
+// Which of its line's numbers each column of a table is.
+pub(crate) fn number_row(table: usize) -> Row
+    ensures { (column : ℕ) → column < columns_most → get_or result column 0 ≡ number_place table column }
 {
-    if COLUMNS_MOST <= column {
-        return 0;
-    }
     match table {
-        ROAD_TABLE | SECTION_TABLE | PROFILE_TABLE => ONE[column],
-        GEOM_TABLE => GEOM[column],
-        ELEV_TABLE => ALONG[column],
-        BANK_TABLE => ALONG[column],
-        OFFSET_TABLE => ALONG[column],
-        TSHIFT_TABLE => ALONG[column],
-        EXTENT_TABLE => EXTENT[column],
-        HEIGHT_TABLE => HEIGHT[column],
-        SHAPE_TABLE => SHAPE[column],
-        CUBIC_TABLE => CUBIC[column],
-        MARK_TABLE => MARK[column],
-        _ => 0,
+        ROAD_TABLE | SECTION_TABLE | PROFILE_TABLE => ONE,
+        GEOM_TABLE => GEOM,
+        ELEV_TABLE => ALONG,
+        BANK_TABLE => ALONG,
+        OFFSET_TABLE => ALONG,
+        TSHIFT_TABLE => ALONG,
+        EXTENT_TABLE => EXTENT,
+        HEIGHT_TABLE => HEIGHT,
+        SHAPE_TABLE => SHAPE,
+        CUBIC_TABLE => CUBIC,
+        MARK_TABLE => MARK,
+        _ => NO_PLACES,
     }
 }
 
-pub(crate) fn word_place(table: usize, column: usize) -> u8
-    ensures { result ≡ word_place table column }
+// Which of its line's words each column of a table is.
+pub(crate) fn word_row(table: usize) -> Row
+    ensures { (column : ℕ) → column < columns_most → get_or result column 0 ≡ word_place table column }
 {
-    if COLUMNS_MOST <= column {
-        return 0;
-    }
     match table {
-        GEOM_TABLE => GEOM_CODES[column],
-        LANE_TABLE => LANE_CODES[column],
-        _ => 0,
+        GEOM_TABLE => GEOM_CODES,
+        LANE_TABLE => LANE_CODES,
+        _ => NO_PLACES,
     }
 }
 

@@ -1,15 +1,15 @@
 -- The constants are the definition's: a row for each arm; past the end, and in every other row, both are 0.
 use Prim.Native.Nat.{ℕ}
-use mathlib.Core.Path.{◌≡◌}
+use mathlib.Core.Path.{◌≡◌, refl, sym, ◌∙◌}
 use mathlib.Core.Bool.{Bool, ◌||◌}
 use mathlib.Core.List.{[]}
-use borrow.Author.Tests.{lt-ltb, le-ltb, ne_eqb}
+use borrow.Author.Tests.{lt-ltb, ne_eqb}
 use borrow.Author.Rules.{rules}
 use lib.Dec.{eqb}
 use lib.ListN.{get_or}
 use Rattle.reader_schema.proofs.Zeros.{zero_row}
 use Rattle.reader_store.specs.Layout.{words, word_place}
-use Rattle.reader_store.proofs.layout.word_place.Goals as goal
+use Rattle.reader_store.proofs.layout.word_row.Goals as goal
 
 -- the tables that have an arm
 armed : ℕ → Bool
@@ -19,18 +19,14 @@ none : (t i : ℕ) → (t ≡ 1 → ⊥) → (t ≡ 7 → ⊥) → 0 ≡ get_or 
 unfolding words armed
 none t i a b = zero_row armed words tt t i (rw (ne_eqb t 1 a, ne_eqb t 7 b))
 
-pub returns-then-column-ge-COLUMNS_MOST : goal.returns-then-column-ge-COLUMNS_MOST
-unfolding word_place
-returns-then-column-ge-COLUMNS_MOST c = rw (le-ltb _ 8 c.if-column-ge-COLUMNS_MOST.true)
-
 pub returns-in-1 : goal.returns-in-1
 unfolding word_place words
-returns-in-1 c = rw (c.in-1.is, lt-ltb _ 8 c.if-column-ge-COLUMNS_MOST.false)
+returns-in-1 c = λ column h. rw (c.in-1.is, lt-ltb column 8 h)
 
 pub returns-in-7 : goal.returns-in-7
 unfolding word_place words
-returns-in-7 c = rw (c.in-7.is, lt-ltb _ 8 c.if-column-ge-COLUMNS_MOST.false)
+returns-in-7 c = λ column h. rw (c.in-7.is, lt-ltb column 8 h)
 
 pub returns-in_default : goal.returns-in_default
-unfolding word_place
-returns-in_default c = rw (lt-ltb _ 8 c.if-column-ge-COLUMNS_MOST.false) (none c.args.table c.args.column (search rules) (search rules))
+unfolding word_place words armed
+returns-in_default c = λ column h. rw (lt-ltb column 8 h) (sym (zero_row armed words tt 0 column refl) ∙ none c.args.table column (search rules) (search rules))
