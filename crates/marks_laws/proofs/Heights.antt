@@ -7,8 +7,7 @@ use lib.ListN.{length, get_or}
 use lib.Ieee.{Float}
 use Rattle.float_laws.specs.Binary64.{◌⊕◌}
 use Rattle.records_lent.specs.Lists.{any_below}
-use Rattle.std.specs.declared.option.Option.{Option}
-use Rattle.std.specs.declared.option.Option.TheVariants.{Some, None}
+use Rattle.std.specs.Prelude.{Option, Some, None}
 use Rattle.records.specs.Active.{last_start, active_up_to}
 use Rattle.records.specs.Roads.{Road, Lane, no_lane, profile_at}
 use Rattle.lanes.specs.declared.pairs.Pair.{Pair}

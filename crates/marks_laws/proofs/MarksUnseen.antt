@@ -7,8 +7,11 @@ use lib.Dec.{leb, ltb}
 use lib.IntN.{ℤ}
 use lib.Ieee.{Float}
 use lib.ListN.{length, drop}
+use Rattle.std.specs.Prelude.{Option, Some, None}
+use Rattle.std.specs.Option.{is_some}
 use Rattle.refusals.specs.Answer.{Answer, value, refused, Row, row, checked}
 use Rattle.refusals.specs.declared.refusals.Refusal.TheVariants.{SampleSpace, BorderSpace, Lane}
+use Rattle.records.specs.declared.points.LanePlace.{LanePlace}
 use Rattle.records.specs.Roads.{Road, road_of, section_index}
 use Rattle.line_samples.specs.Samples.{samples_needed, samples_of}
 use Rattle.line_pose.specs.Poses.{pose_of}
@@ -18,16 +21,13 @@ use Rattle.admission_arguments.specs.Arguments.{station_row, across_row}
 use Rattle.line_calls.specs.SampleCall.{samples_call, samples_written, samples_list}
 use Rattle.line_calls.specs.PoseCall.{geometry_row, pose_call}
 use Rattle.lanes_borders.specs.Borders.{lanes_of, border_list}
-use Rattle.lanes_naming.specs.declared.lane_names.LaneAt.{LaneAt}
-use Rattle.lanes_naming.specs.declared.lane_names.LaneAt.TheVariants.{Left, Right, Nothing}
 use Rattle.lanes_naming.specs.Naming.{lane_named}
 use Rattle.lanes_calls.specs.LaneCalls.{borders_call, borders_written, borders_list, lane_named_call}
 use Rattle.surface_station.specs.Station.{station_of}
 use Rattle.surface_station.specs.Axes.{axes_at}
-use Rattle.surface_points.specs.declared.points.SurfacePoint.{SurfacePoint}
 use Rattle.surface_points.specs.Surfaces.{narrowed_point, surface_at, lane_surface_at}
 use Rattle.surface_locate.specs.Locating.{locate_of}
-use Rattle.surface_calls.specs.SurfaceCalls.{place_of_id, lane_there, is_lane, on_right, lane_place, station_call, axes_call, surface_call, lane_surface_call}
+use Rattle.surface_calls.specs.SurfaceCalls.{place_of_id, lane_there, lane_here, station_call, axes_call, surface_call, lane_surface_call}
 use Rattle.surface_calls.specs.LocateCall.{guess_row, target, target_row, locate_call}
 use Rattle.marks_laws.specs.Unmarked.{unmarked, Unmoved, MarksUnseen}
 use Rattle.marks_laws.proofs.Sections.{index_is, side-is, lanes-are, border_list_lem, lane_named-is}
@@ -48,12 +48,16 @@ at-section : {A : Type 0} (f : Road → ℕ → A) → ((road : Road) (i : ℕ) 
 at-section f same s road = same road (section_index (unmarked road) s) ∙ ap (f road) (index_is road s)
 
 -- a call whose rows begin with the road's
+answered_by : {A : Type 0} (rows : Road → List Row) (here : Road → Answer A) → SameUnmarked rows → SameUnmarked here
+    → Unmoved (λ words numbers. checked (road_rows words numbers ++ rows (road_of words numbers)) (here (road_of words numbers)))
+answered_by rows here same same' words numbers words' numbers' h h' e =
+    road-admitted words numbers (rows (road_of words numbers)) (here (road_of words numbers)) h
+    ∙ ap₂ checked (alike rows same e) (alike here same' e)
+    ∙ sym (road-admitted words' numbers' (rows (road_of words' numbers')) (here (road_of words' numbers')) h')
+
 answered : {A : Type 0} (rows : Road → List Row) (here : Road → A) → SameUnmarked rows → SameUnmarked here
     → Unmoved (λ words numbers. checked (road_rows words numbers ++ rows (road_of words numbers)) (value (here (road_of words numbers))))
-answered rows here same same' words numbers words' numbers' h h' e =
-    road-admitted words numbers (rows (road_of words numbers)) (value (here (road_of words numbers))) h
-    ∙ ap₂ (λ r x. checked r (value x)) (alike rows same e) (alike here same' e)
-    ∙ sym (road-admitted words' numbers' (rows (road_of words' numbers')) (value (here (road_of words' numbers'))) h')
+answered rows here same same' = answered_by rows (λ road. value (here road)) same (λ road. ap value (same' road))
 
 -- a list that is written by what a call answers
 written : {A B : Type 0} (list : List ℕ → List Float → A → B) {call : List ℕ → List Float → A} → ((a : A) → Unmoved (λ words numbers. list words numbers a)) → Unmoved call
@@ -87,11 +91,10 @@ pose-unseen samples geometry s =
 
 -- ---- points of the surface
 
-lane_there_lem : (at : LaneAt) (road : Road) (i : ℕ) → lane_there (unmarked road) i at ≡ lane_there road i at
+lane_there_lem : (at : Option LanePlace) (road : Road) → lane_there (unmarked road) at ≡ lane_there road at
 unfolding lane_there
-lane_there_lem (Left k) road i = ap (λ lanes. cond (ltb k (length lanes)) (Left k) Nothing) (side-is road i false)
-lane_there_lem (Right k) road i = ap (λ lanes. cond (ltb k (length lanes)) (Right k) Nothing) (side-is road i true)
-lane_there_lem Nothing road i = refl
+lane_there_lem (Some p) road = ap (λ lanes. cond (ltb p.k (length lanes)) (Some p) None) (side-is road p.section p.right)
+lane_there_lem None road = refl
 
 module _ (samples : List Float) (s : Float) where
   -- rows 6 and 7, and the rows of t
@@ -117,30 +120,28 @@ module _ (samples : List Float) (s : Float) where
 
   module _ (id : ℤ) (t : Float) where
     -- the lane of that id, its row 10, and its point
-    abbrev held : Road → LaneAt
-    held road = lane_there road (section_index road s) (place_of_id id)
+    abbrev held : Road → Option LanePlace
+    held road = lane_there road (place_of_id (section_index road s) id)
 
     held_same : SameUnmarked held
-    held_same = at-section (λ road i. lane_there road i (place_of_id id)) (lane_there_lem (place_of_id id)) s
+    held_same = at-section (λ road i. lane_there road (place_of_id i id)) (λ road i. lane_there_lem (place_of_id i id) road) s
 
-    abbrev lane_rows_by : LaneAt → List Row
-    lane_rows_by at = across_row t ∷ row Lane (is_lane at) ∷ []
+    abbrev lane_rows_by : Option LanePlace → List Row
+    lane_rows_by at = across_row t ∷ row Lane (is_some at) ∷ []
 
     held_rows : SameUnmarked (λ road. placed (lane_rows_by (held road)) road)
     held_rows road = placed_same (lane_rows_by (held (unmarked road))) road ∙ ap (λ at. placed (lane_rows_by at) road) (held_same road)
 
-    abbrev point_on : Road → ℕ → LaneAt → SurfacePoint
-    point_on road i at = lane_surface_at road samples i (on_right at) (lane_place at) s t
+    lane_here_lem : (road : Road) (at : Option LanePlace) → lane_here (unmarked road) samples at s t ≡ lane_here road samples at s t
+    lane_here_lem road None = refl
+    lane_here_lem road (Some p) = ap (λ q. value (narrowed_point q)) (lane_surface-is road samples p.section p.right p.k s t)
 
-    held-point : SameUnmarked (λ road. point_on road (section_index road s) (held road))
-    held-point road =
-        lane_surface-is road samples (section_index (unmarked road) s) (on_right (held (unmarked road))) (lane_place (held (unmarked road))) s t
-        ∙ ap₂ (point_on road) (index_is road s) (held_same road)
+    held-point : SameUnmarked (λ road. lane_here road samples (held road) s t)
+    held-point road = lane_here_lem road (held (unmarked road)) ∙ ap (λ at. lane_here road samples at s t) (held_same road)
 
     lane_surface-unseen : Unmoved (λ words numbers. lane_surface_call words numbers samples id s t)
     unfolding lane_surface_call
-    lane_surface-unseen =
-        answered (λ road. placed (lane_rows_by (held road)) road) (λ road. narrowed_point (point_on road (section_index road s) (held road))) held_rows (λ road. ap narrowed_point (held-point road))
+    lane_surface-unseen = answered_by (λ road. placed (lane_rows_by (held road)) road) (λ road. lane_here road samples (held road) s t) held_rows held-point
 
 locate-unseen : (samples : List Float) (x y guess : Float) → Unmoved (λ words numbers. locate_call words numbers samples x y guess)
 unfolding locate_call

@@ -1,19 +1,19 @@
 -- The points of a road's surface: each is a pose raised by a height, and both are those of the road without its marks.
 use Prim.Native.Nat.{ℕ}
 use mathlib.Core.Path.{◌≡◌, ap, ap₂, ◌∙◌}
-use mathlib.Core.Bool.{Bool, true, false, ◌||◌, not, cond}
+use mathlib.Core.Bool.{Bool, ◌||◌, not, cond}
 use mathlib.Core.List.{List}
 use lib.Ieee.{Float, eq}
 use Rattle.float_laws.specs.Binary64.{zero64}
+use Rattle.std.specs.Prelude.{Option, Some, None}
+use Rattle.records.specs.declared.points.LanePlace.{LanePlace}
 use Rattle.records.specs.Roads.{Road, section_index}
 use Rattle.lanes_heights.specs.HeightAcross.{height_across, height_within}
-use Rattle.lanes_naming.specs.declared.lane_names.LaneAt.{LaneAt}
-use Rattle.lanes_naming.specs.declared.lane_names.LaneAt.TheVariants.{Left, Right, Nothing}
 use Rattle.lanes_naming.specs.Naming.{lane_at}
 use Rattle.surface_station.specs.declared.axis.Axes.{Axes}
 use Rattle.surface_points.specs.declared.points.SurfacePoint.{SurfacePoint}
 use Rattle.surface_points.specs.Raised.{plain_at, lifted, raised_at}
-use Rattle.surface_points.specs.SurfaceHeights.{bank_tangent, stands_off, height_on, height_by, standing_height, surface_height, lane_height}
+use Rattle.surface_points.specs.SurfaceHeights.{bank_tangent, stands_off, height_by, standing_height, surface_height, lane_height}
 use Rattle.surface_points.specs.Surfaces.{surface_at, lane_surface_at}
 use Rattle.marks_laws.specs.Unmarked.{unmarked}
 use Rattle.marks_laws.proofs.Sections.{index_is, lane_at-is}
@@ -27,17 +27,12 @@ module _ (road : Road) where
   unfolding stands_off
   stands_off_lem i = ap₂ (λ (a b : Bool). a || not b) (raised_is road i) (flat-is road)
 
-  height_on_lem : (i : ℕ) (s tangent t : Float) (right : Bool) (k : ℕ) → height_on (unmarked road) i s tangent t right k ≡ height_on road i s tangent t right k
-  unfolding height_on
-  height_on_lem i s tangent t right k = ap (λ a. height_within a t) (across-is road i s tangent right k)
-
-  height_by_lem : (i : ℕ) (s tangent t : Float) (at : LaneAt) → height_by (unmarked road) i s tangent t at ≡ height_by road i s tangent t at
-  height_by_lem i s tangent t (Left k) = height_on_lem i s tangent t false k
-  height_by_lem i s tangent t (Right k) = height_on_lem i s tangent t true k
-  height_by_lem i s tangent t Nothing = toward-is road s t _
+  height_by_lem : (s tangent t : Float) (at : Option LanePlace) → height_by (unmarked road) s tangent t at ≡ height_by road s tangent t at
+  height_by_lem s tangent t (Some p) = ap (λ a. height_within a t) (across-is road p.section s tangent p.right p.k)
+  height_by_lem s tangent t None = toward-is road s t _
 
   standing-is : (i : ℕ) (s tangent t : Float) → standing_height (unmarked road) i s tangent t ≡ standing_height road i s tangent t
-  standing-is i s tangent t = height_by_lem i s tangent t (lane_at (unmarked road) i s t) ∙ ap (height_by road i s tangent t) (lane_at-is road i s t)
+  standing-is i s tangent t = height_by_lem s tangent t (lane_at (unmarked road) i s t) ∙ ap (height_by road s tangent t) (lane_at-is road i s t)
 
   surface_height_lem : (i : ℕ) (s t : Float) → surface_height (unmarked road) i s t ≡ surface_height road i s t
   unfolding surface_height

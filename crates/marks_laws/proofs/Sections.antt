@@ -6,11 +6,12 @@ use mathlib.Core.List.{List, ◌++◌}
 use lib.ListN.{length, length-map, get_or-map}
 use lib.Ieee.{Float}
 use Rattle.float_laws.specs.Binary64.{◌⊖◌}
+use Rattle.records_lent.specs.Lists.{last_that}
 use Rattle.records.specs.Active.{last_start, active_up_to, or_first}
 use Rattle.records.specs.Roads.{Road, Section, Lane, no_section, section_of, section_index}
 use Rattle.lanes_borders.specs.declared.across.LaneBorders.{LaneBorders}
 use Rattle.lanes_borders.specs.Borders.{sign_of, base_at, side_lanes, lanes_of, borders_at, borders_of, side_list, border_list}
-use Rattle.lanes_naming.specs.Naming.{last_that, named_test, named_on, name_by, lane_named, beyond_test, beyond_on, place_by, lane_at}
+use Rattle.lanes_naming.specs.Naming.{named_test, named_on, name_by, lane_named, beyond_test, beyond_on, place_by, lane_at}
 use Rattle.marks_laws.specs.Unmarked.{unmarked_section, unmarked}
 
 module _ (road : Road) where
@@ -58,4 +59,4 @@ module _ (road : Road) where
 
     pub lane_at-is : lane_at (unmarked road) i s t ≡ lane_at road i s t
     unfolding lane_at
-    lane_at-is = ap₂ place_by (beyond_on_lem false) (beyond_on_lem true)
+    lane_at-is = ap₂ (place_by i) (beyond_on_lem false) (beyond_on_lem true)

@@ -15,4 +15,4 @@ returns-in_err-road c =
     let s = c.args.s in
     let t = c.args.t in
     told c.from_residual.result _ c.from_residual.ensures.1
-    ∙ first-refused (station_rows w d xs s) (lane_rows w d c.args.id s t) (road_of w d) (lane_here w d xs (lane_held w d c.args.id s) s t) c.in_err-road.ensures
+    ∙ first-refused (station_rows w d xs s) (lane_rows w d c.args.id s t) (road_of w d) (lane_here (road_of w d) xs (lane_held w d c.args.id s) s t) c.in_err-road.ensures
