@@ -8,6 +8,7 @@ use mathlib.Core.List.{List}
 use lib.Ieee.{Float, nan}
 use lib.ListN.{length, get_or, drop, get_or-append}
 use borrow.Author.Tests.{lt-ltb}
+use Rattle.std.specs.Prelude.{Some}
 use Rattle.refusals.specs.Answer.{Answer, value, Answers}
 use Rattle.records.specs.Roads.{Road, road_of, section_index}
 use Rattle.admission.specs.Limits.{on_road}
@@ -21,8 +22,6 @@ use Rattle.lanes_borders.specs.declared.across.LaneBorders.{LaneBorders}
 use Rattle.lanes_borders.specs.Borders.{side_lanes, borders_of as lane_borders, border_list}
 use Rattle.lanes_borders.proofs.BorderSteps.{three, left-written, right-written, list_length}
 use Rattle.lanes_border_list.specs.BorderList.{listed_by}
-use Rattle.lanes_naming.specs.declared.lane_names.LaneAt.{LaneAt}
-use Rattle.lanes_naming.specs.declared.lane_names.LaneAt.TheVariants.{Left, Right}
 use Rattle.lanes_calls.specs.LaneCalls.{lanes_at, borders_call, borders_list}
 use Rattle.lanes_laws.specs.BorderSizes.{lanes_on, first_on, inner_at, outer_at, BordersKept}
 use Rattle.lanes_laws.proofs.BorderSizes.{answered-list, border-sizes}
@@ -30,8 +29,8 @@ use Rattle.surface_station.specs.declared.axis.Axis.{Axis}
 use Rattle.surface_laws.specs.Squares.{UnitLong}
 use Rattle.surface_points.specs.declared.points.SurfacePoint32.{SurfacePoint32}
 use Rattle.surface_laws.specs.Sizes.{SizedPoint}
-use Rattle.surface_calls.specs.SurfaceCalls.{place_of_id, lane_there, is_lane, on_right, lane_place, lane_held, axes_call, surface_call, surface_here, lane_surface_call, lane_here}
-use Rattle.surface_laws.proofs.CallsKept.{axes-kept, surface-kept, lane_surface-kept, axes-answered, surface-answered, lane_surface-answered}
+use Rattle.surface_calls.specs.SurfaceCalls.{place_of_id, lane_there, lane_held, axes_call, surface_call, surface_here, lane_surface_call}
+use Rattle.surface_laws.proofs.CallsKept.{axes-kept, surface-kept, lane_point, lane_surface-kept, axes-answered, surface-answered, lane_surface-answered}
 use Rattle.surface_station.specs.Axes.{axes_at}
 use Rattle.surface_laws.proofs.LocateLaws.{locate-kept}
 use Rattle.surface_demand.specs.Demand.{PointKept, UnitKept, AxesKept, id_on, Kept, Demand3}
@@ -48,19 +47,10 @@ unit_of_lem v w = record { x_finite = w.finite_x; y_finite = w.finite_y; z_finit
 
 -- ---- the lane of an id, and its borders in the list
 
-at_side : Bool → ℕ → LaneAt
-at_side false k = Left k
-at_side true k = Right k
-
-lane-is : (road : Road) (i : ℕ) (right : Bool) (k : ℕ) → k < length (side_lanes road i right) → lane_there road i (place_of_id (id_on right k)) ≡ at_side right k
-unfolding place_of_id lane_there at_side
+lane-is : (road : Road) (i : ℕ) (right : Bool) (k : ℕ) → k < length (side_lanes road i right) → lane_there road (place_of_id i (id_on right k)) ≡ Some (record { section = i; right = right; k = k })
+unfolding place_of_id lane_there
 lane-is road i false k l = rw (lt-ltb k (length (side_lanes road i false)) l)
 lane-is road i true k l = rw (lt-ltb k (length (side_lanes road i true)) l)
-
-side-is : (right : Bool) (k : ℕ) → (on_right (at_side right k) ≡ right) × (lane_place (at_side right k) ≡ k) × (is_lane (at_side right k) ≡ true)
-unfolding at_side
-side-is false k = (refl, refl, refl)
-side-is true k = (refl, refl, refl)
 
 module _ (road : Road) (i : ℕ) (s : Float) (xs : List Float) where
   abbrev list : List Float
@@ -118,33 +108,22 @@ module _ (words : List ℕ) (numbers : List Float) (fitting : AllF64 numbers) (x
       abbrev at : ℕ
       at = section_index road s
 
-      abbrev held : LaneAt
-      held = lane_held words numbers (place_of_id (id_on right k)) s
-
-      held-is : held ≡ at_side right k
-      held-is = lane-is road at right k l
-
-      borders_of_lem : lane_borders road at s (on_right held) (lane_place held) ≡ lane_borders road at s right k
-      borders_of_lem =
-          let e = side-is right k in
-          ap (λ (h : LaneAt). lane_borders road at s (on_right h) (lane_place h)) held-is
-          ∙ ap (λ (b : Bool). lane_borders road at s b (lane_place (at_side right k))) e.0
-          ∙ ap (λ (j : ℕ). lane_borders road at s right j) e.1
+      held : lane_held words numbers (id_on right k) s ≡ Some (record { section = at; right = right; k = k })
+      held = lane-is road at right k l
 
       lane-clause : Between (inner_at (borders_list words numbers s lent) (first_on words numbers s right + k)) (outer_at (borders_list words numbers s lent) (first_on words numbers s right + k)) t
           → Answers (lane_surface_call words numbers samples (id_on right k) s t) PointKept
       lane-clause between =
-          let found : is_lane held ≡ true = ap is_lane held-is ∙ (side-is right k).2 in
-          let e = lane_surface-answered words numbers fitting xs n made s on t in-t (id_on right k) found in
+          let p = lane_point words numbers fitting xs n made (id_on right k) s t right k samples in
+          let e = lane_surface-answered words numbers fitting xs n made s on t in-t (id_on right k) right k held in
           let w = answered-list words numbers s lent (lanes_at words numbers s) borders.answer in
-          let inner : inner_at (borders_list words numbers s lent) (first_on words numbers s right + k) ≡ (lane_borders road at s (on_right held) (lane_place held)).inner =
-          ap (λ (list : List Float). inner_at list (first_on words numbers s right + k)) w ∙ inner-read road at s lent right k l ∙ ap (λ (b : LaneBorders). b.inner) (sym borders_of_lem) in
-          let outer : outer_at (borders_list words numbers s lent) (first_on words numbers s right + k) ≡ (lane_borders road at s (on_right held) (lane_place held)).outer =
-          ap (λ (list : List Float). outer_at list (first_on words numbers s right + k)) w ∙ outer-read road at s lent right k l ∙ ap (λ (b : LaneBorders). b.outer) (sym borders_of_lem) in
+          let inner : inner_at (borders_list words numbers s lent) (first_on words numbers s right + k) ≡ (lane_borders road at s right k).inner =
+          ap (λ (list : List Float). inner_at list (first_on words numbers s right + k)) w ∙ inner-read road at s lent right k l in
+          let outer : outer_at (borders_list words numbers s lent) (first_on words numbers s right + k) ≡ (lane_borders road at s right k).outer =
+          ap (λ (list : List Float). outer_at list (first_on words numbers s right + k)) w ∙ outer-read road at s lent right k l in
           let b1 = subst (λ (a : Float). Between a (outer_at (borders_list words numbers s lent) (first_on words numbers s right + k)) t) inner between in
-          let b2 = subst (λ (b : Float). Between (lane_borders road at s (on_right held) (lane_place held)).inner b t) outer b1 in
-          answers PointKept (lane_here words numbers samples (place_of_id (id_on right k)) s t) e
-          (point-of (lane_here words numbers samples (place_of_id (id_on right k)) s t) (lane_surface-kept words numbers fitting xs n made (id_on right k) s t fs ft (lane_here words numbers samples (place_of_id (id_on right k)) s t) e b2))
+          let b2 = subst (λ (b : Float). Between (lane_borders road at s right k).inner b t) outer b1 in
+          answers PointKept p e (point-of p (lane_surface-kept words numbers fitting xs n made (id_on right k) s t right k held l fs ft p e b2))
 
   kept : Kept words numbers (samples_list words numbers xs)
   kept =

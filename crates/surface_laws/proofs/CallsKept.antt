@@ -1,16 +1,18 @@
 -- Demand 3 as it is put, on calls: for every lent road whose samples the samples call makes, and whatever axes, surface and lane surface then answer with those samples, the axes' squares and the points' sizes are within their bounds; and on such a road they do answer.
 -- The numbers lent, s and t are f64 (`Fitting`, `Fits64`), which every f64 of the machine is. A call that answers has passed its rows, so the road is admitted, s lies in 0..length and t in -80..80; the rest are the laws on the definitions.
 use mathlib.Core.Path.{◌≡◌, sym, ◌∙◌, ap, subst}
-use mathlib.Core.Bool.{Bool, true, false, cond}
+use mathlib.Core.Bool.{Bool, true}
 use mathlib.Core.List.{List, [], ◌∷◌, ◌++◌}
 use Prim.Native.Nat.{ℕ, ◌+◌, ◌-◌, ◌*◌, ◌/◌, ◌≤◌, ◌<◌}
 use native.Mathlib.Omega.{arith}
-use lib.Dec.{T, leb, ltb, ltb→lt}
+use lib.Dec.{leb}
 use lib.IntN.{ℤ}
 use lib.ListN.{length, drop, length-append, length-drop}
 use lib.Ieee.{Float}
 use borrow.Author.Tests.{le-leb}
+use Rattle.std.specs.Prelude.{Option, Some}
 use Rattle.refusals.specs.Answer.{Answer, value, Row, checked}
+use Rattle.records.specs.declared.points.LanePlace.{LanePlace}
 use Rattle.records.specs.Roads.{Road, road_of, section_index}
 use Rattle.line_samples.specs.Samples.{samples_needed, samples_of}
 use Rattle.line_samples.proofs.SpiralLaws.{length-samples_of}
@@ -24,8 +26,6 @@ use Rattle.admission.proofs.RowLaws.{checked-pass, pass-checked}
 use Rattle.admission.proofs.AdmissionLaws.{road-admitted}
 use Rattle.line_calls.proofs.SampleCalls.{samples_written_lem, made-admitted, made-needed}
 use Rattle.lanes_borders.specs.Borders.{side_lanes, borders_of}
-use Rattle.lanes_naming.specs.declared.lane_names.LaneAt.{LaneAt}
-use Rattle.lanes_naming.specs.declared.lane_names.LaneAt.TheVariants.{Left, Right, Nothing}
 use Rattle.surface_station.specs.declared.axis.Axes.{Axes}
 use Rattle.surface_station.specs.Axes.{axes_at}
 use Rattle.surface_laws.specs.Squares.{UnitLong}
@@ -35,7 +35,7 @@ use Rattle.admission_laws.specs.Fractions.{Between}
 use Rattle.surface_laws.specs.Sizes.{SizedPoint}
 use Rattle.surface_laws.proofs.AxesKept.{forward-squares, up-squares}
 use Rattle.surface_laws.proofs.SurfaceKept.{surface-narrowed-kept, lane_surface-narrowed-kept}
-use Rattle.surface_calls.specs.SurfaceCalls.{place_of_id, lane_there, is_lane, on_right, lane_place, across_rows, lane_held, lane_row, lane_rows, place_rows, station_rows, axes_call, surface_here, surface_call, lane_here, lane_surface_call}
+use Rattle.surface_calls.specs.SurfaceCalls.{place_of_id, lane_there, across_rows, lane_held, lane_row, lane_rows, place_rows, station_rows, axes_call, surface_here, surface_call, lane_here, lane_surface_call}
 
 -- ---- rows
 
@@ -49,21 +49,6 @@ answered rs v a e = let p = checked-pass rs (value v) a e in (p, same (sym (pass
 pass-after : (rs ss : List Row) → pass (rs ++ ss) ≡ true → pass ss ≡ true
 pass-after [] ss e = e
 pass-after (r ∷ rs) ss e = pass-after rs ss (and-snd r.passes (pass (rs ++ ss)) e)
-
--- a lane that is there is one of its side's
-lane_there_lem : (road : Road) (i : ℕ) (p : LaneAt) → is_lane (lane_there road i p) ≡ true → lane_place (lane_there road i p) < length (side_lanes road i (on_right (lane_there road i p)))
-unfolding lane_there
-lane_there_lem road i (Left k) e = go (ltb k (length (side_lanes road i false))) (ltb→lt k (length (side_lanes road i false))) e
-  where
-    go : (b : Bool) → (T b → k < length (side_lanes road i false)) → is_lane (cond b (Left k) Nothing) ≡ true → lane_place (cond b (Left k) Nothing) < length (side_lanes road i (on_right (cond b (Left k) Nothing)))
-    go true h e = h tt
-    go false h e = let z : ◌≡◌ {A = ℕ} 0 1 = ap (λ (b : Bool). cond b 1 0) e in absurd (omega arith)
-lane_there_lem road i (Right k) e = go (ltb k (length (side_lanes road i true))) (ltb→lt k (length (side_lanes road i true))) e
-  where
-    go : (b : Bool) → (T b → k < length (side_lanes road i true)) → is_lane (cond b (Right k) Nothing) ≡ true → lane_place (cond b (Right k) Nothing) < length (side_lanes road i (on_right (cond b (Right k) Nothing)))
-    go true h e = h tt
-    go false h e = let z : ◌≡◌ {A = ℕ} 0 1 = ap (λ (b : Bool). cond b 1 0) e in absurd (omega arith)
-lane_there_lem road i Nothing e = let z : ◌≡◌ {A = ℕ} 0 1 = ap (λ (b : Bool). cond b 1 0) e in absurd (omega arith)
 
 -- ---- the calls, with the samples that the samples call writes into xs
 
@@ -109,26 +94,26 @@ module _ (words : List ℕ) (numbers : List Float) (fitting : Fitting numbers) (
       let is : narrowed_point (surface_at (road_of words numbers) (samples_of (road_of words numbers) ++ rest) s t) ≡ p = ap (λ (l : List Float). narrowed_point (surface_at (road_of words numbers) l s t)) (sym written_is) ∙ w.1 in
       subst (λ (x : SurfacePoint32). SizedPoint x.point.x x.point.y x.point.z) is (surface-narrowed-kept words numbers fitting ok rest s fits-s on t fits-t in-t)
 
-  -- ---- "or `lane_surface` where t lies between that lane's inner and outer at s, both included"
-  module _ (id : ℤ) (s t : Float) where
-    -- the lane of the id
-    abbrev lane : LaneAt
-    lane = lane_held words numbers (place_of_id id) s
+  -- ---- "or `lane_surface` where t lies between that lane's inner and outer at s, both included": of the k-th lane of a side, which is the id's
+  module _ (id : ℤ) (s t : Float) (right : Bool) (k : ℕ) where
+    abbrev lane : LanePlace
+    lane = record { section = section_index (road_of words numbers) s; right = right; k = k }
 
-    pub lane_surface-kept : Fits64 s → Fits64 t → (p : SurfacePoint32) → lane_surface_call words numbers (samples_list words numbers xs) id s t ≡ value p
-        → Between (borders_of (road_of words numbers) (section_index (road_of words numbers) s) s (on_right lane) (lane_place lane)).inner (borders_of (road_of words numbers) (section_index (road_of words numbers) s) s (on_right lane) (lane_place lane)).outer t
+    abbrev pub lane_point : List Float → SurfacePoint32
+    lane_point samples = narrowed_point (lane_surface_at (road_of words numbers) samples (section_index (road_of words numbers) s) right k s t)
+
+    pub lane_surface-kept : lane_held words numbers id s ≡ Some lane → k < length (side_lanes (road_of words numbers) (section_index (road_of words numbers) s) right)
+        → Fits64 s → Fits64 t → (p : SurfacePoint32) → lane_surface_call words numbers (samples_list words numbers xs) id s t ≡ value p
+        → Between (borders_of (road_of words numbers) (section_index (road_of words numbers) s) s right k).inner (borders_of (road_of words numbers) (section_index (road_of words numbers) s) s right k).outer t
         → SizedPoint p.point.x p.point.y p.point.z
     unfolding lane_surface_call
-    lane_surface-kept fits-s fits-t p e between =
-        let place = place_of_id id in
-        let w = answered (station_rows words numbers written s ++ lane_rows words numbers place s t) (lane_here words numbers written place s t) p e in
-        let on = on_of (lane_rows words numbers place s t) s w.0 in
-        let in-t = across_of_lem (lane_row words numbers place s ∷ []) s t w.0 in
-        let found = and-fst (is_lane lane) true (pass-after (station_rows words numbers written s ++ across_rows t) (lane_row words numbers place s ∷ []) w.0) in
-        let there = lane_there_lem (road_of words numbers) (section_index (road_of words numbers) s) place found in
-        let is : narrowed_point (lane_surface_at (road_of words numbers) (samples_of (road_of words numbers) ++ rest) (section_index (road_of words numbers) s) (on_right lane) (lane_place lane) s t) ≡ p =
-        ap (λ (l : List Float). narrowed_point (lane_surface_at (road_of words numbers) l (section_index (road_of words numbers) s) (on_right lane) (lane_place lane) s t)) (sym written_is) ∙ w.1 in
-        subst (λ (x : SurfacePoint32). SizedPoint x.point.x x.point.y x.point.z) is (lane_surface-narrowed-kept words numbers fitting ok rest s fits-s on t fits-t in-t (on_right lane) (lane_place lane) there between)
+    lane_surface-kept held there fits-s fits-t p e between =
+        let rows = station_rows words numbers written s ++ lane_rows words numbers id s t in
+        let w = answered rows (lane_point written) p (ap (λ (l : Option LanePlace). checked rows (lane_here (road_of words numbers) written l s t)) (sym held) ∙ e) in
+        let on = on_of (lane_rows words numbers id s t) s w.0 in
+        let in-t = across_of_lem (lane_row words numbers id s ∷ []) s t w.0 in
+        let is : lane_point (samples_of (road_of words numbers) ++ rest) ≡ p = ap lane_point (sym written_is) ∙ w.1 in
+        subst (λ (x : SurfacePoint32). SizedPoint x.point.x x.point.y x.point.z) is (lane_surface-narrowed-kept words numbers fitting ok rest s fits-s on t fits-t in-t right k there between)
 
   -- ---- and they answer: wherever s lies in 0..length and t in -80..80, and for a lane that the section at s has
   room : leb (samples_needed (road_of words numbers)) (length (samples_list words numbers xs) / 4) ≡ true
@@ -157,6 +142,7 @@ module _ (words : List ℕ) (numbers : List Float) (fitting : Fitting numbers) (
       unfolding surface_call
       surface-answered = past (across_rows t) (value (surface_here words numbers written s t)) ∙ rw in-t
 
-      pub lane_surface-answered : (id : ℤ) → is_lane (lane_held words numbers (place_of_id id) s) ≡ true → lane_surface_call words numbers (samples_list words numbers xs) id s t ≡ value (lane_here words numbers (samples_list words numbers xs) (place_of_id id) s t)
+      pub lane_surface-answered : (id : ℤ) (right : Bool) (k : ℕ) → lane_held words numbers id s ≡ Some (lane id s t right k)
+          → lane_surface_call words numbers (samples_list words numbers xs) id s t ≡ value (lane_point id s t right k (samples_list words numbers xs))
       unfolding lane_surface_call
-      lane_surface-answered id found = past (lane_rows words numbers (place_of_id id) s t) (value (lane_here words numbers written (place_of_id id) s t)) ∙ rw (in-t, found)
+      lane_surface-answered id right k held = past (lane_rows words numbers id s t) (lane_here (road_of words numbers) written (lane_held words numbers id s) s t) ∙ rw (in-t, held)
