@@ -5,7 +5,6 @@ ghost use Rattle.reader_calls.specs.Reading.{zeros, zero_numbers, reading_by, re
 ghost use Rattle.reader_calls.specs.Parts.{judged_by, Filled};
 
 use crate::tables::{Taken, tables};
-use admission::Verdict;
 use records::layout::{NUMBERS_NEEDED, WANTS_NEEDED, WORDS_NEEDED};
 use refusals::Refusal;
 
@@ -31,10 +30,8 @@ fn judged(taken: Taken, words: &[u16], numbers: &[f64]) -> Result<usize, Refusal
     if !taken.progress.sound {
         return Err(Refusal::Structure);
     }
-    match admission_calls::admit(words, numbers) {
-        Verdict::Refused(r) => Err(r),
-        Verdict::Admitted => Ok(taken.lines as usize),
-    }
+    admission_calls::admit(words, numbers)?;
+    Ok(taken.lines as usize)
 }
 
 // A text read into slices that hold zeros; after a refusal they may hold anything.
