@@ -3,6 +3,7 @@ ghost use Rattle.std.specs.Prelude.{◌≡◌};
 ghost use Rattle.admission.specs.Limits.{on_road};
 ghost use Rattle.admission_arguments.specs.Arguments.{across_road};
 
+use arithmetic_ranges::in_range;
 use records::LentRoad;
 
 // Half of the road's width.
@@ -12,12 +13,12 @@ const HALF_WIDTH: f64 = 80.0;
 pub fn on_road(road: &LentRoad, s: f64) -> bool
     ensures { result ≡ on_road road.now s }
 {
-    (0.0 <= s) & (s <= road.length())
+    in_range(0.0, road.length(), s)
 }
 
 // Row 8: t in -80..80.
 pub fn across(t: f64) -> bool
     ensures { result ≡ across_road t }
 {
-    (-HALF_WIDTH <= t) & (t <= HALF_WIDTH)
+    in_range(-HALF_WIDTH, HALF_WIDTH, t)
 }

@@ -11,7 +11,7 @@ use records::{GeomRec, GeomShape, LentRoad};
 use records_geometry::geom;
 use refusals::Refusal;
 
-// One sample at a place.
+// One sample at a place: four stores, as short as an array of the four and its copy.
 fn put(samples: &mut [f64], at: usize, p: Sample)
     requires { at + 4 ≤ length samples.old }
     ensures { samples.new ≡ sets samples.old at (flat (p ∷ [])) }

@@ -7,6 +7,7 @@ use crate::points::HeightDef;
 use std::marker::Model;
 
 // Heights as a part of the lent numbers holds them, three numbers each. What is left over at its end is no height.
+// A type beside `Cubics` and not one over both: what a model is seen as cannot name what its parameter is seen as.
 #[derive(Drop)]
 pub struct Heights<'a> {
     pub numbers: &'a [f64],
