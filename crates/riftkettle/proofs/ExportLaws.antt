@@ -3,8 +3,9 @@ use Prim.Native.Nat.{ℕ, suc}
 use native.Mathlib.Omega.{arith}
 use mathlib.Core.Path.{◌≡◌, refl, sym, ◌∙◌, ap}
 use mathlib.Core.Bool.{true, false}
-use lib.IntN.{pos}
+use lib.IntN.{ℤ, pos}
 use lib.Ieee.{Float}
+use Rattle.std.specs.Option.{unwrap_or}
 use Rattle.refusals.specs.Answer.{Answer, value, refused}
 use Rattle.std.specs.declared.option.Option.{Option}
 use Rattle.std.specs.declared.option.Option.TheVariants.{None, Some}
@@ -29,7 +30,11 @@ module _ {A : Type 0} where
   pub left-refused : {B : Type 0} (f : A → B) (before : B) {n : ℕ} {a : Answer A} → refused n ≡ a → before ≡ left_by f a before
   left-refused f before e = ap (λ (a : Answer A). left_by f a before) e
 
--- ---- the id 0
+-- ---- the id of a lane, and 0
+
+pub id-or : (named : Option ℤ) {r : ℤ} → r ≡ unwrap_or named (pos 0) → r ≡ id_returned named
+id-or (Some n) e = e
+id-or None e = e
 
 unnamed-by : (left right : Option ℕ) → id_returned (name_by left right) ≡ pos 0 → name_by left right ≡ None
 unnamed-by left (Some k) e = let z : ◌≡◌ {A = ℕ} 0 1 = cc in absurd (omega arith)
