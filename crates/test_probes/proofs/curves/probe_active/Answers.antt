@@ -6,15 +6,15 @@ use Rattle.test_probes.proofs.curves.probe_active.Goals as goal
 pub overflow_add-result : goal.overflow_add-result
 overflow_add-result c =
     let a = c.args in
-    let l = active-below a.part.now a.s c.active.ensures c.in-At.is in
+    let l = active-below a.part.now a.s c.active.ensures c.in-Some.is in
     omega arith
 
-pub returns-in-At : goal.returns-in-At
-returns-in-At c =
+pub returns-in-Some : goal.returns-in-Some
+returns-in-Some c =
     let a = c.args in
-    active-some a.part.now a.s c.active.ensures c.in-At.is
+    active-some a.part.now a.s c.active.ensures c.in-Some.is
 
-pub returns-in-Nothing : goal.returns-in-Nothing
-returns-in-Nothing c =
+pub returns-in-None : goal.returns-in-None
+returns-in-None c =
     let a = c.args in
-    active-none a.part.now a.s c.active.ensures c.in-Nothing.is
+    active-none a.part.now a.s c.active.ensures c.in-None.is
