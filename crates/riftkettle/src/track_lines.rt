@@ -15,7 +15,7 @@ pub extern "C" fn riftkettle_track_tangents(points: &[f32], list: &mut [f32]) ->
     ensures list_after { list.new ≡ tangents_list points.now list.old }
 {
     match tracks_calls::tangents(points, list) {
-        Ok(n) => 0,
+        Ok(_) => 0,
         Err(r) => u32::from(r),
     }
 }
