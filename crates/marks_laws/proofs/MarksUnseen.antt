@@ -1,7 +1,7 @@
 -- Two admitted roads that differ in marks alone are answered alike: an admitted road leaves a call to its own rows and its value, and both are functions of the road that are the same without its marks.
 use Prim.Native.Nat.{ℕ, ◌*◌, ◌/◌}
 use mathlib.Core.Path.{◌≡◌, refl, ap, ap₂, sym, ◌∙◌}
-use mathlib.Core.Bool.{true, false, cond}
+use mathlib.Core.Bool.{cond}
 use mathlib.Core.List.{List, [], ◌∷◌, ◌++◌}
 use lib.Dec.{leb, ltb}
 use lib.IntN.{ℤ}
@@ -25,7 +25,7 @@ use Rattle.lanes_naming.specs.Naming.{lane_named}
 use Rattle.lanes_calls.specs.LaneCalls.{borders_call, borders_written, borders_list, lane_named_call}
 use Rattle.surface_station.specs.Station.{station_of}
 use Rattle.surface_station.specs.Axes.{axes_at}
-use Rattle.surface_points.specs.Surfaces.{narrowed_point, surface_at, lane_surface_at}
+use Rattle.surface_points.specs.Surfaces.{narrowed_point, surface_at}
 use Rattle.surface_locate.specs.Locating.{locate_of}
 use Rattle.surface_calls.specs.SurfaceCalls.{place_of_id, lane_there, lane_here, station_call, axes_call, surface_call, lane_surface_call}
 use Rattle.surface_calls.specs.LocateCall.{guess_row, target, target_row, locate_call}

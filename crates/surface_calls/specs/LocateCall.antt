@@ -1,7 +1,7 @@
 -- Document 01: the locate call, rows 3 4 5 6 7 9. "locate's guess not finite" is 7, "locate's x or y outside ±2,000,000" is 9; a finite guess off the road is taken and clamped, t has no row, and an answer that is astray is a value.
 use Rattle.std.specs.Prelude.{ℕ, Bool, ◌&&◌, List, [], ◌∷◌, ◌++◌, length, Float}
 use Rattle.float_laws.specs.Binary64.{f64}
-use Rattle.refusals.specs.Answer.{Answer, value, refused, Row, row, checked}
+use Rattle.refusals.specs.Answer.{Answer, value, Row, row, checked}
 use Rattle.refusals.specs.declared.refusals.Refusal.TheVariants.{Station, Target}
 use Rattle.records.specs.Roads.{road_of}
 use Rattle.arithmetic_ranges.specs.Ranges.{sized, finite64}

@@ -18,7 +18,6 @@ use Rattle.admission.specs.Admission.{admitted}
 use Rattle.line_calls.specs.SampleCall.{samples_call, samples_list}
 use Rattle.line_samples.specs.Samples.{samples_needed}
 use Rattle.line_calls.proofs.SampleCalls.{made-admitted, samples-made}
-use Rattle.lanes_borders.specs.declared.across.LaneBorders.{LaneBorders}
 use Rattle.lanes_borders.specs.Borders.{side_lanes, borders_of as lane_borders, border_list}
 use Rattle.lanes_borders.proofs.BorderSteps.{three, left-written, right-written, list_length}
 use Rattle.lanes_border_list.specs.BorderList.{listed_by}
@@ -137,6 +136,6 @@ module _ (words : List ℕ) (numbers : List Float) (fitting : AllF64 numbers) (x
       }
 
 pub demand-3 : Demand3
-demand-3 words numbers samples fitting ok made =
+demand-3 words numbers _ fitting ok made =
     subst (λ (l : List Float). Kept words numbers l) (sym made.written)
     (kept words numbers fitting made.lent (samples_needed (road_of words numbers)) (samples-made words numbers ok (length made.lent) made.room))

@@ -13,7 +13,7 @@ use borrow.Author.Tests.{le-leb}
 use Rattle.std.specs.Prelude.{Option, Some}
 use Rattle.refusals.specs.Answer.{Answer, value, Row, checked}
 use Rattle.records.specs.declared.points.LanePlace.{LanePlace}
-use Rattle.records.specs.Roads.{Road, road_of, section_index}
+use Rattle.records.specs.Roads.{road_of, section_index}
 use Rattle.line_samples.specs.Samples.{samples_needed, samples_of}
 use Rattle.line_samples.proofs.SpiralLaws.{length-samples_of}
 use Rattle.admission.specs.Limits.{on_road}
@@ -35,7 +35,7 @@ use Rattle.admission_laws.specs.Fractions.{Between}
 use Rattle.surface_laws.specs.Sizes.{SizedPoint}
 use Rattle.surface_laws.proofs.AxesKept.{forward-squares, up-squares}
 use Rattle.surface_laws.proofs.SurfaceKept.{surface-narrowed-kept, lane_surface-narrowed-kept}
-use Rattle.surface_calls.specs.SurfaceCalls.{place_of_id, lane_there, across_rows, lane_held, lane_row, lane_rows, place_rows, station_rows, axes_call, surface_here, surface_call, lane_here, lane_surface_call}
+use Rattle.surface_calls.specs.SurfaceCalls.{across_rows, lane_held, lane_row, lane_rows, place_rows, station_rows, axes_call, surface_here, surface_call, lane_here, lane_surface_call}
 
 -- ---- rows
 

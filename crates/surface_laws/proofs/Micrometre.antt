@@ -1,6 +1,5 @@
 -- Document 01, demand 3 on locate: a miss under 0.0000009, as computed, leaves an exact distance under 0.000001. The room between the two is a tenth, the errors are some parts in 2^53.
 use mathlib.Core.Path.{◌≡◌, refl}
-use Prim.Native.Nat.{◌<◌}
 use lib.Dec.{T, lit<}
 use lib.Ieee.{Float, binary64, fits, lt, of_bits}
 use Rattle.float_laws.specs.Binary64.{◌⊖◌}

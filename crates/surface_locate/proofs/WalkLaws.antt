@@ -2,7 +2,7 @@
 use Prim.Native.Nat.{ℕ, suc, ◌+◌, ◌-◌, ◌<◌, ◌≤◌}
 use native.Mathlib.Numerals.{add-one}
 use native.Mathlib.Omega.{arith}
-use mathlib.Core.Path.{◌≡◌, sym, ap, ◌∙◌}
+use mathlib.Core.Path.{◌≡◌, ap, ◌∙◌}
 use mathlib.Core.List.{List}
 use mathlib.Core.Bool.{true}
 use lib.Ieee.{Float, lt}
@@ -11,8 +11,6 @@ use Rattle.surface_points.specs.Plan.{footing_of, plan_on}
 use Rattle.surface_points.proofs.PlanLaws.{plan-is-surface}
 use Rattle.surface_locate.specs.declared.points.Vector.{Vector}
 use Rattle.surface_locate.specs.declared.points.Place.{Place}
-use Rattle.surface_locate.specs.declared.points.Walk.{Walk}
-use Rattle.surface_locate.specs.declared.points.Move.{Move}
 use Rattle.surface_locate.specs.declared.points.Move.TheVariants.{Stay, Last, On}
 use Rattle.surface_locate.specs.Locating.{tolerance, place, miss_on, miss_at, size_of, move_at, ended, walk_by, walk_from}
 

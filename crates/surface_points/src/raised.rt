@@ -1,6 +1,6 @@
 // A point at s and t, stood off along the road's normal. The bank rolls the cross section about the reference line, so a point at t rides up by t times the sine of the bank and reaches t times its cosine across.
 ghost use Rattle.std.specs.Prelude.{◌≡◌};
-ghost use Rattle.arithmetic_sine.specs.Sine.{sine_of, cosine_of};
+ghost use Rattle.arithmetic_sine.specs.Sine.{sin_cos_of};
 ghost use Rattle.records.specs.Active.{value_in};
 ghost use Rattle.surface_points.specs.Raised.{plain_by, lifted, raised_at};
 
@@ -45,7 +45,7 @@ pub(crate) fn raised_xyz(
     t: f64,
     height: f64,
 ) -> SurfacePoint
-    requires { (bank.sin ≡ sine_of (value_in road.now.superelevations s)) × (bank.cos ≡ cosine_of (value_in road.now.superelevations s)) }
+    requires { bank ≡ sin_cos_of (value_in road.now.superelevations s) }
     ensures { result ≡ raised_at road.now samples.now s t height }
 {
     let at = bearing_at(road, samples, s);

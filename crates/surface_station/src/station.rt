@@ -1,6 +1,6 @@
 // The reference line at a station.
 ghost use Rattle.std.specs.Prelude.{◌≡◌};
-ghost use Rattle.arithmetic_sine.specs.Sine.{sine_of, cosine_of};
+ghost use Rattle.arithmetic_sine.specs.Sine.{sin_cos_of};
 ghost use Rattle.records.specs.Active.{value_in};
 ghost use Rattle.line_pose.specs.Bearings.{bearing_of};
 ghost use Rattle.surface_station.specs.Station.{pose_at, station_of};
@@ -29,7 +29,7 @@ pub fn bearing_at(road: &LentRoad, samples: &[f64], s: f64) -> Bearing
 
 // The sine and the cosine of the bank at s, which needn't be worked out for a road without banks.
 pub fn bank_at(road: &LentRoad, s: f64) -> SinCos
-    ensures { (result.sin ≡ sine_of (value_in road.now.superelevations s)) × (result.cos ≡ cosine_of (value_in road.now.superelevations s)) }
+    ensures { result ≡ sin_cos_of (value_in road.now.superelevations s) }
 {
     let banks = road.superelevations();
     if banks.len() == 0 {
