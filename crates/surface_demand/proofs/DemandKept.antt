@@ -122,7 +122,7 @@ module _ (words : List ℕ) (numbers : List Float) (fitting : AllF64 numbers) (x
           ap (λ (list : List Float). outer_at list (first_on words numbers s right + k)) w ∙ outer-read road at s lent right k l in
           let b1 = subst (λ (a : Float). Between a (outer_at (borders_list words numbers s lent) (first_on words numbers s right + k)) t) inner between in
           let b2 = subst (λ (b : Float). Between (lane_borders road at s right k).inner b t) outer b1 in
-          answers PointKept p e (point-of p (lane_surface-kept words numbers fitting xs n made (id_on right k) s t right k held l fs ft p e b2))
+          answers PointKept p e (point-of p (lane_surface-kept words numbers fitting xs n made (id_on right k) s t right k held fs ft p e b2))
 
   kept : Kept words numbers (samples_list words numbers xs)
   kept =

@@ -1,19 +1,19 @@
 -- Demand 3 as it is put, on calls: for every lent road whose samples the samples call makes, and whatever axes, surface and lane surface then answer with those samples, the axes' squares and the points' sizes are within their bounds; and on such a road they do answer.
 -- The numbers lent, s and t are f64 (`Fitting`, `Fits64`), which every f64 of the machine is. A call that answers has passed its rows, so the road is admitted, s lies in 0..length and t in -80..80; the rest are the laws on the definitions.
-use mathlib.Core.Path.{◌≡◌, sym, ◌∙◌, ap, subst}
-use mathlib.Core.Bool.{Bool, true}
+use mathlib.Core.Path.{◌≡◌, refl, sym, ◌∙◌, ap, subst}
+use mathlib.Core.Bool.{Bool, true, false, cond}
 use mathlib.Core.List.{List, [], ◌∷◌, ◌++◌}
 use Prim.Native.Nat.{ℕ, ◌+◌, ◌-◌, ◌*◌, ◌/◌, ◌≤◌, ◌<◌}
 use native.Mathlib.Omega.{arith}
-use lib.Dec.{leb}
+use lib.Dec.{leb, ltb}
 use lib.IntN.{ℤ}
 use lib.ListN.{length, drop, length-append, length-drop}
 use lib.Ieee.{Float}
-use borrow.Author.Tests.{le-leb}
-use Rattle.std.specs.Prelude.{Option, Some}
+use borrow.Author.Tests.{le-leb, ltb-true}
+use Rattle.std.specs.Prelude.{Option, Some, None}
 use Rattle.refusals.specs.Answer.{Answer, value, Row, checked}
 use Rattle.records.specs.declared.points.LanePlace.{LanePlace}
-use Rattle.records.specs.Roads.{road_of, section_index}
+use Rattle.records.specs.Roads.{Road, road_of, section_index}
 use Rattle.line_samples.specs.Samples.{samples_needed, samples_of}
 use Rattle.line_samples.proofs.SpiralLaws.{length-samples_of}
 use Rattle.admission.specs.Limits.{on_road}
@@ -35,7 +35,7 @@ use Rattle.admission_laws.specs.Fractions.{Between}
 use Rattle.surface_laws.specs.Sizes.{SizedPoint}
 use Rattle.surface_laws.proofs.AxesKept.{forward-squares, up-squares}
 use Rattle.surface_laws.proofs.SurfaceKept.{surface-narrowed-kept, lane_surface-narrowed-kept}
-use Rattle.surface_calls.specs.SurfaceCalls.{across_rows, lane_held, lane_row, lane_rows, place_rows, station_rows, axes_call, surface_here, surface_call, lane_here, lane_surface_call}
+use Rattle.surface_calls.specs.SurfaceCalls.{across_rows, place_of_id, lane_there, lane_held, lane_row, lane_rows, place_rows, station_rows, axes_call, surface_here, surface_call, lane_here, lane_surface_call}
 
 -- ---- rows
 
@@ -51,6 +51,16 @@ pass-after [] ss e = e
 pass-after (r ∷ rs) ss e = pass-after rs ss (and-snd r.passes (pass (rs ++ ss)) e)
 
 -- ---- the calls, with the samples that the samples call writes into xs
+
+-- a lane that is found is one of its side's
+lane_is-there : (road : Road) (o : Option LanePlace) (p : LanePlace) → lane_there road o ≡ Some p → p.k < length (side_lanes road p.section p.right)
+unfolding lane_there
+lane_is-there road None p e = cc
+lane_is-there road (Some q) p e = go (ltb q.k (length (side_lanes road q.section q.right))) refl e
+  where
+    go : (b : Bool) → ltb q.k (length (side_lanes road q.section q.right)) ≡ b → cond b (Some q) None ≡ Some p → p.k < length (side_lanes road p.section p.right)
+    go true t h = let same : q ≡ p = cc in subst (λ (x : LanePlace). x.k < length (side_lanes road x.section x.right)) same (ltb-true _ _ t)
+    go false t h = cc
 
 module _ (words : List ℕ) (numbers : List Float) (fitting : Fitting numbers) (xs : List Float) (n : ℕ) (made : samples_call words numbers (length xs) ≡ value n) where
   ok : admitted words numbers ≡ true
@@ -102,12 +112,12 @@ module _ (words : List ℕ) (numbers : List Float) (fitting : Fitting numbers) (
     abbrev pub lane_point : List Float → SurfacePoint32
     lane_point samples = narrowed_point (lane_surface_at (road_of words numbers) samples (section_index (road_of words numbers) s) right k s t)
 
-    pub lane_surface-kept : lane_held words numbers id s ≡ Some lane → k < length (side_lanes (road_of words numbers) (section_index (road_of words numbers) s) right)
-        → Fits64 s → Fits64 t → (p : SurfacePoint32) → lane_surface_call words numbers (samples_list words numbers xs) id s t ≡ value p
+    pub lane_surface-kept : lane_held words numbers id s ≡ Some lane → Fits64 s → Fits64 t → (p : SurfacePoint32) → lane_surface_call words numbers (samples_list words numbers xs) id s t ≡ value p
         → Between (borders_of (road_of words numbers) (section_index (road_of words numbers) s) s right k).inner (borders_of (road_of words numbers) (section_index (road_of words numbers) s) s right k).outer t
         → SizedPoint p.point.x p.point.y p.point.z
     unfolding lane_surface_call
-    lane_surface-kept held there fits-s fits-t p e between =
+    lane_surface-kept held fits-s fits-t p e between =
+        let there = lane_is-there (road_of words numbers) (place_of_id (section_index (road_of words numbers) s) id) lane held in
         let rows = station_rows words numbers written s ++ lane_rows words numbers id s t in
         let w = answered rows (lane_point written) p (ap (λ (l : Option LanePlace). checked rows (lane_here (road_of words numbers) written l s t)) (sym held) ∙ e) in
         let on = on_of (lane_rows words numbers id s t) s w.0 in
