@@ -4,15 +4,12 @@ ghost use Rattle.admission.specs.Admission.{admit_call};
 ghost use Rattle.line_calls.specs.SampleCall.{samples_call};
 ghost use Rattle.test_admission.specs.Case.{admission_word, samples_word, call_word};
 
-use admission::Verdict;
-use line_calls::Sampled;
-
 fn admission_answer(words: &[u16], numbers: &[f64]) -> u64
     ensures { result ≡ admission_word (admit_call words.now numbers.now) }
 {
     match admission_calls::admit(words, numbers) {
-        Verdict::Admitted => 0,
-        Verdict::Refused(why) => u64::from(u32::from(why)),
+        Ok(_) => 0,
+        Err(why) => u64::from(u32::from(why)),
     }
 }
 
@@ -20,8 +17,8 @@ fn samples_answer(words: &[u16], numbers: &[f64], samples: &mut [f64]) -> u64
     ensures { result ≡ samples_word (samples_call words.now numbers.now (length samples.old)) }
 {
     match line_calls::samples(words, numbers, samples) {
-        Sampled::Made(n) => (n as u64).wrapping_add(0x8000_0000_0000_0000),
-        Sampled::Refused(why) => u64::from(u32::from(why)),
+        Ok(n) => (n as u64).wrapping_add(0x8000_0000_0000_0000),
+        Err(why) => u64::from(u32::from(why)),
     }
 }
 

@@ -1,10 +1,10 @@
 // A case: a text is read into as much memory as is lent, and what the memory then holds is summed.
 ghost use Rattle.std.specs.Prelude.{◌≡◌};
-ghost use Rattle.reader_calls.specs.Reading.{read_answer};
+ghost use Rattle.refusals.specs.Answer.{answered};
 ghost use Rattle.test_jobs.specs.Case.{seen_of, case_in, case_of};
 
-use reader_calls::Read;
 use reader_hex::of_bits;
+use refusals::Refusal;
 use test_support::checksum;
 
 // How many words, numbers and wants are lent.
@@ -15,6 +15,7 @@ pub(crate) struct Lent {
     pub(crate) wants: usize,
 }
 
+// The two columns of an answer as they are written: a Result would leave them to the printing, of which no contract speaks.
 #[derive(Clone, Copy)]
 pub(crate) struct Seen {
     // 0, or the number of the refusal
@@ -28,12 +29,12 @@ pub(crate) struct Case {
     pub(crate) sum: u64,
 }
 
-fn seen_of(read: Read) -> Seen
-    ensures { result ≡ seen_of (read_answer read) }
+fn seen_of(read: Result<usize, Refusal>) -> Seen
+    ensures { result ≡ seen_of (answered read) }
 {
     match read {
-        Read::Accepted(wants) => Seen { answer: 0, wants },
-        Read::Refused(why) => Seen {
+        Ok(wants) => Seen { answer: 0, wants },
+        Err(why) => Seen {
             answer: u32::from(why),
             wants: 0,
         },

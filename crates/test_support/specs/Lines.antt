@@ -1,17 +1,7 @@
 -- A line of a list of cases: a letter, a space, 16 digits, a space, 16 digits, LF. Read `line_of` first.
 use Rattle.std.specs.Prelude.{ℕ, cond, List, length, ◌==◌, nat_le, Option, Some, None}
 use Rattle.reader_hex.specs.Hex.{byte_at, hex_word_at}
-use Rattle.reader_hex.specs.declared.digits.Word.{Word}
-use Rattle.reader_hex.specs.declared.digits.Word.TheVariants.{Number, Broken}
 use Rattle.test_support.specs.declared.lines.Line.{Line}
-
-abbrev pub number_of_word : Word → Option ℕ
-number_of_word (Number n) = Some n
-number_of_word Broken = None
-
--- the sixteen digits at a place, where a byte ends them
-abbrev pub number_in : List ℕ → ℕ → ℕ → Option ℕ
-number_in list at stop = number_of_word (hex_word_at list at stop)
 
 -- a letter and two numbers
 abbrev pub line_with : ℕ → Option ℕ → Option ℕ → Option Line
@@ -23,5 +13,5 @@ line_with letter None b = None
 unfoldable pub line_of : List ℕ → Option Line
 line_of list =
     cond (nat_le 36 (length list))
-    (cond (byte_at list 1 == 32) (line_with (byte_at list 0) (number_in list 2 32) (number_in list 19 10)) None)
+    (cond (byte_at list 1 == 32) (line_with (byte_at list 0) (hex_word_at list 2 32) (hex_word_at list 19 10)) None)
     None

@@ -1,8 +1,8 @@
 // A line of a list is 36 bytes: a letter, a space, 16 digits, a space, 16 digits, LF.
 ghost use Rattle.std.specs.Prelude.{◌≡◌};
-ghost use Rattle.test_support.specs.Lines.{number_in, line_of};
+ghost use Rattle.test_support.specs.Lines.{line_of};
 
-use reader_hex::{Word, word_at};
+use reader_hex::word_at;
 
 pub const LINE_LENGTH: usize = 36;
 
@@ -13,16 +13,6 @@ pub struct Line {
     pub b: u64,
 }
 
-// The sixteen digits at a place, if the byte `stop` ends them.
-fn number_at(bytes: &[u8], at: usize, stop: u8) -> Option<u64>
-    ensures { result ≡ number_in bytes.now at stop }
-{
-    match word_at(bytes, at, stop) {
-        Word::Number(n) => Some(n),
-        Word::Broken => None,
-    }
-}
-
 // The line that a list begins with, if it has the form.
 #[tactic(auto, unfolding(crate::specs::Lines::line_of))]
 pub fn line_of(list: &[u8]) -> Option<Line>
@@ -31,8 +21,8 @@ pub fn line_of(list: &[u8]) -> Option<Line>
     if list.len() < LINE_LENGTH || list[1] != b' ' {
         return None;
     }
-    let a = number_at(list, 2, b' ')?;
-    let b = number_at(list, 19, b'\n')?;
+    let a = word_at(list, 2, b' ')?;
+    let b = word_at(list, 19, b'\n')?;
     Some(Line {
         letter: list[0],
         a,

@@ -2,8 +2,10 @@
 ghost use Rattle.std.specs.Prelude.{◌≡◌, to_bits};
 ghost use Rattle.std.specs.Float.{binary32};
 ghost use Rattle.test_vectors.specs.Raise.{raised_of};
-ghost use Rattle.arithmetic_counts.specs.Count.{counts_answer};
+ghost use Rattle.refusals.specs.Answer.{answered};
 ghost use Rattle.test_vectors.specs.Vector.{counts_word};
+
+use refusals::Refusal;
 
 // The pattern of an f32, 7fc00000 for a NaN.
 pub(crate) fn bits_of_single(x: f32) -> u64
@@ -23,11 +25,11 @@ fn raised(n: i64) -> u64
 }
 
 // A whole number n as n + 2^63, a refusal as its number.
-pub(crate) fn bits_of_counts(c: arithmetic_counts::Counted) -> u64
-    ensures { result ≡ counts_word (counts_answer c) }
+pub(crate) fn bits_of_counts(c: Result<i64, Refusal>) -> u64
+    ensures { result ≡ counts_word (answered c) }
 {
     match c {
-        arithmetic_counts::Counted::Count(n) => raised(n),
-        arithmetic_counts::Counted::Refused(why) => u64::from(u32::from(why)),
+        Ok(n) => raised(n),
+        Err(why) => u64::from(u32::from(why)),
     }
 }
