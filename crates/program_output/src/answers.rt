@@ -10,8 +10,6 @@ ghost use Rattle.program_output.specs.Lines.{refused_line};
 ghost use Rattle.program_output.specs.Output.{want_lines, wants_text, output_of, bytes_written, answered_in};
 
 use crate::text::{OUTPUT_NEEDED, Text};
-use line_calls::Sampled;
-use reader_calls::Read;
 use records::layout::{NUMBERS_NEEDED, WANT_STRIDE, WANTS_NEEDED, WORDS_NEEDED};
 use refusals::Refusal;
 
@@ -64,12 +62,12 @@ fn wants_text(words: &[u16], numbers: &[f64], wants: &[u64], n: usize) -> Text
     let mut samples = [0.0; 8000];
     let mut text = Text::new();
     match line_calls::samples(words, numbers, &mut samples) {
-        Sampled::Made(count) => {
+        Ok(count) => {
             text.push_bytes(b"s t x y z\n");
             push_wants(&mut text, words, numbers, &samples[..count * 4], wants, n);
         }
         // an admitted road has no more samples than there is room for
-        Sampled::Refused(_) => (),
+        Err(_) => (),
     }
     text
 }
@@ -81,8 +79,8 @@ fn output_of(job: &[u8]) -> Text
     let mut numbers = [0.0; NUMBERS_NEEDED];
     let mut wants = [0; WANTS_NEEDED];
     match reader_calls::read(job, &mut words, &mut numbers, &mut wants) {
-        Read::Accepted(n) => wants_text(&words, &numbers, &wants, n),
-        Read::Refused(r) => refused(r),
+        Ok(n) => wants_text(&words, &numbers, &wants, n),
+        Err(r) => refused(r),
     }
 }
 

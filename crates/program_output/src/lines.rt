@@ -3,13 +3,14 @@ ghost use Rattle.std.specs.Prelude.{◌+◌, ◌≤◌, ◌≡◌, ◌++◌, T, 
 ghost use Rattle.std.specs.Float.{binary32};
 ghost use Rattle.std.specs.Float.Ieee.{to_bits};
 ghost use Rattle.std.specs.Float.Ieee.Scale.{finite};
-ghost use Rattle.surface_calls.specs.SurfaceCalls.{surface_answer};
+ghost use Rattle.refusals.specs.Answer.{answered};
 ghost use Rattle.program_output.specs.declared.text.TheConstants.{OUTPUT_NEEDED};
 ghost use Rattle.program_output.specs.Lines.{FinitePoint, FiniteAnswer, point_line, output_line};
 
 use crate::text::Text;
 use records::Point;
-use surface_calls::Surfaced;
+use refusals::Refusal;
+use surface_points::SurfacePoint32;
 
 // The pattern of an f32. A NaN has no one pattern, so there may be none.
 fn bits_of(x: f32) -> u64
@@ -32,16 +33,16 @@ impl Text {
     }
 
     // A want: s and t as they were read, then its point, or `-` and the number of its refusal.
-    pub(crate) fn push_want(&mut self, s: u64, t: u64, answer: Surfaced)
+    pub(crate) fn push_want(&mut self, s: u64, t: u64, answer: Result<SurfacePoint32, Refusal>)
         requires room { length self.old + 61 ≤ OUTPUT_NEEDED }
-        requires finite_answer { FiniteAnswer (surface_answer answer) }
-        ensures { self.new ≡ self.old ++ output_line s t (surface_answer answer) }
+        requires finite_answer { FiniteAnswer (answered answer) }
+        ensures { self.new ≡ self.old ++ output_line s t (answered answer) }
     {
         self.push_word(s, 16, b' ');
         self.push_word(t, 16, b' ');
         match answer {
-            Surfaced::Point(p) => self.push_point(p.point),
-            Surfaced::Refused(r) => {
+            Ok(p) => self.push_point(p.point),
+            Err(r) => {
                 self.push_bytes(b"- ");
                 self.push_number(r);
             }

@@ -1,16 +1,17 @@
 -- A whole reading: a law for each way out of `judged`, `fill` and `read`.
 use Prim.Native.Nat.{ℕ, ◌<◌, ◌≤◌}
-use mathlib.Core.Path.{◌≡◌, refl, ap, ◌∙◌, sym}
+use mathlib.Core.Path.{◌≡◌, ap, ◌∙◌, sym}
 use mathlib.Core.Bool.{Bool, true, false, ◌&&◌, cond}
-use mathlib.Core.List.{List, [], ◌∷◌}
+use mathlib.Core.List.{List}
 use borrow.Author.Tests.{lt-ltb, le-ltb}
 use lib.Dec.{leb}
 use lib.ListN.{length}
 use lib.Ieee.{Float}
-use Rattle.refusals.specs.Answer.{Answer, value, refused, answered, Row, checked}
-use Rattle.refusals.specs.Refusal.{number_of}
+use Rattle.refusals.specs.Answer.{Answer, value, refused, answered, checked}
 use Rattle.refusals.specs.declared.refusals.Refusal.{Refusal}
+use Rattle.records.specs.Roads.{Road, road_of}
 use Rattle.admission.specs.Admission.{road_rows, admit_call}
+use Rattle.admission_calls.proofs.AdmitLaws.{admit-refused, admit-admitted}
 use Rattle.reader_store.specs.Progress.{start_progress}
 use Rattle.reader_store.specs.declared.progress.Progress.{Progress}
 use Rattle.reader_calls.specs.Parts.{Agrees, judged_by, Filled}
@@ -25,46 +26,20 @@ refusal-number e = cc
 same-refusal : {A B : Type 0} {n m : ℕ} → ◌≡◌ {A = Answer A} (refused n) (refused m) → ◌≡◌ {A = Answer B} (refused n) (refused m)
 same-refusal e = let z = refusal-number e in cc
 
--- the rows of a road refuse whatever the answer after them, or pass
-rows-refused : {A B : Type 0} (rs : List Row) (a : A) (b : B) {m : ℕ} → ◌≡◌ {A = Answer A} (refused m) (checked rs (value a)) → ◌≡◌ {A = Answer B} (refused m) (checked rs (value b))
-rows-refused [] a b e = absurd (no-refusal (sym e))
-rows-refused {A} {B} (r ∷ rs) a b {m} e = go r.passes (rows-refused rs a b) e
-  where
-    go : (p : Bool) → (◌≡◌ {A = Answer A} (refused m) (checked rs (value a)) → ◌≡◌ {A = Answer B} (refused m) (checked rs (value b)))
-        → ◌≡◌ {A = Answer A} (refused m) (cond p (checked rs (value a)) (refused (number_of r.refusal))) → ◌≡◌ {A = Answer B} (refused m) (cond p (checked rs (value b)) (refused (number_of r.refusal)))
-    go true ih f = ih f
-    go false ih f = same-refusal f
-
-rows-passed : {A B : Type 0} (rs : List Row) (a x : A) (b : B) → ◌≡◌ {A = Answer A} (value x) (checked rs (value a)) → ◌≡◌ {A = Answer B} (value b) (checked rs (value b))
-rows-passed [] a x b e = refl
-rows-passed {A} {B} (r ∷ rs) a x b e = go r.passes (rows-passed rs a x b) e
-  where
-    go : (p : Bool) → (◌≡◌ {A = Answer A} (value x) (checked rs (value a)) → ◌≡◌ {A = Answer B} (value b) (checked rs (value b)))
-        → ◌≡◌ {A = Answer A} (value x) (cond p (checked rs (value a)) (refused (number_of r.refusal))) → ◌≡◌ {A = Answer B} (value b) (cond p (checked rs (value b)) (refused (number_of r.refusal)))
-    go true ih f = ih f
-    go false ih f = absurd (no-refusal f)
-
 module _ (taken : Taken) (ws : List ℕ) (ns : List Float) where
-  pub call-refused : {A : Type 0} (a : A) {m : ℕ} → ◌≡◌ {A = Answer A} (refused m) (checked (road_rows ws ns) (value a)) → refused m ≡ admit_call ws ns
-  unfolding admit_call
-  call-refused a e = rows-refused (road_rows ws ns) a tt e
-
-  pub call_passed : {A : Type 0} (a : A) {x : A} → ◌≡◌ {A = Answer A} (value x) (checked (road_rows ws ns) (value a)) → value tt ≡ admit_call ws ns
-  unfolding admit_call
-  call_passed a {x} e = rows-passed (road_rows ws ns) a x tt e
-
   -- each way out of `judged`
   pub judged-structure : taken.progress.sound ≡ false → refused 3 ≡ judged_by taken ws ns
   unfolding judged_by
   judged-structure h = rw h
 
-  pub judged-refused : {m : ℕ} → taken.progress.sound ≡ true → refused m ≡ admit_call ws ns → refused m ≡ judged_by taken ws ns
-  unfolding judged_by
-  judged-refused h k = rw (h, ← k)
+  module _ (h : taken.progress.sound ≡ true) where
+    pub judged-refused : {m : ℕ} → ◌≡◌ {A = Answer Road} (refused m) (checked (road_rows ws ns) (value (road_of ws ns))) → refused m ≡ judged_by taken ws ns
+    unfolding judged_by
+    judged-refused e = rw (h, ← admit-refused ws ns (road_of ws ns) e)
 
-  pub judged-value : taken.progress.sound ≡ true → value tt ≡ admit_call ws ns → value taken.lines ≡ judged_by taken ws ns
-  unfolding judged_by
-  judged-value h k = rw (h, ← k)
+    pub judged-value : {road : Road} → value road ≡ checked (road_rows ws ns) (value (road_of ws ns)) → value taken.lines ≡ judged_by taken ws ns
+    unfolding judged_by
+    judged-value e = rw (h, ← admit-admitted ws ns (road_of ws ns) e)
 
 -- by the two tests of what was taken: its references and order, and admission
 settled :

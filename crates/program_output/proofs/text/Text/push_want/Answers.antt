@@ -1,6 +1,6 @@
 -- s and t, sixteen digits and a byte each, then the point or the refusal.
 use Rattle.std.proofs.Common.{arith, append_assoc, length-append, ap, subst}
-use Rattle.surface_calls.specs.SurfaceCalls.{surface_answer}
+use Rattle.refusals.specs.Answer.{answered}
 use Rattle.program_output.specs.Lines.{FiniteAnswer, output_line}
 use Rattle.program_output.proofs.LineLaws.{length-hex}
 use Rattle.program_output.proofs.text.Text.push_want.Goals as goal
@@ -12,7 +12,7 @@ pub push_point-requires-clause-room : goal.push_point-requires-clause-room
 push_point-requires-clause-room c = rw (c.push_word-2.ensures, c.push_word.ensures) (simp length-append (omega (arith, length-hex)))
 
 pub push_point-requires-clause-finite_point : goal.push_point-requires-clause-finite_point
-push_point-requires-clause-finite_point c = subst FiniteAnswer (ap surface_answer c.in-Point.is) c.requires.finite_answer
+push_point-requires-clause-finite_point c = subst FiniteAnswer (ap answered c.in-Ok.is) c.requires.finite_answer
 
 pub push_bytes-requires : goal.push_bytes-requires
 push_bytes-requires c = rw (c.push_word-2.ensures, c.push_word.ensures) (simp length-append (omega (arith, length-hex)))
@@ -20,10 +20,10 @@ push_bytes-requires c = rw (c.push_word-2.ensures, c.push_word.ensures) (simp le
 pub push_number-requires : goal.push_number-requires
 push_number-requires c = rw (c.push_bytes.ensures, c.push_word-2.ensures, c.push_word.ensures) (simp length-append (omega (arith, length-hex)))
 
-pub returns-in-Point : goal.returns-in-Point
+pub returns-in-Ok : goal.returns-in-Ok
 unfolding output_line
-returns-in-Point c = rw (c.push_point.ensures, c.push_word-2.ensures, c.push_word.ensures, c.in-Point.is) (simp append_assoc)
+returns-in-Ok c = rw (c.push_point.ensures, c.push_word-2.ensures, c.push_word.ensures, c.in-Ok.is) (simp append_assoc)
 
-pub returns-in-Refused : goal.returns-in-Refused
+pub returns-in-Err : goal.returns-in-Err
 unfolding output_line
-returns-in-Refused c = rw (c.push_number.ensures, c.push_bytes.ensures, c.push_word-2.ensures, c.push_word.ensures, c.in-Refused.is) (simp append_assoc)
+returns-in-Err c = rw (c.push_number.ensures, c.push_bytes.ensures, c.push_word-2.ensures, c.push_word.ensures, c.in-Err.is) (simp append_assoc)
