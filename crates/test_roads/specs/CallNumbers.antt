@@ -23,9 +23,14 @@ abbrev pub refusal_numbers : ℕ → List Float
 refusal_numbers n = whole_number n ∷ zero64 ∷ zero64 ∷ zero64 ∷ zero64 ∷ zero64 ∷ four_zeros
 
 -- 0 and the nine numbers of a value
+abbrev pub row_of : Answer (List Float) → List Float
+row_of (value numbers) = zero64 ∷ numbers
+row_of (refused n) = refusal_numbers n
+
+-- the row of a call by the numbers of its value
 abbrev pub ten_numbers : {A : Type 0} → (A → List Float) → Answer A → List Float
-ten_numbers numbers (value a) = zero64 ∷ numbers a
-ten_numbers numbers (refused n) = refusal_numbers n
+ten_numbers numbers (value a) = row_of (value (numbers a))
+ten_numbers numbers (refused n) = row_of (refused n)
 
 -- ---- the nine numbers
 

@@ -1,5 +1,5 @@
 -- What a line of the list asks, as numbers: each is an answer of the crates by its own definition. Read `answer_part` and `filled_of` first.
-use Rattle.std.specs.Prelude.{ℕ, ◌+◌, ◌/◌, ◌%◌, ◌^◌, cond, List, ◌==◌, from_bits, slice_index_or, to_bits, Float}
+use Rattle.std.specs.Prelude.{ℕ, ◌+◌, ◌/◌, ◌%◌, ◌^◌, cond, List, ◌==◌, from_bits, slice_index_or, to_bits, ℤ, Float, Option, Some, None}
 use Rattle.std.specs.Float.Ieee.{binary64, of_int, eq, neg}
 use Rattle.std.specs.Float.{nan}
 use Rattle.float_laws.specs.Binary64.{f64, zero64}
@@ -13,8 +13,6 @@ use Rattle.line_calls.specs.SampleCall.{samples_call, samples_list}
 use Rattle.lanes.specs.Lateral.{height_toward}
 use Rattle.lanes_heights.specs.Heights.{across_at}
 use Rattle.lanes_heights.specs.declared.across.Across.{Across}
-use Rattle.lanes_naming.specs.declared.lane_names.LaneName.{LaneName}
-use Rattle.lanes_naming.specs.declared.lane_names.LaneName.TheVariants as name
 use Rattle.lanes_calls.specs.LaneCalls.{borders_call, borders_list, lane_named_call}
 
 -- the word that is written for a number: zeros alike, NaNs alike
@@ -38,9 +36,9 @@ abbrev pub toward_of : ℕ → Float
 toward_of part = cond (part == 0) (f64 0x3ff0_0000_0000_0000) (neg (f64 0x3ff0_0000_0000_0000))
 
 -- a lane's id, 0 for none, NaN for a refusal
-abbrev pub name_number : Answer LaneName → Float
-name_number (value (name.Id n)) = of_int binary64 n
-name_number (value name.Nothing) = zero64
+abbrev pub name_number : Answer (Option ℤ) → Float
+name_number (value (Some n)) = of_int binary64 n
+name_number (value None) = zero64
 name_number (refused number) = nan
 
 module _ (letter a b part : ℕ) (words : List ℕ) (numbers : List Float) (lent : List Float) where

@@ -1,71 +1,63 @@
 // What the calls of the surface layer answer, as a row of numbers: 0 and the answer's own, or the number of the refusal. Zeros fill the row.
 ghost use Rattle.std.specs.Prelude.{◌≡◌};
-ghost use Rattle.refusals.specs.Refusal.{number_of};
-ghost use Rattle.surface_calls.specs.SurfaceCalls.{station_answer, axes_answer, surface_answer};
-ghost use Rattle.surface_calls.specs.LocateCall.{locate_answer};
-ghost use Rattle.test_roads.specs.CallNumbers.{refusal_numbers, ten_numbers, station_numbers, axes_numbers, point_numbers, mark_of, position_numbers, id_number, call_numbers};
+ghost use Rattle.refusals.specs.Answer.{answered};
+ghost use Rattle.test_roads.specs.CallNumbers.{row_of, station_numbers, axes_numbers, point_numbers, mark_of, position_numbers, id_number, call_numbers};
 
 use reader_hex::of_bits;
+use records::RefPoint;
 use refusals::Refusal;
 use std::num::f32_to_f64_with_nan;
-use surface_calls::{Located, Oriented, Stationed, Surfaced};
+use surface_locate::Position;
+use surface_points::SurfacePoint32;
+use surface_station::Axes;
 use test_support::Line;
 
-fn refusal(why: Refusal) -> [f64; 10]
-    ensures { result ≡ refusal_numbers (number_of why) }
+// 0 and the numbers of an answer, or the number of the refusal.
+fn row(answer: Result<[f64; 9], Refusal>) -> [f64; 10]
+    ensures { result ≡ row_of (answered answer) }
 {
-    let number = f64::from(u32::from(why));
-    [number, 0.0, 0.0, 0.0, 0.0, 0.0, 0.0, 0.0, 0.0, 0.0]
+    let mut row = [0.0; 10];
+    match answer {
+        Ok(numbers) => row[1..].copy_from_slice(&numbers),
+        Err(why) => row[0] = f64::from(u32::from(why)),
+    }
+    row
 }
 
-fn stationed(answer: Stationed) -> [f64; 10]
-    ensures { result ≡ ten_numbers station_numbers (station_answer answer) }
+fn station_numbers(p: RefPoint) -> [f64; 9]
+    ensures { result ≡ station_numbers p }
 {
-    match answer {
-        Stationed::Station(p) => [
-            0.0,
-            p.s,
-            p.x,
-            p.y,
-            p.heading,
-            p.z,
-            p.grade,
-            p.bank,
-            p.bank_rate,
-            0.0,
-        ],
-        Stationed::Refused(why) => refusal(why),
-    }
+    [
+        p.s,
+        p.x,
+        p.y,
+        p.heading,
+        p.z,
+        p.grade,
+        p.bank,
+        p.bank_rate,
+        0.0,
+    ]
 }
 
-fn oriented(answer: Oriented) -> [f64; 10]
-    ensures { result ≡ ten_numbers axes_numbers (axes_answer answer) }
+fn axes_numbers(a: Axes) -> [f64; 9]
+    ensures { result ≡ axes_numbers a }
 {
-    match answer {
-        Oriented::Axes(a) => {
-            let l = a.along;
-            let v = a.across;
-            let u = a.up;
-            [0.0, l.x, l.y, l.z, v.x, v.y, v.z, u.x, u.y, u.z]
-        }
-        Oriented::Refused(why) => refusal(why),
-    }
+    let l = a.along;
+    let v = a.across;
+    let u = a.up;
+    [l.x, l.y, l.z, v.x, v.y, v.z, u.x, u.y, u.z]
 }
 
 // x, y and z as f64, which holds every f32.
-fn surfaced(answer: Surfaced) -> [f64; 10]
-    ensures { result ≡ ten_numbers point_numbers (surface_answer answer) }
+fn point_numbers(p: SurfacePoint32) -> [f64; 9]
+    ensures { result ≡ point_numbers p }
 {
-    match answer {
-        Surfaced::Point(p) => {
-            let q = p.point;
-            let x = f32_to_f64_with_nan(q.x);
-            let y = f32_to_f64_with_nan(q.y);
-            let z = f32_to_f64_with_nan(q.z);
-            [0.0, x, y, z, p.heading, 0.0, 0.0, 0.0, 0.0, 0.0]
-        }
-        Surfaced::Refused(why) => refusal(why),
-    }
+    let q = p.point;
+    let x = f32_to_f64_with_nan(q.x);
+    let y = f32_to_f64_with_nan(q.y);
+    let z = f32_to_f64_with_nan(q.z);
+    [x, y, z, p.heading, 0.0, 0.0, 0.0, 0.0, 0.0]
 }
 
 // 1 for met, 0 for astray.
@@ -75,17 +67,12 @@ fn mark(met: bool) -> f64
     if met { 1.0 } else { 0.0 }
 }
 
-fn located(answer: Located) -> [f64; 10]
-    ensures { result ≡ ten_numbers position_numbers (locate_answer answer) }
+fn position_numbers(p: Position) -> [f64; 9]
+    ensures { result ≡ position_numbers p }
 {
-    match answer {
-        Located::Position(p) => {
-            let moves = p.moves as f64;
-            let met = mark(p.converged);
-            [0.0, p.s, p.t, moves, met, 0.0, 0.0, 0.0, 0.0, 0.0]
-        }
-        Located::Refused(why) => refusal(why),
-    }
+    let moves = f64::from(p.moves);
+    let met = mark(p.converged);
+    [p.s, p.t, moves, met, 0.0, 0.0, 0.0, 0.0, 0.0]
 }
 
 // The id that a number stands for: k for 2 k, -1 - k for 2 k + 1. So every i32 has one.
@@ -110,10 +97,14 @@ pub(crate) fn call(
     let x = of_bits(line.a);
     let y = of_bits(line.b);
     match line.letter {
-        b'q' => stationed(surface_calls::station(words, numbers, samples, x)),
-        b'a' => oriented(surface_calls::axes(words, numbers, samples, x)),
-        b'u' => surfaced(surface_calls::surface(words, numbers, samples, x, y)),
-        b'v' => surfaced(surface_calls::lane_surface(words, numbers, samples, id(with), x, y)),
-        _ => located(surface_calls::locate(words, numbers, samples, x, y, of_bits(with))),
+        b'q' => row(surface_calls::station(words, numbers, samples, x).map(station_numbers)),
+        b'a' => row(surface_calls::axes(words, numbers, samples, x).map(axes_numbers)),
+        b'u' => row(surface_calls::surface(words, numbers, samples, x, y).map(point_numbers)),
+        b'v' => row(surface_calls::lane_surface(words, numbers, samples, id(with), x, y).map(
+            point_numbers,
+        )),
+        _ => row(surface_calls::locate(words, numbers, samples, x, y, of_bits(with)).map(
+            position_numbers,
+        )),
     }
 }
