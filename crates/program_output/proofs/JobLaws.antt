@@ -39,29 +39,41 @@ blank = replicate 8000 (of_bits binary64 0)
 pub blank-long : length blank ≡ 8000
 blank-long = length-replicate 8000 (of_bits binary64 0)
 
-module _ (words : List ℕ) (numbers : List Float) (ok : admitted words numbers ≡ true) (xs : List Float) (long : length xs ≡ 8000) where
-  pub made-count : (n : ℕ) → value n ≡ samples_call words numbers (length xs) → n * 4 ≤ 8000
-  made-count n e = let m = made-needed words numbers (length xs) n (sym e) in let h = m.1 in omega arith
+module _ (words : List ℕ) (numbers : List Float) (ok : admitted words numbers ≡ true) where
+  pub made-count : (n : ℕ) → value n ≡ samples_call words numbers (length blank) → n * 4 ≤ 8000
+  made-count n e = let long = blank-long in let m = made-needed words numbers (length blank) n (sym e) in let h = m.1 in omega arith
 
   -- the part of the slice that was written is the road's samples
-  pub made-part : (n : ℕ) {ys : List Float} → value n ≡ samples_call words numbers (length xs) → ys ≡ samples_list words numbers xs → take (n * 4) ys ≡ samples_of (road_of words numbers)
+  pub made-part : (n : ℕ) {ys : List Float} → value n ≡ samples_call words numbers (length blank) → ys ≡ samples_list words numbers blank → take (n * 4) ys ≡ samples_of (road_of words numbers)
   made-part n {ys} e f =
-      let m = made-needed words numbers (length xs) n (sym e) in
+      let long = blank-long in
+      let m = made-needed words numbers (length blank) n (sym e) in
       let h = m.0 in
       let i = m.1 in
       let k = length-samples_of (road_of words numbers) in
       let l : length (samples_of (road_of words numbers)) ≡ n * 4 = omega arith in
-      let room : 4 * samples_needed (road_of words numbers) ≤ length xs = omega arith in
-      ap (λ (z : List Float). take (n * 4) z) (f ∙ samples_written_lem words numbers ok xs room)
-      ∙ take_at (samples_of (road_of words numbers)) (drop (4 * samples_needed (road_of words numbers)) xs) (n * 4) l
+      let room : 4 * samples_needed (road_of words numbers) ≤ length blank = omega arith in
+      ap (λ (z : List Float). take (n * 4) z) (f ∙ samples_written_lem words numbers ok blank room)
+      ∙ take_at (samples_of (road_of words numbers)) (drop (4 * samples_needed (road_of words numbers)) blank) (n * 4) l
 
-  pub never-refused : (m : ℕ) → refused m ≡ samples_call words numbers (length xs) → ⊥
+  pub never-refused : (m : ℕ) → refused m ≡ samples_call words numbers (length blank) → ⊥
   never-refused m e =
+      let long = blank-long in
       let h = admitted-samples words numbers ok in
-      let room : 4 * samples_needed (road_of words numbers) ≤ length xs = omega arith in
-      no_value (e ∙ samples-made words numbers ok (length xs) room)
+      let room : 4 * samples_needed (road_of words numbers) ≤ length blank = omega arith in
+      no_value (e ∙ samples-made words numbers ok (length blank) room)
 
 -- ---- what was read
+
+-- the slices that the job is read into
+abbrev words : List ℕ
+words = replicate 1891 0
+
+abbrev numbers : List Float
+numbers = replicate 8449 (of_bits binary64 0)
+
+abbrev wants : List ℕ
+wants = replicate 32 0
 
 module _ (text : List ℕ) where
   accepted-by : (o : Outcome) → reading_of text 1891 8449 32 ≡ o → {n : ℕ} {ws : List ℕ} {ns : List Float} {vs : List ℕ}
@@ -80,16 +92,25 @@ module _ (text : List ℕ) where
       (d, omega arith, t)
   accepted-by (stop m) r e f g h = absurd (no_value (sym e))
 
-  -- an accepted reading, into slices of the lengths that the program has
-  pub accepted-job : {l m k n : ℕ} {ws : List ℕ} {ns : List Float} {vs : List ℕ} → l ≡ 1891 → m ≡ 8449 → k ≡ 32
-      → value n ≡ verdict_of (reading_of text l m k) → ws ≡ words_held l (reading_of text l m k) → ns ≡ numbers_held m (reading_of text l m k) → vs ≡ wants_held k (reading_of text l m k)
+  abbrev read : Outcome
+  read = reading_of text (length words) (length numbers) (length wants)
+
+  -- the reading into slices of these lengths
+  read-into : read ≡ reading_of text 1891 8449 32
+  read-into = rw (length-replicate {A = ℕ} 1891 0, length-replicate 8449 (of_bits binary64 0), length-replicate {A = ℕ} 32 0) refl
+
+  pub accepted-job : {n : ℕ} {ws : List ℕ} {ns : List Float} {vs : List ℕ}
+      → value n ≡ verdict_of read → ws ≡ words_held (length words) read → ns ≡ numbers_held (length numbers) read → vs ≡ wants_held (length wants) read
       → (admitted ws ns ≡ true) × (n ≤ 16) × (wants_text ws ns vs n ≡ written_for (reading_of text 1891 8449 32))
-  accepted-job p q w e f g h =
+  accepted-job e f g h =
+      let p = length-replicate {A = ℕ} 1891 0 in
+      let q = length-replicate 8449 (of_bits binary64 0) in
+      let w = length-replicate {A = ℕ} 32 0 in
       accepted-by (reading_of text 1891 8449 32) refl (rw (p, q, w) at e) (rw (p, q, w) at f) (rw (p, q, w) at g) (rw (p, q, w) at h)
 
   refused-by : (o : Outcome) {n : ℕ} → refused n ≡ verdict_of o → refused_line n ≡ written_for o
   refused-by (done at count progress us xs ys) e = absurd (no_value e)
   refused-by (stop m) e = ap refused_line (same-refusal e)
 
-  pub refused-job : {l m k n : ℕ} → l ≡ 1891 → m ≡ 8449 → k ≡ 32 → refused n ≡ verdict_of (reading_of text l m k) → refused_line n ≡ written_for (reading_of text 1891 8449 32)
-  refused-job p q w e = refused-by (reading_of text 1891 8449 32) (rw (p, q, w) at e)
+  pub refused-job : {n : ℕ} → refused n ≡ verdict_of read → refused_line n ≡ written_for (reading_of text 1891 8449 32)
+  refused-job e = refused-by (reading_of text 1891 8449 32) (rw (← read-into) e)
