@@ -5,7 +5,7 @@ ghost use Rattle.reader_schema.specs.Schema.{kind_by};
 ghost use Rattle.reader_cells.specs.Cells.{natural_at, hex_at, whole_at, listed_at, cell_at};
 
 use crate::names::{Span, name_at};
-use reader_hex::{byte_at, digit, digits_at};
+use reader_hex::{byte_at, digit, sixteen_at};
 use reader_schema::place_of;
 use reader_schema::tables::Kind;
 
@@ -47,7 +47,7 @@ fn natural_at(text: &[u8], at: usize) -> Span
 fn hex_at(text: &[u8], at: usize) -> Option<Span>
     ensures { result ≡ hex_at text.now at }
 {
-    let value = digits_at::<PATTERN_DIGITS>(text, at)?;
+    let value = sixteen_at(text, at)?;
     Some(Span {
         value,
         next: at + PATTERN_DIGITS,

@@ -17,7 +17,7 @@ fn values_at<const N: usize>(text: &[u8], at: usize) -> [u8; N]
 }
 
 // The number that N digits stand for; none where a byte is no digit, or the text ends before.
-pub fn digits_at<const N: usize>(text: &[u8], at: usize) -> Option<u64>
+fn digits_at<const N: usize>(text: &[u8], at: usize) -> Option<u64>
     requires { (0 < N) × (N ≤ 16) }
     ensures { result ≡ digits_at N text.now at }
 {
@@ -36,11 +36,25 @@ pub fn digits_at<const N: usize>(text: &[u8], at: usize) -> Option<u64>
     Some(number)
 }
 
+// The number of eight digits; none where a byte is no digit, or the text ends before.
+pub fn eight_at(text: &[u8], at: usize) -> Option<u64>
+    ensures { result ≡ digits_at 8 text.now at }
+{
+    digits_at::<8>(text, at)
+}
+
+// The same of sixteen.
+pub fn sixteen_at(text: &[u8], at: usize) -> Option<u64>
+    ensures { result ≡ digits_at 16 text.now at }
+{
+    digits_at::<16>(text, at)
+}
+
 // The number of sixteen digits with the byte `stop` after them; none where the text ends before it.
 pub fn word_at(text: &[u8], at: usize, stop: u8) -> Option<u64>
     ensures { result ≡ hex_word_at text.now at stop }
 {
-    let number = digits_at::<16>(text, at)?;
+    let number = sixteen_at(text, at)?;
     let after = *text.get(at + 16)?;
     if after == stop { Some(number) } else { None }
 }

@@ -5,7 +5,7 @@ ghost use Rattle.std.specs.Vec.{vec_items};
 ghost use Rattle.test_tracks.specs.Words.{word_in, words_in, numbers_in};
 
 use crate::patterns::number;
-use reader_hex::digits_at;
+use reader_hex::eight_at;
 use std::alloc::{AllocError, Global};
 
 // How many words a line has at most.
@@ -21,7 +21,7 @@ fn word_at(line: &[u8], i: usize) -> Option<u32>
     if line[at] != b' ' {
         return None;
     }
-    let bits = digits_at::<8>(line, at + 1)?;
+    let bits = eight_at(line, at + 1)?;
     Some(bits as u32)
 }
 

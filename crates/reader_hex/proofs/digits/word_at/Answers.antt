@@ -8,12 +8,12 @@ use Rattle.reader_hex.proofs.digits.word_at.Goals as goal
 pub returns-in_err-number : goal.returns-in_err-number
 returns-in_err-number c =
     let a = c.args in
-    c.from_residual.ensures ∙ word-none a.text.now a.at a.stop (sym c.digits_at.ensures ∙ c.in_err-number.was)
+    c.from_residual.ensures ∙ word-none a.text.now a.at a.stop (sym c.sixteen_at.ensures ∙ c.in_err-number.was)
 
 pub overflow_add-at : goal.overflow_add-at
 overflow_add-at c =
     let a = c.args in
-    let h = digits-inside a.text.now a.at 16 (omega arith) (sym c.digits_at.ensures ∙ c.in_ok-number.was) in
+    let h = digits-inside a.text.now a.at 16 (omega arith) (sym c.sixteen_at.ensures ∙ c.in_ok-number.was) in
     search (rules, h)
 
 pub returns-in_err-after : goal.returns-in_err-after
@@ -26,10 +26,10 @@ pub returns-then-after-stop : goal.returns-then-after-stop
 returns-then-after-stop c =
     let a = c.args in
     let r = c.in_ok-after.ensures.lookup.3 in
-    word-ends a.text.now a.at a.stop (sym c.digits_at.ensures ∙ c.in_ok-number.was) r.0 (r.1 0) c.if-after-stop.true
+    word-ends a.text.now a.at a.stop (sym c.sixteen_at.ensures ∙ c.in_ok-number.was) r.0 (r.1 0) c.if-after-stop.true
 
 pub returns-else-after-stop : goal.returns-else-after-stop
 returns-else-after-stop c =
     let a = c.args in
     let r = c.in_ok-after.ensures.lookup.3 in
-    word-breaks a.text.now a.at a.stop (sym c.digits_at.ensures ∙ c.in_ok-number.was) r.0 (r.1 0) c.if-after-stop.false
+    word-breaks a.text.now a.at a.stop (sym c.sixteen_at.ensures ∙ c.in_ok-number.was) r.0 (r.1 0) c.if-after-stop.false
