@@ -7,7 +7,6 @@ ghost use Rattle.line_calls.specs.PoseCall.{pose_call};
 ghost use Rattle.lanes_calls.specs.LaneCalls.{borders_call, borders_list, lane_named_call};
 ghost use Rattle.riftkettle.specs.Exports.{returned, left_by, id_returned};
 
-
 // Refuses 3, 4, 5.
 #[unsafe(no_mangle)]
 pub extern "C" fn riftkettle_admit(words: &[u16], numbers: &[f64]) -> u32

@@ -7,7 +7,6 @@ ghost use Rattle.arithmetic.specs.Narrow.{narrowed};
 ghost use Rattle.arithmetic_counts.specs.Count.{counts_call};
 ghost use Rattle.riftkettle.specs.Exports.{returned, left_by};
 
-
 #[unsafe(no_mangle)]
 pub extern "C" fn riftkettle_root(x: f64) -> f64
     ensures { result ≡ root_of binary64 x }

@@ -4,7 +4,6 @@ ghost use Rattle.surface_calls.specs.SurfaceCalls.{station_call, axes_call, surf
 ghost use Rattle.surface_calls.specs.LocateCall.{locate_call};
 ghost use Rattle.riftkettle.specs.Exports.{returned, left_by, station_list, axes_list, point_list, heading_of, pair_list, moves_of, bit_of, met_of};
 
-
 // Refuses 3, 4, 5, 6, 7.
 #[unsafe(no_mangle)]
 pub extern "C" fn riftkettle_station(

@@ -3,7 +3,6 @@ ghost use Rattle.std.specs.Prelude.{◌≡◌, length};
 ghost use Rattle.reader_calls.specs.Reading.{reading_of, verdict_of, words_held, numbers_held, wants_held};
 ghost use Rattle.riftkettle.specs.Exports.{returned, left_by};
 
-
 // Refuses 1, 2, 3, 4, 5. A refusal leaves zeros in the three slices, and the count as it was.
 #[unsafe(no_mangle)]
 pub extern "C" fn riftkettle_read(
