@@ -43,7 +43,7 @@ fn border_width(lane: &LentLane, s: f64, sign: f64, inner: f64) -> f64
 }
 
 // The width of a lane, s metres into its section: the one way to a width.
-fn lane_width(lane: &LentLane, s: f64, sign: f64, inner: f64) -> f64
+pub fn lane_width(lane: &LentLane, s: f64, sign: f64, inner: f64) -> f64
     ensures { result ≡ width_of lane.now sign inner s }
 {
     if lane.border {

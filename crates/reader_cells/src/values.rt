@@ -92,14 +92,21 @@ fn listed_at(text: &[u8], at: usize, list: usize) -> Option<Span>
     })
 }
 
-// The cell at a place, by what its column holds. What stands after it is the caller's to test.
+// The cell at a place, by the number of what its column holds: any list's. What stands after it is the caller's to test.
 #[tactic(auto, unfolding(crate::specs::Cells::cell_at))]
+pub fn cell_by_number(text: &[u8], at: usize, number: usize) -> Option<Span>
+    ensures { result ≡ cell_at text.now at number }
+{
+    match number {
+        0 => hex_at(text, at),
+        1 => whole_at(text, at),
+        list => listed_at(text, at, list),
+    }
+}
+
+// The same by what its column holds.
 pub fn cell_at(text: &[u8], at: usize, kind: Kind) -> Option<Span>
     ensures { result ≡ cell_at text.now at (kind_by kind) }
 {
-    match kind {
-        Kind::Number => hex_at(text, at),
-        Kind::Whole => whole_at(text, at),
-        words => listed_at(text, at, words.number()),
-    }
+    cell_by_number(text, at, kind.number())
 }

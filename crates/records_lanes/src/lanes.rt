@@ -2,7 +2,7 @@
 // docs/MEMORY.md for whoever lends a road. Nothing here trusts the slices: what is not there is empty, NaN or 0.
 ghost use Rattle.std.specs.Prelude.{◌≡◌, ℕ, ◌<◌, Some};
 ghost use Rattle.records.specs.Roads.{lane_in, lane_of, no_lane};
-ghost use Rattle.records_lanes.specs.Lines.{line_of};
+ghost use Rattle.records_lanes.specs.Lines.{side_line, line_of};
 
 use records::layout::{
     CUBIC_STRIDE, EXTENT_BASE, HEIGHT_BASE, HEIGHT_STRIDE, LANE_STRIDE, LANE_WORDS, LEFT_WORDS,
@@ -30,8 +30,24 @@ impl<'a> Model for LentLane<'a> {
     ghost view = { λ lane. record { border = lane.border; level = lane.level; extents = lane.extents; heights = lane.heights } };
 }
 
+// The line of the lane table where a side's lanes begin, for callers that go over them all.
+pub fn side_line(words: &[u16], section: usize, right: bool) -> usize
+    ensures value { result ≡ side_line words.now section right }
+    ensures small { result < 131072 }
+{
+    if word(words, SECTION_COUNT_AT) <= section {
+        return 0;
+    }
+    let start = word(words, SECTION_WORDS + section * SECTION_STRIDE);
+    if right {
+        start + word(words, LEFT_WORDS + section * SECTION_STRIDE)
+    } else {
+        start
+    }
+}
+
 // The line of the lane table that has the lane at a place.
-fn lane_line(words: &[u16], place: LanePlace) -> Option<usize>
+pub fn lane_line(words: &[u16], place: LanePlace) -> Option<usize>
     ensures value { result ≡ line_of words.now place.section place.right place.k }
     ensures small { (j : ℕ) → result ≡ Some j → j < 196608 }
 {
@@ -54,11 +70,10 @@ fn lane_line(words: &[u16], place: LanePlace) -> Option<usize>
 }
 
 // The lane that a line of the lane table has.
-fn lane_in<'a>(words: &[u16], numbers: &'a [f64], line: usize) -> LentLane<'a>
-    requires { line < 196608 }
+pub fn lane_in<'a>(words: &[u16], numbers: &'a [f64], line: u32) -> LentLane<'a>
     ensures { result ≡ lane_in words.now numbers.now line }
 {
-    let at = LANE_WORDS + line * LANE_STRIDE;
+    let at = LANE_WORDS + line as usize * LANE_STRIDE;
     let extent = EXTENT_BASE + word(words, at + 2) * CUBIC_STRIDE;
     let height = HEIGHT_BASE + word(words, at + 4) * HEIGHT_STRIDE;
     let extents = part(numbers, extent, word(words, at + 3) * CUBIC_STRIDE);
@@ -87,7 +102,7 @@ pub fn lane<'a>(road: &LentRoad<'a>, place: LanePlace) -> LentLane<'a>
     ensures { result ≡ lane_of road.now place.section place.right place.k }
 {
     match lane_line(road.words, place) {
-        Some(line) => lane_in(road.words, road.numbers, line),
+        Some(line) => lane_in(road.words, road.numbers, line as u32),
         None => no_lane(),
     }
 }

@@ -3,4 +3,4 @@
 
 mod lanes;
 
-pub use lanes::{LentLane, lane};
+pub use lanes::{LentLane, lane, lane_in, lane_line, side_line};
