@@ -54,19 +54,12 @@ pub fn lane_line(words: &[u16], place: LanePlace) -> Option<usize>
     if word(words, SECTION_COUNT_AT) <= place.section {
         return None;
     }
-    let section = place.section * SECTION_STRIDE;
-    let first = word(words, SECTION_WORDS + section);
-    let left = word(words, LEFT_WORDS + section);
-    if place.right {
-        if place.k < word(words, RIGHT_WORDS + section) {
-            return Some(first + left + place.k);
-        }
-        return None;
+    let at = if place.right { RIGHT_WORDS } else { LEFT_WORDS };
+    if place.k < word(words, at + place.section * SECTION_STRIDE) {
+        Some(side_line(words, place.section, place.right) + place.k)
+    } else {
+        None
     }
-    if place.k < left {
-        return Some(first + place.k);
-    }
-    None
 }
 
 // The lane that a line of the lane table has.
