@@ -26,7 +26,7 @@ pub(crate) struct Search<'a> {
 
 impl<'a> Search<'a> {
     // At t of a station.
-    pub fn miss_on(&self, here: Footing, t: f64) -> Vector
+    pub(crate) fn miss_on(&self, here: Footing, t: f64) -> Vector
         ensures { result ≡ miss_on self.now.target (plan_on self.now.road.now here t) }
     {
         let p = plan_on(self.road, here, t);
@@ -37,7 +37,7 @@ impl<'a> Search<'a> {
     }
 
     #[tactic(auto, using(crate::proofs::WalkLaws::miss_is))]
-    pub fn miss(&self, at: Place) -> Vector
+    pub(crate) fn miss(&self, at: Place) -> Vector
         ensures { result ≡ miss_at self.now.road.now self.now.samples.now self.now.target at }
     {
         self.miss_on(footing_at(self.road, self.samples, at.s), at.t)

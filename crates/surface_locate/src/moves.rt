@@ -51,7 +51,7 @@ fn newton(length: f64, at: Place, r: Vector, along: Vector, across: Vector) -> M
 impl<'a> Search<'a> {
     // The move from a place whose miss r isn't small; here is its station.
     #[tactic(auto, using(crate::proofs::WalkLaws::miss_is), unfolding(crate::specs::Locating::move_at))]
-    pub fn move_from(&self, here: Footing, at: Place, r: Vector) -> Move
+    pub(crate) fn move_from(&self, here: Footing, at: Place, r: Vector) -> Move
         requires { (here ≡ footing_of self.now.road.now self.now.samples.now at.s) × (r ≡ miss_at self.now.road.now self.now.samples.now self.now.target at) × (lt (size_of r) tolerance ≡ false) }
         ensures { result ≡ move_at self.now.road.now self.now.samples.now self.now.target at }
     {
