@@ -1,4 +1,5 @@
 // The borders of a section's lanes at a station, written into a lent list, three f64 a lane: inner, outer, width.
+// Two slices are lent and no `LentRoad`: they are a road only once `admit` has answered one.
 ghost use Rattle.std.specs.Prelude.{◌≡◌, length};
 ghost use Rattle.refusals.specs.Answer.{answered};
 ghost use Rattle.lanes_calls.specs.LaneCalls.{borders_call, borders_list};

@@ -1,4 +1,5 @@
 // Which lane lies at an offset from the reference line.
+// Two slices are lent and no `LentRoad`: they are a road only once `admit` has answered one.
 ghost use Rattle.std.specs.Prelude.{◌≡◌};
 ghost use Rattle.refusals.specs.Answer.{answered};
 ghost use Rattle.lanes_calls.specs.LaneCalls.{lane_named_call};

@@ -1,4 +1,5 @@
 // A place on the reference line and the heading there, or a refusal.
+// Two slices are lent and no `LentRoad`: they are a road only once `admit` has answered one.
 ghost use Rattle.std.specs.Prelude.{◌≡◌};
 ghost use Rattle.refusals.specs.Answer.{answered};
 ghost use Rattle.line_calls.specs.PoseCall.{pose_call};

@@ -1,4 +1,5 @@
 // Calls on a road in lent memory. Each checks the road whole and anew.
+// The C interface lends a road's two slices as they are; the calls below make a road of them.
 ghost use Rattle.std.specs.Prelude.{◌≡◌, length};
 ghost use Rattle.admission.specs.Admission.{admit_call};
 ghost use Rattle.line_calls.specs.SampleCall.{samples_call, samples_list};

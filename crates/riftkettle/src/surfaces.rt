@@ -1,4 +1,5 @@
 // Calls on a road in lent memory with its samples: stations, axes, the surface, and where a point lies on it. Each checks the road whole and anew.
+// The C interface lends a road's two slices as they are; the calls below make a road of them.
 ghost use Rattle.std.specs.Prelude.{◌≡◌};
 ghost use Rattle.surface_calls.specs.SurfaceCalls.{station_call, axes_call, surface_call, lane_surface_call};
 ghost use Rattle.surface_calls.specs.LocateCall.{locate_call};

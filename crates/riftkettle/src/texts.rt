@@ -1,4 +1,5 @@
 // A job text into lent memory.
+// The C interface lends the slices as they are.
 ghost use Rattle.std.specs.Prelude.{◌≡◌, length};
 ghost use Rattle.reader_calls.specs.Reading.{reading_of, verdict_of, words_held, numbers_held, wants_held};
 ghost use Rattle.riftkettle.specs.Exports.{returned, left_by};

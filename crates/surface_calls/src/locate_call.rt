@@ -1,4 +1,5 @@
 // A place on the road, or a refusal.
+// Two slices are lent and no `LentRoad`: they are a road only once `admit` has answered one.
 ghost use Rattle.std.specs.Prelude.{◌≡◌};
 ghost use Rattle.refusals.specs.Answer.{answered};
 ghost use Rattle.arithmetic_ranges.specs.Ranges.{finite64};
