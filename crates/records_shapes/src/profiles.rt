@@ -22,11 +22,7 @@ pub fn profile_count(road: &LentRoad) -> usize
 pub fn profile_start(road: &LentRoad, i: usize) -> f64
     ensures { result ≡ (profile_at road.now i).s }
 {
-    if i < word(road.words, PROFILE_COUNT_AT) {
-        number(road.numbers, PROFILE_BASE + i)
-    } else {
-        f64::NAN
-    }
+    number(part(road.numbers, PROFILE_BASE, profile_count(road)), i)
 }
 
 // The cubics of a table whose base is given: from the first on as many as the two words at a place say.
