@@ -160,10 +160,6 @@ module _ (road : Road) (a : Admits road) (s : Float) (o : OnRoad road s) (right 
   unfolding borders_at
   width-kept k l = width-most (get_or (side_lanes road at right) k no_lane) right (borders_of road at s right k).inner (into road s) (extents k l) (inner-kept k l)
 
-  -- no border lies behind the one before it
-  pub borders-ahead : (k : ℕ) → k < count → Ahead right (borders_of road at s right k).inner (borders_of road at s right k).outer
-  borders-ahead = outer-ahead (side_lanes road at right) right (base_at road s) (into road s) (a.few at right) center extents
-
   -- ---- one lane, where its inner neighbour ends at a height of at most m
   module _ (tangent : Float) (slope : Within binary64 tangent one) where
     toward-at : (t : Float) → Within binary64 t eighty → AtMost binary64 121 (height_toward road s t (sign_of right))

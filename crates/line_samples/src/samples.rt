@@ -1,14 +1,12 @@
 // A spiral has no elementary form, so it is baked to samples by the midpoint rule: its start, then one a step of 0.25 m, the last shorter.
-ghost use Rattle.std.specs.Prelude.{◌≡◌, ◌<◌, ◌≤◌, T, leb, min, length};
+ghost use Rattle.std.specs.Prelude.{◌≡◌, ◌<◌, ◌≤◌, T, leb};
 ghost use Rattle.std.specs.Float.Ieee.{le};
 ghost use Rattle.line_samples.specs.Quarters.{least_estimated, greatest_estimated, QuartersBelow};
 ghost use Rattle.line_samples.specs.Samples.{most_samples, most_steps, step_at, spiral_steps, sample_count, samples_before, samples_needed, first_sample, next_sample, turn_rate, heading_at};
 
 use crate::points::Sample;
-use records::layout::GEOM_COUNT_AT;
 use records::{GeomRec, GeomShape, LentRoad};
 use records_geometry::geom;
-use records_lent::word;
 
 // All steps are as long but the last.
 const WHOLE_STEP: f64 = 0.25;
@@ -87,21 +85,13 @@ pub fn sample_count(g: GeomRec) -> usize
     }
 }
 
-// How many of the first i geometries there are. Their count is a word.
-fn geoms_below(road: &LentRoad, i: usize) -> usize
-    ensures value { result ≡ min i (length road.now.geoms) }
-    ensures small { result < 65536 }
-{
-    i.min(word(road.words, GEOM_COUNT_AT))
-}
-
 // How many samples the geometries before the i-th have, where the first of its own stands.
 pub fn samples_before(road: &LentRoad, i: usize) -> usize
     ensures value { result ≡ samples_before road.now i }
     ensures small { result < 268435456 }
 {
     let mut sum = 0;
-    for k in 0..geoms_below(road, i) {
+    for k in 0..i.min(road.geom_count()) {
         sum += sample_count(geom(road, k));
     }
     sum

@@ -1,9 +1,10 @@
 -- What the road of two lent lists holds, place by place: how long each list is, its i-th element below that, nothing past it. Every list is a table, so each law is one of TableLaws.
 use Prim.Native.Nat.{ℕ, zero, suc, ◌+◌, ◌*◌, ◌<◌, ◌≤◌}
+use native.Mathlib.Nat.{add-zero}
 use native.Mathlib.Omega.{arith}
 use native.Mathlib.Numerals.{add-one}
 use mathlib.Core.Path.{◌≡◌, refl, ap, ◌∙◌, sym}
-use mathlib.Core.Bool.{Bool, true, false, ◌&&◌, cond}
+use mathlib.Core.Bool.{Bool, true, false, ◌&&◌, cond, and-true}
 use mathlib.Core.List.{List, [], ◌∷◌}
 use lib.ListN.{length, get_or}
 use lib.Dec.{eqb}
@@ -12,35 +13,21 @@ use Rattle.float_laws.specs.Binary64.{zero64}
 use Rattle.records.specs.declared.points.GeomRec.{GeomRec}
 use Rattle.records.specs.declared.points.StripKind.TheVariants.{Absent, Absolute, Relative}
 use Rattle.records_lent.specs.Lists.{tabulate, span}
-use Rattle.records_cubic.specs.Cubics.{cubics_of}
 use Rattle.records.specs.Active.{last_start, or_first, active_up_to}
-use Rattle.records.specs.Roads.{Road, Section, Profile, Strip, absent, present, road_of, geom_in, unused_in, lane_in, section_in, profile_in, column_in, strip_in, cubics_in, word_at, geom_from, no_geom, geom_at, all_zero, unused_zero, no_section, section_of, no_lane, lane_of, no_mark, mark_at, mark_in, no_profile, profile_at, strip_at, strip_kind_of, column_of, geom_index, section_index}
-use Rattle.records_lent.proofs.TableLaws.{length-table, table_at, table-past, span-at}
+use Rattle.records.specs.Roads.{Road, Section, Profile, Strip, absent, present, road_of, geom_in, unused_in, lane_in, section_in, profile_in, column_in, strip_in, word_at, geom_from, no_geom, geom_at, all_zero, unused_zero, no_section, section_of, no_lane, lane_of, no_mark, mark_at, mark_in, no_profile, profile_at, strip_at, strip_kind_of, column_of, geom_index, section_index}
+use Rattle.records_lent.proofs.TableLaws.{length-table, table_at, table-past, span-at, span-table}
 use Rattle.records.proofs.ScanLaws.{last_start-same}
 
 -- a place by a sum of two literals, and by a sum of three
 plus : (a b x : ℕ) → a + x + b ≡ a + b + x
 plus a b x = omega arith
 
-more : (a : ℕ) → a ≡ a + 0
-more a = omega arith
-
 once : (base i : ℕ) → base + i * 1 ≡ base + i
 once base i = omega arith
-
-and-true : (a : Bool) → a && true ≡ a
-and-true true = refl
-and-true false = refl
 
 module _ (words : List ℕ) (numbers : List Float) where
   abbrev road : Road
   road = road_of words numbers
-
-  -- ---- any list of cubics: what a part of the numbers holds, by the words that say where it is
-  pub cubics-by :
-      (base first count : ℕ) {f n : ℕ} {xs : List Float} → f ≡ first → n ≡ count → xs ≡ span numbers (base + f * 5) (n * 5)
-      → cubics_of xs ≡ cubics_in words numbers base first count
-  cubics-by base first count e g h = cc
 
   -- ---- geometries
   pub geom_count_lem : length road.geoms ≡ get_or words 0 0
@@ -55,10 +42,6 @@ module _ (words : List ℕ) (numbers : List Float) where
   unfolding road_of
   geom-past i h = table-past _ _ i no_geom h
 
-  pub unused-count : length road.unused ≡ get_or words 0 0
-  unfolding road_of
-  unused-count = length-table _ _
-
   pub unused_in_lem : (i : ℕ) → i < get_or words 0 0 → get_or road.unused i [] ≡ unused_in words numbers i
   unfolding road_of
   unused_in_lem i h = table_at _ _ i [] h
@@ -71,6 +54,11 @@ module _ (words : List ℕ) (numbers : List Float) where
   pub section_count_lem : length road.sections ≡ get_or words 5 0
   unfolding road_of
   section_count_lem = length-table _ _
+
+  -- the starts stand one after another
+  pub section-starts : (i : ℕ) {n : ℕ} {xs : List Float} → n ≡ length road.sections → xs ≡ span numbers 1729 n → get_or xs i nan ≡ (section_of road i).start
+  unfolding road_of section_in
+  section-starts i e f = rw (f, e, section_count_lem) (span-table (section_in words numbers) (λ (x : Section). x.start) no_section numbers 1729 (get_or words 5 0) i (λ k h. refl))
 
   pub section_in_lem : (i : ℕ) → i < get_or words 5 0 → section_of road i ≡ section_in words numbers i
   unfolding road_of
@@ -156,6 +144,10 @@ module _ (words : List ℕ) (numbers : List Float) where
   unfolding road_of
   profile_count_lem = length-table _ _
 
+  pub profile-starts : (i : ℕ) {n : ℕ} {xs : List Float} → n ≡ length road.profiles → xs ≡ span numbers 5841 n → get_or xs i nan ≡ (profile_at road i).s
+  unfolding road_of profile_in
+  profile-starts i e f = rw (f, e, profile_count_lem) (span-table (profile_in words numbers) (λ (x : Profile). x.s) no_profile numbers 5841 (get_or words 6 0) i (λ k h. refl))
+
   pub profile_in_lem : (i : ℕ) → i < get_or words 6 0 → profile_at road i ≡ profile_in words numbers i
   unfolding road_of
   profile_in_lem i h = table_at _ _ i no_profile h
@@ -163,10 +155,6 @@ module _ (words : List ℕ) (numbers : List Float) where
   pub profile-past : (i : ℕ) → get_or words 6 0 ≤ i → profile_at road i ≡ no_profile
   unfolding road_of
   profile-past i h = table-past _ _ i no_profile h
-
-  pub strip-count : length road.strips ≡ 4
-  unfolding road_of
-  strip-count = length-table (strip_in words numbers) 4
 
   pub strip_in_lem : (i : ℕ) → i < 4 → strip_at road i ≡ strip_in words numbers i
   unfolding road_of
@@ -176,7 +164,7 @@ module _ (words : List ℕ) (numbers : List Float) where
   unfolding road_of
   strip-past i h = table-past (strip_in words numbers) 4 i absent h
 
--- ---- the same, by the values that a function has read
+-- ---- what the road holds, by the values that a function has read
 
 -- a strip that is there
 abbrev there : List ℕ → List Float → ℕ → ℕ → Strip
@@ -238,7 +226,7 @@ module _ (words : List ℕ) (numbers : List Float) where
   geom-start : (i : ℕ) → i < get_or words 0 0 → get_or numbers (1 + i * 7) nan ≡ (geom_at (road_of words numbers) i).s
   unfolding geom_in
   geom-start i h =
-      ap (λ (k : ℕ). get_or numbers k nan) (more (1 + i * 7)) ∙ sym (span-at numbers (1 + i * 7) 7 0 nan (omega arith))
+      ap (λ (k : ℕ). get_or numbers k nan) (sym (add-zero (1 + i * 7))) ∙ sym (span-at numbers (1 + i * 7) 7 0 nan (omega arith))
       ∙ ap (λ (g : GeomRec). g.s) (sym (geom_in_lem words numbers i h))
 
   pub geom_index_lem :

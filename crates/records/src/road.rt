@@ -1,6 +1,6 @@
 // A road in two lent slices: words has the counts, codes and ranges, numbers the f64 columns. Where each stands is said in layout.rt,
 // for the proofs in specs/Layout.antt, and in docs/MEMORY.md for whoever lends a road. Nothing here trusts the slices: what is not there is empty, NaN or 0.
-ghost use Rattle.std.specs.Prelude.{◌≡◌, get_or, length};
+ghost use Rattle.std.specs.Prelude.{◌≡◌, ◌<◌, get_or, length};
 ghost use Rattle.records.specs.Roads.{cubics_in, road_of};
 
 use crate::layout::{
@@ -26,7 +26,7 @@ impl<'a> Model for LentRoad<'a> {
     ghost view = { λ lent. road_of lent.words.now lent.numbers.now };
 }
 
-// A flat table of cubics, from its base on.
+// A flat table of cubics, from its base on. It takes the slices, since it says where in them the table stands, and a road's model has no places.
 fn flat<'a>(words: &[u16], numbers: &'a [f64], base: usize, count_at: usize) -> Cubics<'a>
     ensures { result ≡ cubics_in words.now numbers.now base 0 (get_or words.now count_at 0) }
 {
@@ -49,7 +49,8 @@ impl<'a> LentRoad<'a> {
     }
 
     pub fn geom_count(&self) -> usize
-        ensures { result ≡ length self.now.geoms }
+        ensures value { result ≡ length self.now.geoms }
+        ensures small { result < 65536 }
     {
         word(self.words, GEOM_COUNT_AT)
     }

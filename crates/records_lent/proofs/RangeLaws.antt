@@ -1,8 +1,9 @@
 -- What `all`, `any` and `rfind` over a range answer, in the words of `Lists`.
 use Prim.Native.Nat.{ℕ, zero, suc, ◌+◌}
+use native.Mathlib.Nat.{add-zero, zero-add}
 use native.Mathlib.Omega.{arith}
 use mathlib.Core.Path.{◌≡◌, refl, ap, ◌∙◌, sym, subst}
-use mathlib.Core.Bool.{Bool, true, false, ◌&&◌, ◌||◌}
+use mathlib.Core.Bool.{Bool, true, false, ◌&&◌, ◌||◌, and-true, and_assoc, or-false, or_assoc}
 use mathlib.Core.List.{List, [], ◌∷◌}
 use denote.Param.Members.{Mut}
 use denote.Ref.{Bor}
@@ -19,48 +20,26 @@ use Rattle.std.proofs.lemmas.Iterator.{YieldsList-from_range}
 use Rattle.std.proofs.lemmas.Iterator.Search.{all_from_yields_List, any_from_yields_List}
 use Rattle.records_lent.specs.Lists.{all_below, any_below, last_that}
 
-and-assoc : (a b c : Bool) → (a && b) && c ≡ a && (b && c)
-and-assoc true b c = refl
-and-assoc false b c = refl
-
-or-assoc : (a b c : Bool) → (a || b) || c ≡ a || (b || c)
-or-assoc true b c = refl
-or-assoc false b c = refl
-
-and-ends : (a : Bool) → true && a ≡ a && true
-and-ends true = refl
-and-ends false = refl
-
-or-ends : (a : Bool) → false || a ≡ a || false
-or-ends true = refl
-or-ends false = refl
-
 -- the first index taken out
 pub all-front : (p : ℕ → Bool) (n : ℕ) → all_below p (suc n) ≡ p 0 && all_below (λ i. p (suc i)) n
 unfolding all_below
-all-front p zero = and-ends (p 0)
-all-front p (suc n) = ap (λ b. b && p (suc n)) (all-front p n) ∙ and-assoc (p 0) (all_below (λ i. p (suc i)) n) (p (suc n))
+all-front p zero = sym (and-true (p 0))
+all-front p (suc n) = ap (λ b. b && p (suc n)) (all-front p n) ∙ and_assoc (p 0) (all_below (λ i. p (suc i)) n) (p (suc n))
 
 pub any-front : (p : ℕ → Bool) (n : ℕ) → any_below p (suc n) ≡ p 0 || any_below (λ i. p (suc i)) n
 unfolding any_below
-any-front p zero = or-ends (p 0)
-any-front p (suc n) = ap (λ b. b || p (suc n)) (any-front p n) ∙ or-assoc (p 0) (any_below (λ i. p (suc i)) n) (p (suc n))
+any-front p zero = sym (or-false (p 0))
+any-front p (suc n) = ap (λ b. b || p (suc n)) (any-front p n) ∙ or_assoc (p 0) (any_below (λ i. p (suc i)) n) (p (suc n))
 
 over : (a k : ℕ) → a + 1 + k ≡ a + suc k
 over a k = omega arith
-
-nought : (k : ℕ) → 0 + k ≡ k
-nought k = omega arith
-
-from : (a : ℕ) → a ≡ a + 0
-from a = omega arith
 
 list_all-range : (p : ℕ → Bool) (a n : ℕ) → list_all p (range_with_len a n) ≡ all_below (λ i. p (a + i)) n
 unfolding all_below
 list_all-range p a zero = refl
 list_all-range p a (suc n) =
     ap (λ b. p a && b) (list_all-range p (a + 1) n ∙ ap (λ (q : ℕ → Bool). all_below q n) (λ i k. p (over a k i)))
-    ∙ ap (λ (k : ℕ). p k && all_below (λ i. p (a + suc i)) n) (from a)
+    ∙ ap (λ (k : ℕ). p k && all_below (λ i. p (a + suc i)) n) (sym (add-zero a))
     ∙ sym (all-front (λ i. p (a + i)) n)
 
 list_any-range : (p : ℕ → Bool) (a n : ℕ) → list_any p (range_with_len a n) ≡ any_below (λ i. p (a + i)) n
@@ -68,7 +47,7 @@ unfolding any_below
 list_any-range p a zero = refl
 list_any-range p a (suc n) =
     ap (λ b. p a || b) (list_any-range p (a + 1) n ∙ ap (λ (q : ℕ → Bool). any_below q n) (λ i k. p (over a k i)))
-    ∙ ap (λ (k : ℕ). p k || any_below (λ i. p (a + suc i)) n) (from a)
+    ∙ ap (λ (k : ℕ). p k || any_below (λ i. p (a + suc i)) n) (sym (add-zero a))
     ∙ sym (any-front (λ i. p (a + i)) n)
 
 module _ {F : Type 0} {g : Mut F (ℕ × Unit {0}) Bool} (p : ℕ → Bool) (n : ℕ) {u : Range ℕ} {f : F} {r : Bool} where
@@ -76,13 +55,13 @@ module _ {F : Type 0} {g : Mut F (ℕ × Unit {0}) Bool} (p : ℕ → Bool) (n :
   pub all_range : (xs : List ℕ) × (o : Option ℕ) × (j : F) × YieldsThen nat_range_steps (record { start = 0; end = n }) xs o u × FoldsTo (λ q x v. Called g q (x, tt) true v) f xs j × MatchOption o (r ≡ true) (λ x. (r ≡ false) × ((h : F) × Called g j (x, tt) false h))
       → ((x : ℕ) (b : Bool) (q : F) → Called g f (x, tt) b q → (q ≡ f) × (b ≡ p x))
       → r ≡ all_below p n
-  all_range ran says = all_from_yields_List p u f r ran (YieldsList-from_range 0 n n refl (omega arith)) says ∙ list_all-range p 0 n ∙ ap (λ (q : ℕ → Bool). all_below q n) (λ i k. p (nought k i))
+  all_range ran says = all_from_yields_List p u f r ran (YieldsList-from_range 0 n n refl (omega arith)) says ∙ list_all-range p 0 n ∙ ap (λ (q : ℕ → Bool). all_below q n) (λ i k. p (zero-add k i))
 
   -- what `(0..n).any(f)` answered
   pub any_range : (xs : List ℕ) × (o : Option ℕ) × (j : F) × YieldsThen nat_range_steps (record { start = 0; end = n }) xs o u × FoldsTo (λ q x v. Called g q (x, tt) false v) f xs j × MatchOption o (r ≡ false) (λ x. (r ≡ true) × ((h : F) × Called g j (x, tt) true h))
       → ((x : ℕ) (b : Bool) (q : F) → Called g f (x, tt) b q → (q ≡ f) × (b ≡ p x))
       → r ≡ any_below p n
-  any_range ran says = any_from_yields_List p u f r ran (YieldsList-from_range 0 n n refl (omega arith)) says ∙ list_any-range p 0 n ∙ ap (λ (q : ℕ → Bool). any_below q n) (λ i k. p (nought k i))
+  any_range ran says = any_from_yields_List p u f r ran (YieldsList-from_range 0 n n refl (omega arith)) says ∙ list_any-range p 0 n ∙ ap (λ (q : ℕ → Bool). any_below q n) (λ i k. p (zero-add k i))
 
 module _ {F : Type 0} {g : Mut F (Bor ℕ × Unit {0}) Bool} (p : ℕ → Bool) (f : F) (says : (x : ℕ) (b : Bool) (q : F) → CalledAt g f x b q → (q ≡ f) × (b ≡ p x)) where
   -- what a search down from n answered

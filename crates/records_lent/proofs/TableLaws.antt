@@ -1,14 +1,14 @@
--- The lists of `Lists`: a table's length and its lines, the elements of a span, `all_below` and `any_below` as a loop meets them, and what `last_that` depends on. By induction.
+-- The lists of `Lists`: a table's length and its lines, the elements of a span, where a test of `any_below` passes, and what `last_that` depends on. By induction.
 use Prim.Native.Nat.{ℕ, zero, suc, ◌+◌, ◌<◌, ◌≤◌}
 use native.Mathlib.Omega.{arith}
-use native.Mathlib.Numerals.{add-one}
-use native.Mathlib.Nat.{le_of_suc-le-suc, not-suc-le-zero, eq-or-lt_of_le, le_antisymm}
-use mathlib.Core.Path.{◌≡◌, refl, ap, ◌∙◌}
-use mathlib.Core.Bool.{Bool, true, false, ◌&&◌, ◌||◌, or-true}
+use native.Mathlib.Nat.{le_of_suc-le-suc, not-suc-le-zero, eq-or-lt_of_le}
+use mathlib.Core.Path.{◌≡◌, refl, sym, ap, ◌∙◌}
+use mathlib.Core.Bool.{Bool, true, false, ◌||◌, or-true}
 use mathlib.Core.List.{List}
 use mathlib.Core.Logic.{⊎_elim}
-use lib.ListN.{length, get_or, drop, get_or-eq_default}
+use lib.ListN.{length, get_or, drop, get_or-eq_default, length-take}
 use lib.Seq.{get_or-take, get_or-drop}
+use Rattle.std.proofs.lemmas.Bool.{cases_lt}
 use Rattle.records_lent.specs.Lists.{tabulate, span, all_below, any_below, last_that}
 
 -- ---- tables
@@ -33,6 +33,19 @@ module _ {A : Type 0} (xs : List A) (start count : ℕ) where
   pub span-at : (i : ℕ) (d : A) → i < count → get_or (span xs start count) i d ≡ get_or xs (start + i) d
   span-at i d h = get_or-take count (drop start xs) i d h ∙ get_or-drop start xs i d
 
+  pub span-past : (i : ℕ) (d : A) → count ≤ i → get_or (span xs start count) i d ≡ d
+  span-past i d h = let l = length-take count (drop start xs) in get_or-eq_default (span xs start count) d (omega arith)
+
+-- a part whose elements are values of a table's lines, by place, and the value of none past them
+pub span-table :
+    {A B : Type 0} (f : ℕ → B) (value : B → A) (none : B) (xs : List A) (start n i : ℕ) → ((k : ℕ) → k < n → get_or xs (start + k) (value none) ≡ value (f k))
+    → get_or (span xs start n) i (value none) ≡ value (get_or (tabulate f n) i none)
+span-table f value none xs start n i h =
+    ⊎_elim
+    (λ l. span-at xs start n i (value none) l ∙ h i l ∙ sym (ap value (table_at f n i none l)))
+    (λ l. span-past xs start n i (value none) l ∙ sym (ap value (table-past f n i none l)))
+    (cases_lt i n)
+
 -- ---- a test at every index
 
 module _ (p : ℕ → Bool) where
@@ -40,25 +53,9 @@ module _ (p : ℕ → Bool) where
   unfolding all_below
   all_none = refl
 
-  -- a turn of a loop that has no early way out
-  pub all-next : (i : ℕ) {a b : Bool} → a ≡ all_below p i → b ≡ p i → a && b ≡ all_below p (i + 1)
-  unfolding all_below
-  all-next i e f = rw (add-one, e, f)
-
-  pub all_done : (i n : ℕ) {a : Bool} → i ≤ n → n ≤ i → a ≡ all_below p i → a ≡ all_below p n
-  all_done i n h k e = rw (le_antisymm k h) e
-
 -- ---- a test at some index
 
 module _ (p : ℕ → Bool) where
-  pub any_none : any_below p 0 ≡ false
-  unfolding any_below
-  any_none = refl
-
-  pub any_next : (i : ℕ) {a b : Bool} → a ≡ any_below p i → b ≡ p i → a || b ≡ any_below p (i + 1)
-  unfolding any_below
-  any_next i e f = rw (add-one, e, f)
-
   pub any_at : (i n : ℕ) → i < n → p i ≡ true → any_below p n ≡ true
   unfolding any_below
   any_at i zero l k = absurd (not-suc-le-zero l)
@@ -80,10 +77,11 @@ module _ (p : ℕ → Bool) where
 
 -- ---- the last that passes: the tests below n alone decide
 
-weaker : (i n : ℕ) → i < n → i < suc n
-weaker i n h = omega arith
+-- below n is below its successor
+pub lt-suc : {i n : ℕ} → i < n → i < suc n
+lt-suc h = omega arith
 
 pub last_that-same : (p q : ℕ → Bool) (n : ℕ) → ((i : ℕ) → i < n → p i ≡ q i) → last_that p n ≡ last_that q n
 unfolding last_that
 last_that-same p q zero h = refl
-last_that-same p q (suc n) h = rw (h n (omega arith), last_that-same p q n (λ i l. h i (weaker i n l)))
+last_that-same p q (suc n) h = rw (h n (omega arith), last_that-same p q n (λ i l. h i (lt-suc l)))

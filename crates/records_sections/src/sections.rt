@@ -4,7 +4,7 @@ ghost use Rattle.records.specs.Roads.{section_of};
 
 use records::LentRoad;
 use records::layout::{LEFT_WORDS, RIGHT_WORDS, SECTION_BASE, SECTION_COUNT_AT, SECTION_STRIDE};
-use records_lent::{number, word};
+use records_lent::{number, part, word};
 
 pub fn section_count(road: &LentRoad) -> usize
     ensures { result ≡ length road.now.sections }
@@ -16,11 +16,7 @@ pub fn section_count(road: &LentRoad) -> usize
 pub fn section_start(road: &LentRoad, i: usize) -> f64
     ensures { result ≡ (section_of road.now i).start }
 {
-    if i < word(road.words, SECTION_COUNT_AT) {
-        number(road.numbers, SECTION_BASE + i)
-    } else {
-        f64::NAN
-    }
+    number(part(road.numbers, SECTION_BASE, section_count(road)), i)
 }
 
 // How many lanes a section has right of the center, or left of it.

@@ -19,18 +19,18 @@ pub returns-then-geom_count-geometry : goal.returns-then-geom_count-geometry
 returns-then-geom_count-geometry c =
     let a = c.args in
     posed-admitted a.words.now a.numbers.now a.samples.now a.geometry a.s c.in_ok-road.ensures
-    (λ r. pose-geometry a.words.now a.numbers.now a.samples.now a.geometry a.s r c.samples_needed.ensures.value c.if-samples-samples_needed.false c.geom_count.ensures c.if-geom_count-geometry.true)
+    (λ r. pose-geometry a.words.now a.numbers.now a.samples.now a.geometry a.s r c.samples_needed.ensures.value c.if-samples-samples_needed.false c.geom_count.ensures.value c.if-geom_count-geometry.true)
 
 pub returns-then-not-on_road : goal.returns-then-not-on_road
 returns-then-not-on_road c =
     let a = c.args in
     posed-admitted a.words.now a.numbers.now a.samples.now a.geometry a.s c.in_ok-road.ensures
-    (λ r. pose-station a.words.now a.numbers.now a.samples.now a.geometry a.s r c.samples_needed.ensures.value c.if-samples-samples_needed.false c.geom_count.ensures c.if-geom_count-geometry.false
+    (λ r. pose-station a.words.now a.numbers.now a.samples.now a.geometry a.s r c.samples_needed.ensures.value c.if-samples-samples_needed.false c.geom_count.ensures.value c.if-geom_count-geometry.false
     c.on_road.ensures c.if-not-on_road.true)
 
 pub returns : goal.returns
 returns c =
     let a = c.args in
     posed-admitted a.words.now a.numbers.now a.samples.now a.geometry a.s c.in_ok-road.ensures
-    (λ r. pose-found a.words.now a.numbers.now a.samples.now a.geometry a.s r c.samples_needed.ensures.value c.if-samples-samples_needed.false c.geom_count.ensures c.if-geom_count-geometry.false
+    (λ r. pose-found a.words.now a.numbers.now a.samples.now a.geometry a.s r c.samples_needed.ensures.value c.if-samples-samples_needed.false c.geom_count.ensures.value c.if-geom_count-geometry.false
     c.on_road.ensures c.if-not-on_road.false c.pose.ensures)

@@ -8,7 +8,7 @@ loop-i-init c = (all_start c.args.road.now, all_none c.args.road.now c.args.samp
 
 pub write_geom-requires : goal.write_geom-requires
 write_geom-requires c =
-    let n = c.geom_count-i-end.ensures in
+    let n = c.geom_count-i-end.ensures.value in
     let more = c.loop-i-test.true in
     let l = c.loop-i.auto.samples in
     let r = turn-room c.args.road.now c.loop-i.i (length c.args.samples.now) (omega arith) c.loop-i.invariant.0 c.geom-g.ensures c.sample_count-count.ensures.value c.requires in
@@ -19,7 +19,7 @@ overflow_mul-at c = omega (arith, c.sample_count-count.ensures.small)
 
 pub overflow_add-at : goal.overflow_add-at
 overflow_add-at c =
-    let n = c.geom_count-i-end.ensures in
+    let n = c.geom_count-i-end.ensures.value in
     let more = c.loop-i-test.true in
     let r = turn-room c.args.road.now c.loop-i.i (length c.args.samples.now) (omega arith) c.loop-i.invariant.0 c.geom-g.ensures c.sample_count-count.ensures.value c.requires in
     omega arith
@@ -34,7 +34,7 @@ loop-i-preserved c =
 
 pub returns : goal.returns
 returns c =
-    let n = c.geom_count-i-end.ensures in
+    let n = c.geom_count-i-end.ensures.value in
     let most = c.loop-i.auto.i-end in
     let end = c.loop-i-test.false in
     all_end c.args.road.now c.loop-i.i c.args.samples.now (omega arith) c.requires c.loop-i.invariant.1

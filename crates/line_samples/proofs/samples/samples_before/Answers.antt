@@ -11,7 +11,8 @@ overflow_add-sum c =
     let l = before-le c.args.road.now c.loop-k.k in
     let inv = c.loop-k.invariant in
     let test = c.loop-k-test.true in
-    let few = c.geoms_below-k-end.ensures.small in
+    let few = c.geom_count.ensures.small in
+    let least = c.min-k-end.ensures in
     let m = c.sample_count-sum.ensures.small in
     omega arith
 
@@ -23,7 +24,8 @@ returns c =
     let road = c.args.road.now in
     let inv = c.loop-k.invariant in
     let l = before-le road c.loop-k.k in
-    let n = c.geoms_below-k-end.ensures in
+    let n = c.geom_count.ensures in
+    let least = c.min-k-end.ensures in
     let at = c.loop-k.auto.k-end in
     let end = c.loop-k-test.false in
     record { value = inv ∙ before-done road c.args.i c.loop-k.k (omega arith); small = omega arith }

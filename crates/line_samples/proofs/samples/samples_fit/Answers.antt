@@ -10,7 +10,7 @@ loop-i-init c = (omega arith, sym (before-none c.args.road.now))
 pub returns-then-needed-gt-MOST_SAMPLES : goal.returns-then-needed-gt-MOST_SAMPLES
 returns-then-needed-gt-MOST_SAMPLES c =
     let road = c.args.road.now in
-    let n = c.geom_count-i-end.ensures in
+    let n = c.geom_count-i-end.ensures.value in
     let more = c.loop-i-test.true in
     fit-over road c.loop-i.i most_samples (omega arith)
     (before_more road c.loop-i.i c.loop-i.invariant.1 c.geom.ensures c.sample_count-needed.ensures.value)
@@ -22,6 +22,6 @@ loop-i-preserved c =
 
 pub returns : goal.returns
 returns c =
-    let n = c.geom_count-i-end.ensures in
+    let n = c.geom_count-i-end.ensures.value in
     let end = c.loop-i-test.false in
     fit_all c.args.road.now c.loop-i.i most_samples (omega arith) c.loop-i.invariant.1 c.loop-i.invariant.0

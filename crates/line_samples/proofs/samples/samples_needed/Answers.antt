@@ -4,4 +4,4 @@ use Rattle.line_samples.proofs.samples.samples_needed.Goals as goal
 
 pub returns : goal.returns
 unfolding samples_needed
-returns c = record { value = rw (← c.geom_count.ensures) c.samples_before.ensures.value; small = c.samples_before.ensures.small }
+returns c = record { value = rw (← c.geom_count.ensures.value) c.samples_before.ensures.value; small = c.samples_before.ensures.small }

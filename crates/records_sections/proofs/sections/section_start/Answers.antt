@@ -1,19 +1,12 @@
--- `section_start`: the i-th line of the table, or NaN.
-use native.Mathlib.Omega.{arith}
+-- `section_start`: the i-th of the starts, or NaN.
 use mathlib.Core.Path.{◌∙◌, ap, sym}
-use lib.Ieee.{of_bits}
-use Rattle.records.specs.Roads.{Section, section_in}
-use Rattle.records.proofs.RoadLaws.{section_in_lem, section-past}
+use lib.ListN.{length}
+use Rattle.records.specs.Roads.{Road, section_of}
+use Rattle.records.proofs.RoadLaws.{section-starts}
 use Rattle.records_sections.proofs.sections.section_start.Goals as goal
 
-pub returns-then-i-word : goal.returns-then-i-word
-unfolding section_in
-returns-then-i-word c =
+pub returns : goal.returns
+returns c =
     let r = c.road.inside in
-    rw (← c.road.view_is) (c.number.ensures ∙ sym (ap (λ (x : Section). x.start) (section_in_lem r.words.now r.numbers.now c.args.i (omega arith))))
-
-pub returns-else-i-word : goal.returns-else-i-word
-unfolding of_bits
-returns-else-i-word c =
-    let r = c.road.inside in
-    rw (← c.road.view_is) (sym (ap (λ (x : Section). x.start) (section-past r.words.now r.numbers.now c.args.i (omega arith))))
+    let n = c.section_count.ensures ∙ ap (λ (x : Road). length x.sections) (sym c.road.view_is) in
+    rw (← c.road.view_is) (c.number.ensures ∙ section-starts r.words.now r.numbers.now c.args.i n c.part.ensures)

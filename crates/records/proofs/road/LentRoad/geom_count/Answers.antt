@@ -4,4 +4,4 @@ use Rattle.records.proofs.RoadLaws.{geom_count_lem}
 use Rattle.records.proofs.road.LentRoad.geom_count.Goals as goal
 
 pub returns : goal.returns
-returns c = rw (← c.self.view_is) (c.word.ensures.value ∙ sym (geom_count_lem _ _))
+returns c = record { value = rw (← c.self.view_is) (c.word.ensures.value ∙ sym (geom_count_lem _ _)); small = c.word.ensures.small }
