@@ -20,10 +20,9 @@ use lib.Ieee.Exact.{HasValue}
 use lib.Ieee.Positive.{positive, positive_of_value, value_pos}
 use Rattle.float_laws.proofs.Value.{mag, units_of, mag_of}
 use borrow.Author.Tests.{ltb-true, ltb-false}
-use Rattle.arithmetic.specs.RootSteps.{RootOf}
 use Rattle.arithmetic.specs.Root.{whole_root}
 use Rattle.arithmetic.specs.Root.{root_units, root_of, NearestRoot}
-use Rattle.arithmetic.proofs.RootRounded.{whole_is, even-or-odd, half-even, half-odd, root_ge, root-value, square-ge, square-gt, square-lt}
+use Rattle.arithmetic.proofs.RootRounded.{RootOf, whole_is, even-or-odd, half-even, half-odd, root_ge, root-value, square-ge, square-gt, square-lt}
 use Rattle.arithmetic.proofs.RootValues.{root_of-value, root-fits}
 use Rattle.arithmetic.proofs.RootCases.{wide}
 
