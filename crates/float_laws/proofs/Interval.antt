@@ -3,7 +3,7 @@
 use mathlib.Core.Path.{◌≡◌, refl, sym, ap, ◌∙◌, subst}
 use mathlib.Core.Logic.{◌⊎◌, inl, inr}
 use Prim.Native.Nat.{ℕ, ◌+◌, ◌-◌, ◌*◌, ◌/◌, ◌^◌, ◌≤◌, ◌<◌, zero-le}
-use native.Mathlib.Nat.{le_trans, le_of_eq, lt_of_le_of_lt, lt_of_lt_of_le, mul-le-mul_right, mul-le-mul_left, eq-zero-or-pos, lt_irrefl, zero-mul}
+use native.Mathlib.Nat.{le_trans, le_of_eq, lt_of_le_of_lt, lt_of_lt_of_le, mul-le-mul_right, mul-le-mul_left, eq-zero-or-pos, zero-mul}
 use native.Mathlib.Omega.{arith}
 use mathlib.Core.Bool.{Bool, true, false, not, cond}
 use lib.IntN.{pos}
@@ -13,7 +13,7 @@ use lib.Ieee.{Float, nan, inf, fin, Format, low, le, neg, add, sub, mul, div, fi
 use lib.Ieee.Fits.{add-fits, mul-fits, sub-fits, div-fits}
 use lib.Ieee.Scale.{finite}
 use Rattle.float_laws.proofs.Units.{rnd, rnd-zero}
-use Rattle.float_laws.proofs.Value.{sign, sp, mag, pl, mi, Real, mag_is, pl-under, mi-under, parts→le, one_side, units→le, le→units, le_refl, le_trans', nle→le, neg-real, neg-pl, neg-mi}
+use Rattle.float_laws.proofs.Value.{sign-plus, mag, pl, mi, Real, mag_is, pl-under, mi-under, parts→le, one_side, units→le, le→units, le_refl, le_trans', nle→le, neg-real, neg-pl, neg-mi}
 use Rattle.float_laws.proofs.Operation.{Is, add-Is, sub-Is, mul-Is, div-Is, is-mag, scale-differ, rnd-order}
 
 -- lo ≤ x ≤ hi, all finite
@@ -169,7 +169,7 @@ chain : (p n q m r s : ℕ) → p + m ≤ q + n → q + s ≤ r + m → p + s �
 chain p n q m r s h k = omega arith
 
 -- over one denominator
-spread : (p n q r c : ℕ) → p + r ≤ q + n → p * c + r * c ≤ q * c + n * c
+pub spread : (p n q r c : ℕ) → p + r ≤ q + n → p * c + r * c ≤ q * c + n * c
 spread p n q r c h = let k : (p + r) * c ≤ (q + n) * c = mul-le-mul_right c h in omega arith
 
 module _ (f : Format) (a b c d x y : Float) (i : In f a b x) (j : In f c d y) where
@@ -342,13 +342,6 @@ module _ (f : Format) (a b x : Float) (i : In f a b x) (ta : T (finite (mul f a 
       sq-under.0 (most-is f (mul f a a) (mul f b b) (real f (mul f a a) ta (mul-fits f a a)) (real f (mul f b b) tb (mul-fits f b b))).0 sq-under.1 sq-over
 
 -- ---- quotients, by what is above zero
-sign_of_lem : (f : Format) (y : Float) → 0 < pl f y → sign y ≡ false
-unfolding pl
-sign_of_lem f y = go (sign y)
-  where
-    go : (s : Bool) → 0 < sp s (mag f y) → s ≡ false
-    go false h = refl
-    go true h = absurd (lt_irrefl 0 h)
 
 -- by a divisor above zero, with no case on a sign
 pub div-Is' : (f : Format) (x y : Float) → Real f x → Real f y → 0 < pl f y → Is f (div f x y) (pl f x * 2 ^ low f) (mi f x * 2 ^ low f) (pl f y)
@@ -357,7 +350,7 @@ div-Is' f x y r q h =
     let e : mag f y ≡ pl f y = elim (one_side f y) [ inl z ↦ omega arith | inr z ↦ omega arith ] in
     let i = div-Is f x y r q (omega arith) in
     subst (λ (n : ℕ). Is f (div f x y) (pl f x * 2 ^ low f) (mi f x * 2 ^ low f) n) e
-    (subst (λ (s : Bool). Is f (div f x y) (cond s (mi f x) (pl f x) * 2 ^ low f) (cond s (pl f x) (mi f x) * 2 ^ low f) (mag f y)) (sign_of_lem f y h) i)
+    (subst (λ (s : Bool). Is f (div f x y) (cond s (mi f x) (pl f x) * 2 ^ low f) (cond s (pl f x) (mi f x) * 2 ^ low f) (mag f y)) (sign-plus f y h) i)
 
 -- the size of a quotient is the rounded quotient of the sizes
 pub div-mag : (f : Format) (x y : Float) → Real f x → Real f y → 0 < pl f y → T (finite (div f x y)) → mag f (div f x y) ≡ rnd f (mag f x * 2 ^ low f) (pl f y)

@@ -15,12 +15,12 @@ use lib.Ieee.Exact.{HasValue, units_val}
 use lib.Ieee.Fits.{down_pos, and_l, and_i, eq→eqb}
 use lib.Ieee.Scale.{overflow}
 use Rattle.float_laws.proofs.Units.{rnd, rnd-err, rnd-zero, rnd-exact, rnd-multiple}
-use Rattle.float_laws.proofs.Value.{sign, mag, pl, mi, Real, mag_is, mag_of, units_of}
+use Rattle.float_laws.proofs.Value.{sign, mag, pl, mi, Real, mag_is, mag_of, or_r, units_of, sign-plus}
 use Rattle.float_laws.proofs.Operation.{Is, add-Is, sub-Is, round-has}
 use Rattle.float_laws.proofs.Exact.{fixed}
 use Rattle.float_laws.proofs.Pattern.{bits_of, units-bits}
 pub use Rattle.float_laws.proofs.Pattern.{twice_hid}
-use Rattle.float_laws.proofs.Same.{own_value, same-value, sign-plus}
+use Rattle.float_laws.proofs.Same.{own_value, same-value}
 
 -- ---- what holds of the two formats
 room : (f : Format) → prec f < suc (emax f)
@@ -150,10 +150,6 @@ not-zero f (fin s m e) r h = elim (eq-zero-or-pos (mag f (fin s m e))) [
       absurd (T_not (eqb a b && (beq s false || eqb a 0)) h (and_i (eqb a b) (beq s false || eqb a 0) (eq→eqb t) (or_r (beq s false) (eqb a 0) (eq→eqb t0))))
   | inr o ↦ o
 ]
-  where
-    or_r : (a b : Bool) → T b → T (a || b)
-    or_r true b t = tt
-    or_r false b t = t
 
 -- ---- the sum with a whole c
 -- x + c lies among the values that the format counts in steps of 1
