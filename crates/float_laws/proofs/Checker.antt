@@ -10,7 +10,8 @@ use native.Mathlib.Omega.{arith}
 use lib.Ieee.{Float, nan, fin, Format, lt, le, neg, add, sub, mul, div, fits}
 use lib.Ieee.Fits.{and_l, and_r}
 use lib.Ieee.Scale.{finite}
-use Rattle.float_laws.proofs.Value.{Real, le_refl, le_trans', nle→le, le→units, lt→units, nlt→units}
+use Rattle.std.proofs.lemmas.Float.{le_trans as float_trans}
+use Rattle.float_laws.proofs.Value.{Real, le_refl, nle→le, le→units, lt→units, nlt→units}
 use Rattle.float_laws.proofs.Interval.{In, least, most, least-is, most-is, nil, sq-low, add-in, sub_in, neg-in, mul_in, sq-in, div-in}
 
 -- ---- code. `pick a b c d` is `if a < b { c } else { d }`. `bind e b` is `let x = e; b`, with x as variable 0 of b and the others one up
@@ -195,7 +196,7 @@ hull-l f (iv a b) bad u v p q = tt
 hull-l f (iv a b) (iv c d) u v p q =
     let l = least-is f a c p.low q.low in
     let m = most-is f b d p.high q.high in
-    record { low = l.0; high = m.0; value = p.value; above = le_trans' f (least a c) a u l.0 p.low p.value l.1 p.above; below = le_trans' f u b (most b d) p.value p.high m.0 p.below m.1 }
+    record { low = l.0; high = m.0; value = p.value; above = float_trans (least a c) a u l.1 p.above; below = float_trans u b (most b d) p.below m.1 }
 
 hull-r : (f : Format) (i j : Iv) (u v : Float) → Holds f i u → Holds f j v → Holds f (hull i j) v
 unfolding hull
@@ -204,7 +205,7 @@ hull-r f (iv a b) bad u v p q = tt
 hull-r f (iv a b) (iv c d) u v p q =
     let l = least-is f a c p.low q.low in
     let m = most-is f b d p.high q.high in
-    record { low = l.0; high = m.0; value = q.value; above = le_trans' f (least a c) c v l.0 q.low q.value l.2 q.above; below = le_trans' f v d (most b d) q.value q.high m.0 q.below m.2 }
+    record { low = l.0; high = m.0; value = q.value; above = float_trans (least a c) c v l.2 q.above; below = float_trans v d (most b d) q.below m.2 }
 
 -- the tests at the ends decide the test inside
 sure : (f : Format) (a b c d x y : Float) → In f a b x → In f c d y → T (lt b c) → T (not (lt x y)) → ⊥
@@ -273,8 +274,8 @@ widen f lo hi x (iv a b) l h t p = record {
   low = l;
   high = h;
   value = p.value;
-  above = le_trans' f lo a x l p.low p.value (and_l (le lo a) (le b hi) t) p.above;
-  below = le_trans' f x b hi p.value p.high h p.below (and_r (le lo a) (le b hi) t);
+  above = float_trans lo a x (and_l (le lo a) (le b hi) t) p.above;
+  below = float_trans x b hi p.below (and_r (le lo a) (le b hi) t);
 }
 
 -- the interval of e lies in [lo, hi]

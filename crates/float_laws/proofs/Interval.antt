@@ -12,8 +12,9 @@ use lib.Pow.{pow_pos}
 use lib.Ieee.{Float, nan, inf, fin, Format, low, le, neg, add, sub, mul, div, fits}
 use lib.Ieee.Fits.{add-fits, mul-fits, sub-fits, div-fits}
 use lib.Ieee.Scale.{finite}
+use Rattle.std.proofs.lemmas.Float.{le_trans as float_trans}
 use Rattle.float_laws.proofs.Units.{rnd, rnd-zero}
-use Rattle.float_laws.proofs.Value.{sign-plus, mag, pl, mi, Real, mag_is, pl-under, mi-under, parts→le, one_side, units→le, le→units, le_refl, le_trans', nle→le, neg-real, neg-pl, neg-mi}
+use Rattle.float_laws.proofs.Value.{sign-plus, mag, pl, mi, Real, mag_is, pl-under, mi-under, parts→le, one_side, units→le, le→units, le_refl, nle→le, neg-real, neg-pl, neg-mi}
 use Rattle.float_laws.proofs.Operation.{Is, add-Is, sub-Is, mul-Is, div-Is, is-mag, scale-differ, rnd-order}
 
 -- lo ≤ x ≤ hi, all finite
@@ -236,11 +237,11 @@ module _ (f : Format) (a b c d x y : Float) (i : In f a b x) (j : In f c d y) wh
       let m = most-is f (most (mul f a c) (mul f a d)) (most (mul f b c) (mul f b d)) m1.0 m2.0 in
       enclose f (mul f x y) _ _ (PP (pl f x) (mi f x) (pl f y) (mi f y)) (NN (pl f x) (mi f x) (pl f y) (mi f y)) (2 ^ low f) (mul-Is f x y i.value j.value) l.0 m.0
       (mul-under _ l.0 t1 t2 t3 t4
-      (le_trans' f _ _ _ l.0 l1.0 r1 l.1 l1.1) (le_trans' f _ _ _ l.0 l1.0 r2 l.1 l1.2)
-      (le_trans' f _ _ _ l.0 l2.0 r3 l.2 l2.1) (le_trans' f _ _ _ l.0 l2.0 r4 l.2 l2.2))
+      (float_trans _ _ _ l.1 l1.1) (float_trans _ _ _ l.1 l1.2)
+      (float_trans _ _ _ l.2 l2.1) (float_trans _ _ _ l.2 l2.2))
       (mul-over _ m.0 t1 t2 t3 t4
-      (le_trans' f _ _ _ r1 m1.0 m.0 m1.1 m.1) (le_trans' f _ _ _ r2 m1.0 m.0 m1.2 m.1)
-      (le_trans' f _ _ _ r3 m2.0 m.0 m2.1 m.2) (le_trans' f _ _ _ r4 m2.0 m.0 m2.2 m.2))
+      (float_trans _ _ _ m1.1 m.1) (float_trans _ _ _ m1.2 m.1)
+      (float_trans _ _ _ m2.1 m.2) (float_trans _ _ _ m2.2 m.2))
 
 -- ---- squares: [a, b] not below zero, not above zero, or across it
 abbrev pub nil : Float
