@@ -129,5 +129,5 @@ module _ (p : ℕ → Point) (n : ℕ) (placed : (i : ℕ) → i < n → Placed 
       (λ (e : i ≡ suc j). subst (λ (k : ℕ). T (le (length_to p k) (length_to p (suc j)))) (sym e) (float-refl binary32 (length_to p (suc j)) (lengths (suc j) l).real))
       (λ (g : i < suc j).
       let a = lengths j (omega arith) in
-      le_trans' binary32 (length_to p i) (length_to p j) (length_to p (suc j)) (lengths i (omega arith)).real a.real (lengths (suc j) l).real (lengths_rise i j (le_of_suc-le-suc g) (omega arith)) (grown j l a).2)
+      float_trans (length_to p i) (length_to p j) (length_to p (suc j)) (lengths_rise i j (le_of_suc-le-suc g) (omega arith)) (grown j l a).2)
       (eq-or-lt_of_le h)

@@ -5,12 +5,6 @@ use Prim.Native.Nat.{suc, ◌+◌, ◌-◌, ◌*◌, ◌/◌, ◌^◌}
 use Rattle.arithmetic.proofs.RootDigits.{root-next, root-small, two-small}
 use Rattle.arithmetic.proofs.root_digits.Partial.upper.Goals as goal
 
-pub invariant_of-s : goal.invariant_of-s
-invariant_of-s c = record { little = c.loop-k.invariant.below }
-
-pub invariant_of-s-2 : goal.invariant_of-s-2
-invariant_of-s-2 c = record { little = c.loop-k.invariant.below }
-
 pub digit-s-requires : goal.digit-s-requires
 digit-s-requires c =
     let at = c.loop-k in
