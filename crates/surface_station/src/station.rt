@@ -28,6 +28,7 @@ pub fn bearing_at(road: &LentRoad, samples: &[f64], s: f64) -> Bearing
 }
 
 // The sine and the cosine of the bank at s, which needn't be worked out for a road without banks.
+#[tactic(auto, using(crate::proofs::BankLaws::no_bank))]
 pub fn bank_at(road: &LentRoad, s: f64) -> SinCos
     ensures { result ≡ sin_cos_of (value_in road.now.superelevations s) }
 {
