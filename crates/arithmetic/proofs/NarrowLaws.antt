@@ -3,7 +3,7 @@ use mathlib.Core.Path.{◌≡◌, sym, ap, ◌∙◌}
 use mathlib.Core.Bool.{Bool, true, false}
 use mathlib.Core.Logic.{◌⊎◌, inl, inr}
 use Prim.Native.Nat.{ℕ, suc, ◌+◌, ◌-◌, ◌*◌, ◌^◌, ◌≤◌, ◌<◌}
-use native.Mathlib.Nat.{le_trans, le_of_eq, lt_of_le_of_lt, lt_of_lt_of_le, mul_assoc, mul-le-mul_right, mul-lt-mul_of_pos_right}
+use native.Mathlib.Nat.{le_trans, le_of_eq, lt_of_le_of_lt, lt_of_lt_of_le, mul_assoc, mul-lt-mul_of_pos_right}
 use native.Mathlib.Omega.{arith}
 use lib.Dec.{T}
 use lib.Pow.{pow-add, pow_pos, pow_mono}
@@ -12,6 +12,7 @@ use lib.Ieee.Fits.{down_pos}
 use lib.Ieee.Scale.{finite, overflow}
 use Rattle.float_laws.proofs.Units.{rnd, rnd-le, rnd-exact}
 use Rattle.float_laws.proofs.Value.{mag, pl, mi, sp, sn, Real, units_of, mag_is, one_side, le→units}
+use Rattle.float_laws.proofs.Interval.{spread}
 use Rattle.float_laws.proofs.Operation.{Is, round-Is}
 use Rattle.float_laws.proofs.Exact.{is_le}
 use Rattle.arithmetic.specs.Narrow.{narrowed}
@@ -54,9 +55,6 @@ narrow-Is (fin s m e) r =
     (plus-part s n) (minus-part s n)
 
 -- ---- the order
-
-spread : (P N Q R c : ℕ) → P + R ≤ Q + N → P * c + R * c ≤ Q * c + N * c
-spread P N Q R c h = let k : (P + R) * c ≤ (Q + N) * c = mul-le-mul_right c h in omega arith
 
 -- narrowing keeps the order, of values that do not overflow
 pub narrow-mono : (x y : Float) → Real binary64 x → Real binary64 y → T (finite (narrowed x)) → T (finite (narrowed y)) → T (le x y) → T (le (narrowed x) (narrowed y))

@@ -6,8 +6,8 @@ use native.Mathlib.Numerals.{add-one}
 use native.Mathlib.Omega.{arith}
 use lib.Pow.{pow-add, pow_pos, pow_mono}
 use lib.Ieee.{Format, binary32, binary64, prec, emax, of_bits, low, hid, ones}
-use Rattle.arithmetic.specs.RootSteps.{RootOf, RootsTo}
-use Rattle.arithmetic.proofs.RootRounded.{root-pattern, pattern_lt}
+use Rattle.arithmetic.specs.RootSteps.{RootsTo}
+use Rattle.arithmetic.proofs.RootRounded.{RootOf, root-pattern, pattern_lt}
 
 -- ---- the places from the leading digit of m up to the p-th, by the zeros of a word of v digits that stand before it
 

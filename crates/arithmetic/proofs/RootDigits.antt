@@ -1,13 +1,12 @@
--- A root digit by digit: two digits of the number n under the root come down at a time, and with k places left `RootOf` holds of the digits of n that came down.
+-- A root digit by digit: two digits of the number n under the root come down at a time, and with k places left `under` is the digits of n that came down.
 -- One step (`digit`) is `omega`'s: from root² + rem to (2 * root + b)² + rem' of four times that number and two digits more.
-use mathlib.Core.Path.{◌≡◌, sym, ap, ◌∙◌, subst}
+use mathlib.Core.Path.{◌≡◌, sym, ap, ◌∙◌}
 use mathlib.Core.Logic.{◌⊎◌}
 use Prim.Native.Nat.{ℕ, suc, ◌+◌, ◌*◌, ◌/◌, ◌%◌, ◌^◌, ◌≤◌, ◌<◌}
 use native.Mathlib.Nat.{le_trans, lt_of_lt_of_le, lt_of_le_of_lt, le_of_suc-le-suc, div-div-eq-div-mul, div-add-mod'}
 use native.Mathlib.Omega.{arith}
 use lib.Pow.{pow-add, pow_mono}
-use Rattle.arithmetic.specs.RootSteps.{RootOf}
-use Rattle.arithmetic.proofs.RootRounded.{sq-lt, root-whole}
+use Rattle.arithmetic.proofs.RootRounded.{RootOf, sq-lt, root-whole}
 
 -- what `next_digit` promises
 abbrev pub Digit : ℕ → ℕ → ℕ → Type 0
@@ -22,14 +21,14 @@ quarter : (w : ℕ) → w / 4 * 4 + w % 4 ≡ w
 quarter w = div-add-mod' w 4
 
 -- one place more, by what `digit` promises
-pub root-next : (n k r q : ℕ) {r' q' two : ℕ} → RootOf (n / 2 ^ (2 * suc k)) r q → two ≡ n / 2 ^ (2 * k) % 4 → RootOf ((r * r + q) * 4 + two) r' q'
-    → RootOf (n / 2 ^ (2 * k)) r' q'
-root-next n k r q {r'} {q'} {two} h e g =
+pub root-next : (n k : ℕ) {u v two : ℕ} → u ≡ n / 2 ^ (2 * suc k) → two ≡ n / 2 ^ (2 * k) % 4 → v ≡ u * 4 + two → v ≡ n / 2 ^ (2 * k)
+root-next n k {u} {v} {two} h e g =
     let w = n / 2 ^ (2 * k) in
     let s : 2 * suc k ≡ 2 * k + 2 = omega arith in
     let a : n / 2 ^ (2 * suc k) ≡ w / 4 = ap (λ (z : ℕ). n / 2 ^ z) s ∙ ap (λ (z : ℕ). n / z) (pow-add 2 (2 * k) 2) ∙ sym (div-div-eq-div-mul n (2 ^ (2 * k)) 4) in
-    let b : (r * r + q) * 4 + two ≡ w = ap (λ (z : ℕ). z * 4 + two) (h.square ∙ a) ∙ ap (λ (z : ℕ). w / 4 * 4 + z) e ∙ quarter w in
-    subst (λ (z : ℕ). RootOf z r' q') b g
+    let b : u ≡ w / 4 = h ∙ a in
+    let q = quarter w in
+    omega arith
 
 -- ---- how large a root is
 

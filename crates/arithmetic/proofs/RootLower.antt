@@ -5,16 +5,16 @@ use native.Mathlib.Nat.{le_trans, le_of_suc-le-suc, mul-le-mul, mul-le-mul_left,
 use native.Mathlib.Omega.{arith}
 use mathlib.Core.Path.{◌≡◌, ap}
 use mathlib.Core.Logic.{inl, inr}
-use Rattle.arithmetic.specs.RootSteps.{RootOf}
+use Rattle.arithmetic.proofs.RootRounded.{RootOf}
 use Rattle.arithmetic.proofs.RootDigits.{Digit}
 
-module _ (a q0 h : ℕ) (pre : (0 < h) × (h ≤ a) × (a < 2 ^ 27) × (q0 ≤ 2 * a)) where
+module _ (a q0 h : ℕ) (pre : (0 < h) × (h ≤ a) × (a < 2 ^ 27)) (little : q0 ≤ 2 * a) where
   positive : 0 < a
   positive = omega arith
 
   quotient_le : q0 * h / a ≤ 2 * h
   quotient_le =
-      let s : q0 * h ≤ 2 * a * h = mul-le-mul_right h pre.3 in
+      let s : q0 * h ≤ 2 * a * h = mul-le-mul_right h little in
       let p = positive in
       le_of_suc-le-suc ((div-lt_iff_lt-mul positive).1 (let l : q0 * h < suc (2 * h) * a = omega arith in l))
 
@@ -83,8 +83,9 @@ module _ (a q0 h : ℕ) (pre : (0 < h) × (h ≤ a) × (a < 2 ^ 27) × (q0 ≤ 2
     pub square : (q - d) * (q - d) ≤ 2 ^ 56
     pub root : a * (2 * h) + (q - d) ≤ 2 ^ 55
 
-  pub late : (d : ℕ) → Lowered (q0 * h / a) (q0 * h % a) d → Late (q0 * h / a) (q0 * h % a) d
-  late d t =
+  pub late : (d : ℕ) → Digit (q0 * h % a * (4 * h) + 1) (q0 * h / a * (q0 * h / a)) d → Late (q0 * h / a) (q0 * h % a) d
+  late d digit =
+      let t = lowered d digit in
       let q = q0 * h / a in
       let u = q0 * h % a in
       let l = left_lt in

@@ -20,10 +20,9 @@ use lib.Ieee.Exact.{HasValue}
 use lib.Ieee.Positive.{positive, positive_of_value, value_pos}
 use Rattle.float_laws.proofs.Value.{mag, units_of, mag_of}
 use borrow.Author.Tests.{ltb-true, ltb-false}
-use Rattle.arithmetic.specs.RootSteps.{RootOf}
 use Rattle.arithmetic.specs.Root.{whole_root}
 use Rattle.arithmetic.specs.Root.{root_units, root_of, NearestRoot}
-use Rattle.arithmetic.proofs.RootRounded.{whole_is, even-or-odd, half-even, half-odd, root_ge, root-value, square-ge, square-gt, square-lt}
+use Rattle.arithmetic.proofs.RootRounded.{RootOf, whole_is, even-or-odd, half-even, half-odd, root_ge, root-value, square-ge, square-gt, square-lt}
 use Rattle.arithmetic.proofs.RootValues.{root_of-value, root-fits}
 use Rattle.arithmetic.proofs.RootCases.{wide}
 
@@ -156,13 +155,10 @@ above-sq S x y h k = let a : 2 * x * (2 * x) ≤ y * y = mul-le-mul k k in let b
 
 below-sq : (S x y : ℕ) → x * x ≤ S → y < 2 * x → y * y < 4 * S
 below-sq S x y h k =
-    let a : y * y ≤ y * (2 * x) = mul-le-mul (le_refl y) (le_of_lt' y (2 * x) k) in
+    let a : y * y ≤ y * (2 * x) = mul-le-mul (le_refl y) (le_of_lt k) in
     let b : y * (2 * x) < 2 * x * (2 * x) = mul-lt-mul_of_pos_right k (omega arith) in
     let c = sq-double x in
     omega arith
-  where
-    le_of_lt' : (a b : ℕ) → a < b → a ≤ b
-    le_of_lt' a b h = omega arith
 
 below-sq' : (S x y : ℕ) → x * x < S → y ≤ 2 * x → y * y < 4 * S
 below-sq' S x y h k = let a : y * y ≤ 2 * x * (2 * x) = mul-le-mul k k in let b = sq-double x in omega arith

@@ -21,7 +21,6 @@ use lib.Ieee.Scale.{overflow}
 use borrow.Author.Tests.{leb-true, leb-false, eqb-true, ltb-true, ltb-false}
 use Rattle.float_laws.proofs.Pattern.{twice_hid, drops, below-infinite, round-pattern}
 use Rattle.float_laws.proofs.Nearest.{rounds-down, rounds-up}
-use Rattle.arithmetic.specs.RootSteps.{RootOf}
 use Rattle.arithmetic.specs.Root.{grown, whole_root, root_units}
 
 -- ---- squares
@@ -33,6 +32,11 @@ sq-lt x y h = lt_of_not-le (λ (g : y ≤ x). not-le_of_lt h (mul-le-mul g g))
 pub record WholePart (n r : ℕ) : Type 0 where
   pub at_most : r * r ≤ n
   pub above : n < suc r * suc r
+
+-- root is the largest number whose square is at most n, and rem what n is above that square
+pub record RootOf (n root rem : ℕ) : Type 0 where
+  pub square : root * root + rem ≡ n
+  pub below : rem ≤ 2 * root
 
 pub root-whole : {n r q : ℕ} → RootOf n r q → WholePart n r
 root-whole {n} {r} {q} h = let a = h.square in let b = h.below in record { at_most = omega arith; above = omega arith }

@@ -1,13 +1,13 @@
 -- What the private functions of `root_digits` and `square_root` promise one another. Nothing public is said in these words: see Root.antt.
-use Rattle.std.specs.Prelude.{ℕ, ◌+◌, ◌*◌, ◌^◌, ◌≤◌, ◌<◌, ◌≡◌, ◌==◌, cond}
+use Rattle.std.specs.Prelude.{ℕ, ◌+◌, ◌*◌, ◌^◌, ◌<◌, ◌≡◌, ◌==◌, cond}
 use Rattle.std.specs.Float.{Format, binary32, binary64}
 use Rattle.std.specs.Float.Ieee.{of_bits, prec, hid, ones}
 use Rattle.arithmetic.specs.Root.{root_units}
+use Rattle.arithmetic.specs.declared.root_digits.Partial.{Partial}
 
--- root is the largest number whose square is at most n, and rem what n is above that square
-pub record RootOf (n root rem : ℕ) : Type 0 where
-  pub square : root * root + rem ≡ n
-  pub below : rem ≤ 2 * root
+-- the number under a root so far: its square and what is left
+abbrev pub under : Partial → ℕ
+under s = s.root * s.root + s.rem
 
 -- the pattern r, below the infinity's, is the root of m * 2 ^ j smallest values
 pub record RootsTo (f : Format) (m j r : ℕ) : Type 0 where

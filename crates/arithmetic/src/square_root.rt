@@ -13,7 +13,7 @@ ghost use Rattle.arithmetic.specs.Root.{root_of, hypot_of};
 ghost use Rattle.arithmetic.specs.RootSteps.{RootsTo, Width, format_of};
 
 use crate::bits::{places, power};
-use crate::root_digits::digits;
+use crate::root_digits::Partial;
 use std::num::{
     f32_from_bits_with_nan, f32_to_bits_with_nan, f64_from_bits_with_nan, f64_to_bits_with_nan,
 };
@@ -31,7 +31,7 @@ fn pattern<const P: u64, const ONES: u64>(m: u64, j: u64) -> u64
     let e = j + (ONES / 2 - 3) - z;
     // the upper digits: 27 of an f64's 54; of an f32's 25 they are 13, and the root of 2 * m
     let upper = P / 2 + 1;
-    let r = digits(
+    let r = Partial::of(
         m * power(z) * (1 + e % 2) * (2 - P % 2),
         upper,
         power(P - upper),

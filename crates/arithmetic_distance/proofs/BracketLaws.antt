@@ -3,15 +3,15 @@ use mathlib.Core.Path.{◌≡◌, refl}
 use mathlib.Core.Bool.{Bool, true, false, not, ◌&&◌}
 use Prim.Native.Nat.{ℕ, ◌+◌, ◌≤◌, ◌<◌}
 use native.Mathlib.Omega.{arith}
-use lib.Dec.{T}
+use lib.Dec.{T, not_T}
 use lib.Ieee.{Float, nan, inf, fin, binary64, of_bits, mul, le, lt, fits}
 use lib.Ieee.Fits.{and_l, and_r}
-use lib.Ieee.Bits.{is_true}
+use lib.Ieee.Bits.{is_true, is_false}
 use lib.Ieee.Scale.{finite}
 use Rattle.std.specs.Bool.{passes}
 use Rattle.float_laws.specs.Binary64.{zero64}
 use Rattle.float_laws.proofs.Value.{pl, mi, Real, le→units, lt→units, units→lt}
-use Rattle.float_laws.proofs.Interval.{le→parts}
+use Rattle.float_laws.proofs.Interval.{from_zero, le→parts}
 use Rattle.float_laws.proofs.Size.{nn, add-nn, mul-nn, fin-of_le}
 use Rattle.float_laws.proofs.UnitVector.{squares2}
 use Rattle.arithmetic.specs.Root.{root_of}
@@ -29,10 +29,6 @@ square-nn (fin true m e) = mul-nn binary64 (fin false m e) (fin false m e) tt tt
 square-nn (fin false m e) = mul-nn binary64 (fin false m e) (fin false m e) tt tt
 
 -- ---- the tests of the brackets
-is_false : (b : Bool) → (T b → ⊥) → b ≡ false
-is_false true h = absurd (h tt)
-is_false false h = refl
-
 real_of : (x : Float) → T (real64 x) → Real binary64 x
 real_of x t = record { finite = and_l (finite x) (fits binary64 x) t; fits = and_r (finite x) (fits binary64 x) t }
 
@@ -66,19 +62,9 @@ bracketing low high bound e =
       root_high = and_r (lt (root_of binary64 low) bound) t5 g;
     }
 
-zero-real : Real binary64 zero64
-unfolding of_bits fits
-zero-real = record { finite = tt; fits = tt }
-
-zero_minus : mi binary64 zero64 ≡ 0
-unfolding of_bits mi
-zero_minus = refl
-
 not-below : (x : Float) → Real binary64 x → T (le zero64 x) → mi binary64 x ≡ 0
-not-below x r h = none (mi binary64 x) (mi binary64 zero64) (le→parts binary64 zero64 x zero-real r h).1 zero_minus
-  where
-    none : (m n : ℕ) → m ≤ n → n ≡ 0 → m ≡ 0
-    none m n h e = omega arith
+unfolding of_bits
+not-below x r h = from_zero binary64 x r h
 
 -- ---- what is not finite: at or above a finite number it is the infinity, whose root is itself
 endless : (sum high bound : Float) → T (not (finite sum)) → T (finite high) → T (finite bound) → T (le high sum) → lt (root_of binary64 sum) bound ≡ false
@@ -123,7 +109,7 @@ module _ (x y low high bound : Float) (fx : T (fits binary64 x)) (fy : T (fits b
         let r = root-real binary64 high w.high_real m in
         let a = le→units binary64 (root_of binary64 high) root r root_is-real k in
         let b = le→units binary64 bound (root_of binary64 high) w.bound_real r w.root_high in
-        is_false (lt root bound) (λ (l : T (lt root bound)). clash (pl binary64 root) (mi binary64 root) (pl binary64 bound) (mi binary64 bound) (pl binary64 (root_of binary64 high)) (mi binary64 (root_of binary64 high)) a b (lt→units binary64 root bound root_is-real w.bound_real l))
+        is_false (lt root bound) (not_T (lt root bound) (λ (l : T (lt root bound)). clash (pl binary64 root) (mi binary64 root) (pl binary64 bound) (mi binary64 bound) (pl binary64 (root_of binary64 high)) (mi binary64 (root_of binary64 high)) a b (lt→units binary64 root bound root_is-real w.bound_real l)))
       where
         clash : (p n q m a b : ℕ) → a + n ≤ p + b → q + b ≤ a + m → p + m < q + n → ⊥
         clash p n q m a b h g l = omega arith

@@ -11,12 +11,11 @@ use lib.Dec.{T, eqb, lit≤, lit<}
 use lib.IntN.{pos}
 use lib.Ieee.{Float, fin, binary64, le, neg, add, sub, mul, div, fits, of_bits}
 use lib.Ieee.Scale.{finite}
-use Rattle.float_laws.proofs.Value.{mag, pl, mi, mag_is, one_side, le→units, units→le}
+use Rattle.float_laws.proofs.Value.{mag, pl, mi, mag_is, one_side, le→units, units→le, sign-plus}
 use Rattle.float_laws.proofs.Interval.{In, least, most, sq-low}
 use Rattle.float_laws.proofs.Size.{Within, in-of-within, neg-mag, neg-within, within-trans}
 use Rattle.float_laws.proofs.Order.{div-within}
 use Rattle.float_laws.proofs.Checker.{Ex, var, con, plus, times, eval, iv, check, checked, good-real}
-use Rattle.float_laws.proofs.Same.{sign-plus}
 use Rattle.float_laws.proofs.Zero.{sub-zero}
 use Rattle.float_laws.proofs.Whole.{Whole, unit}
 use Rattle.arithmetic_sine.specs.Floor.{floor_of, quarter_of}

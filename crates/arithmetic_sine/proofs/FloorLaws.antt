@@ -12,11 +12,11 @@ use lib.Ieee.{Float, nan, inf, fin, Format, prec, low, up, down, hid, round, add
 use lib.Ieee.Fits.{down_pos, round-fits}
 use Rattle.std.specs.Float.{floor, round_with}
 use Rattle.float_laws.proofs.Units.{rnd}
-use Rattle.float_laws.proofs.Value.{sign, sp, sn, mag, pl, mi, Real, mag_is, mag_of, one_side, under, units_of, le→units, units→le, lt→units, nlt→units}
+use Rattle.float_laws.proofs.Value.{sign, sp, sn, mag, pl, mi, Real, mag_is, mag_of, one_side, under, units_of, le→units, units→le, lt→units, nlt→units, sign-plus, sign-minus}
 use Rattle.float_laws.proofs.Value.{le_refl as le-refl'}
 use Rattle.float_laws.proofs.Operation.{round-has}
 use Rattle.float_laws.proofs.Exact.{fixed}
-use Rattle.float_laws.proofs.Same.{same-value, sign-plus, sign-minus}
+use Rattle.float_laws.proofs.Same.{same-value}
 use Rattle.float_laws.proofs.Whole.{Whole, Nearest, large-whole, twice_hid, steps-rnd, steps-under, steps-sub, one, one-whole, self-sub, parted}
 use Rattle.arithmetic_sine.specs.Floor.{floor_of, quarter_of}
 

@@ -2,7 +2,6 @@
 -- `sound`: a value lies in its interval, and is finite, wherever `ival` gives one. `check` is a Bool: where it computes to true, the fact is proved. `bisect` cuts one variable's interval as often as is needed.
 -- Assumes nothing.
 use mathlib.Core.List.{List, [], ◌∷◌}
-use mathlib.Core.Logic.{◌⊎◌, inl, inr}
 use Prim.Native.Nat.{ℕ, zero, suc}
 use mathlib.Core.Bool.{Bool, true, false, not, ◌&&◌, cond}
 use lib.IntN.{negsuc}
@@ -11,7 +10,8 @@ use native.Mathlib.Omega.{arith}
 use lib.Ieee.{Float, nan, fin, Format, lt, le, neg, add, sub, mul, div, fits}
 use lib.Ieee.Fits.{and_l, and_r}
 use lib.Ieee.Scale.{finite}
-use Rattle.float_laws.proofs.Value.{Real, le_refl, le_trans', nle→le, le→units, lt→units, nlt→units}
+use Rattle.std.proofs.lemmas.Float.{le_trans as float_trans}
+use Rattle.float_laws.proofs.Value.{Real, le_refl, nle→le, le→units, lt→units, nlt→units}
 use Rattle.float_laws.proofs.Interval.{In, least, most, least-is, most-is, nil, sq-low, add-in, sub_in, neg-in, mul_in, sq-in, div-in}
 
 -- ---- code. `pick a b c d` is `if a < b { c } else { d }`. `bind e b` is `let x = e; b`, with x as variable 0 of b and the others one up
@@ -196,7 +196,7 @@ hull-l f (iv a b) bad u v p q = tt
 hull-l f (iv a b) (iv c d) u v p q =
     let l = least-is f a c p.low q.low in
     let m = most-is f b d p.high q.high in
-    record { low = l.0; high = m.0; value = p.value; above = le_trans' f (least a c) a u l.0 p.low p.value l.1 p.above; below = le_trans' f u b (most b d) p.value p.high m.0 p.below m.1 }
+    record { low = l.0; high = m.0; value = p.value; above = float_trans (least a c) a u l.1 p.above; below = float_trans u b (most b d) p.below m.1 }
 
 hull-r : (f : Format) (i j : Iv) (u v : Float) → Holds f i u → Holds f j v → Holds f (hull i j) v
 unfolding hull
@@ -205,7 +205,7 @@ hull-r f (iv a b) bad u v p q = tt
 hull-r f (iv a b) (iv c d) u v p q =
     let l = least-is f a c p.low q.low in
     let m = most-is f b d p.high q.high in
-    record { low = l.0; high = m.0; value = q.value; above = le_trans' f (least a c) c v l.0 q.low q.value l.2 q.above; below = le_trans' f v d (most b d) q.value q.high m.0 q.below m.2 }
+    record { low = l.0; high = m.0; value = q.value; above = float_trans (least a c) c v l.2 q.above; below = float_trans v d (most b d) q.below m.2 }
 
 -- the tests at the ends decide the test inside
 sure : (f : Format) (a b c d x y : Float) → In f a b x → In f c d y → T (lt b c) → T (not (lt x y)) → ⊥
@@ -274,8 +274,8 @@ widen f lo hi x (iv a b) l h t p = record {
   low = l;
   high = h;
   value = p.value;
-  above = le_trans' f lo a x l p.low p.value (and_l (le lo a) (le b hi) t) p.above;
-  below = le_trans' f x b hi p.value p.high h p.below (and_r (le lo a) (le b hi) t);
+  above = float_trans lo a x (and_l (le lo a) (le b hi) t) p.above;
+  below = float_trans x b hi p.below (and_r (le lo a) (le b hi) t);
 }
 
 -- the interval of e lies in [lo, hi]
@@ -322,64 +322,3 @@ bisected f (suc n) a b Γ e lo hi x ρ l h t i p =
         let r = good-real f m (and_l (good f m) (bisect f n a m Γ e lo hi && bisect f n m b Γ e lo hi) t) in
         let w = and_r (good f m) (bisect f n a m Γ e lo hi && bisect f n m b Γ e lo hi) t in
         half r (and_l (bisect f n a m Γ e lo hi) (bisect f n m b Γ e lo hi) w) (and_r (bisect f n a m Γ e lo hi) (bisect f n m b Γ e lo hi) w) k1 k2 (le x m) (λ (z : T (le x m)). z) (nle→le f x m i.value r)
-
--- ---- several variables: the box Γ is cut at the variables of the list, one after another, wherever the test fails on the whole
-pub data Cut : Type 0 where
-  uncut : Cut
-  cut : List Iv → List Iv → Cut
-
-unfoldable pub halves : Format → List Iv → ℕ → Cut
-unfolding middle
-halves f [] n = uncut
-halves f (bad ∷ Γ) zero = uncut
-halves f (iv a b ∷ Γ) zero = let m = middle f a b in cond (good f m) (cut (iv a m ∷ Γ) (iv m b ∷ Γ)) uncut
-halves f (v ∷ Γ) (suc n) = elim (halves f Γ n) [ uncut ↦ uncut | cut Δ Θ ↦ cut (v ∷ Δ) (v ∷ Θ) ]
-
--- the variables lie in one of the two halves
-abbrev pub Half : Format → Cut → List Float → Type 0
-Half f uncut ρ = Unit {0}
-Half f (cut Δ Θ) ρ = Inside f Δ ρ ⊎ Inside f Θ ρ
-
-in-half : (f : Format) (Γ : List Iv) (n : ℕ) (ρ : List Float) → Inside f Γ ρ → Half f (halves f Γ n) ρ
-unfolding halves
-in-half f [] n ρ h = tt
-in-half f (bad ∷ Γ) zero ρ h = tt
-in-half f (iv a b ∷ Γ) zero [] h = absurd h
-in-half f (iv a b ∷ Γ) zero (x ∷ ρ) h = go (good f (middle f a b)) (good-real f (middle f a b)) (le x (middle f a b)) (λ (t : T (le x (middle f a b))). t) (λ r. nle→le f x (middle f a b) h.0.value r)
-  where
-    m : Float
-    m = middle f a b
-
-    go : (g : Bool) → (T g → Real f m) → (c : Bool) → (T c → T (le x m)) → (Real f m → T (not c) → T (le m x)) → Half f (cond g (cut (iv a m ∷ Γ) (iv m b ∷ Γ)) uncut) (x ∷ ρ)
-    go false r c u v = tt
-    go true r true u v = inl (record { low = h.0.low; high = r tt; value = h.0.value; above = h.0.above; below = u tt }, h.1)
-    go true r false u v = inr (record { low = r tt; high = h.0.high; value = h.0.value; above = v (r tt) tt; below = h.0.below }, h.1)
-in-half f (v ∷ Γ) (suc n) [] h = absurd h
-in-half f (v ∷ Γ) (suc n) (x ∷ ρ) h = go (halves f Γ n) (in-half f Γ n ρ h.1)
-  where
-    go : (k : Cut) → Half f k ρ → Half f (elim k as (λ _. Cut) [ uncut ↦ uncut | cut Δ Θ ↦ cut (v ∷ Δ) (v ∷ Θ) ]) (x ∷ ρ)
-    go uncut p = tt
-    go (cut Δ Θ) (inl p) = inl (h.0, p)
-    go (cut Δ Θ) (inr p) = inr (h.0, p)
-
-unfoldable pub sweep : Format → List ℕ → List Iv → Ex → Float → Float → Bool
-unfolding check halves
-sweep f [] Γ e lo hi = check f Γ e lo hi
-sweep f (n ∷ ns) Γ e lo hi =
-    elim (check f Γ e lo hi) [
-      | true ↦ true
-      | false ↦ elim (halves f Γ n) [ uncut ↦ false | cut Δ Θ ↦ sweep f ns Δ e lo hi && sweep f ns Θ e lo hi ]
-    ]
-
--- what a sweep that computes to true proves
-pub swept : (f : Format) (ns : List ℕ) (Γ : List Iv) (ρ : List Float) (e : Ex) (lo hi : Float) → Real f lo → Real f hi → T (sweep f ns Γ e lo hi) → Inside f Γ ρ → In f lo hi (eval f ρ e)
-unfolding sweep
-swept f [] Γ ρ e lo hi l h t p = checked f Γ ρ e lo hi l h t p
-swept f (n ∷ ns) Γ ρ e lo hi l h t p = go (check f Γ e lo hi) (λ (u : T (check f Γ e lo hi)). u) (halves f Γ n) (in-half f Γ n ρ p) t (λ Δ. swept f ns Δ ρ e lo hi l h)
-  where
-    go : (c : Bool) → (T c → T (check f Γ e lo hi)) → (k : Cut) → Half f k ρ → T (elim c as (λ _. Bool) [ true ↦ true | false ↦ elim k as (λ _. Bool) [ uncut ↦ false | cut Δ Θ ↦ sweep f ns Δ e lo hi && sweep f ns Θ e lo hi ] ])
-        → ((Δ : List Iv) → T (sweep f ns Δ e lo hi) → Inside f Δ ρ → In f lo hi (eval f ρ e)) → In f lo hi (eval f ρ e)
-    go true u k q t r = checked f Γ ρ e lo hi l h (u tt) p
-    go false u uncut q t r = absurd t
-    go false u (cut Δ Θ) (inl q) t r = r Δ (and_l (sweep f ns Δ e lo hi) (sweep f ns Θ e lo hi) t) q
-    go false u (cut Δ Θ) (inr q) t r = r Θ (and_r (sweep f ns Δ e lo hi) (sweep f ns Θ e lo hi) t) q

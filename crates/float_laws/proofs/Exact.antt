@@ -12,8 +12,9 @@ use lib.Pow.{pow-add, pow_pos, pow-lt}
 use lib.Ieee.{Float, nan, inf, fin, Format, prec, emax, low, up, down, le, add, mul, fits}
 use lib.Ieee.Fits.{and_l, and_r, add-fits, mul-fits}
 use lib.Ieee.Scale.{finite}
+use Rattle.std.proofs.lemmas.Float.{le_trans as float_trans}
 use Rattle.float_laws.proofs.Units.{rnd, rnd-exact, rnd-zero}
-use Rattle.float_laws.proofs.Value.{mag, pl, mi, Real, mag_is, one_side, parts→le, le→units, le_trans'}
+use Rattle.float_laws.proofs.Value.{mag, pl, mi, Real, mag_is, one_side, parts→le, le→units}
 use Rattle.float_laws.proofs.Operation.{Is, add-Is, mul-Is, rnd-order}
 use Rattle.float_laws.proofs.Size.{Within, add-fin}
 use Rattle.float_laws.proofs.Interval.{no_minus}
@@ -120,7 +121,7 @@ root-within f x c B r q b z t u h k = record { value = r; bound = q; plus = z; l
 
     size : (v : Bool) → (T v → mag f x ≤ pl f c) → (T (not v) → pl f c < mag f x) → mag f x ≤ pl f c
     size true a d = a tt
-    size false a d = absurd (T_not (le (mul f c c) B) k (le_trans' f (mul f c c) (mul f x x) B (record { finite = u; fits = mul-fits f c c }) (record { finite = t; fits = mul-fits f x x }) b (larger (d tt)) h))
+    size false a d = absurd (T_not (le (mul f c c) B) k (float_trans (mul f c c) (mul f x x) B (larger (d tt)) h))
 
 -- x*x + y*y + z*z, as computed, is at most B, and c*c is more: so |x|, |y| and |z| are at most c
 pub norm-within : (f : Format) (x y z c B : Float) → Real f x → Real f y → Real f z → Real f c → Real f B → mi f c ≡ 0 → T (finite (mul f c c)) → T (not (le (mul f c c) B))
@@ -141,9 +142,9 @@ norm-within f x y z c B rx ry rz rc r_b m u k t h =
     let ls = add-grow-l f (add f xx yy) zz rs rzz (sq-mi f z rz a.1) t in
     let ms : mi f (add f xx yy) ≡ 0 = low-zero (pl f xx) (mi f xx) (pl f (add f xx yy)) (mi f (add f xx yy)) (le→units f xx (add f xx yy) rxx rs lx) (sq-mi f x rx b.0) (one_side f (add f xx yy)) in
     let lz = add-grow-r f (add f xx yy) zz rs rzz ms t in (
-      root-within f x c B rx rc r_b m b.0 u (le_trans' f xx _ B rxx rs r_b lx (le_trans' f _ _ B rs rt r_b ls h)) k,
-      root-within f y c B ry rc r_b m b.1 u (le_trans' f yy _ B ryy rs r_b ly (le_trans' f _ _ B rs rt r_b ls h)) k,
-      root-within f z c B rz rc r_b m a.1 u (le_trans' f zz _ B rzz rt r_b lz h) k,
+      root-within f x c B rx rc r_b m b.0 u (float_trans xx _ B lx (float_trans _ _ B ls h)) k,
+      root-within f y c B ry rc r_b m b.1 u (float_trans yy _ B ly (float_trans _ _ B ls h)) k,
+      root-within f z c B rz rc r_b m a.1 u (float_trans zz _ B lz h) k,
     )
   where
     low-zero : (p n q m : ℕ) → p + m ≤ q + n → n ≡ 0 → (q ≡ 0) ⊎ (m ≡ 0) → m ≡ 0

@@ -3,7 +3,7 @@
 use mathlib.Core.Path.{◌≡◌, refl, sym, ap, ◌∙◌, subst}
 use mathlib.Core.Logic.{◌⊎◌, inl, inr}
 use Prim.Native.Nat.{ℕ, ◌+◌, ◌-◌, ◌*◌, ◌/◌, ◌^◌, ◌≤◌, ◌<◌, zero-le}
-use native.Mathlib.Nat.{le_trans, le_of_eq, lt_of_le_of_lt, lt_of_lt_of_le, mul-le-mul_right, mul-le-mul_left, eq-zero-or-pos, lt_irrefl, zero-mul}
+use native.Mathlib.Nat.{le_trans, le_of_eq, lt_of_le_of_lt, lt_of_lt_of_le, mul-le-mul_right, mul-le-mul_left, eq-zero-or-pos, zero-mul}
 use native.Mathlib.Omega.{arith}
 use mathlib.Core.Bool.{Bool, true, false, not, cond}
 use lib.IntN.{pos}
@@ -12,8 +12,9 @@ use lib.Pow.{pow_pos}
 use lib.Ieee.{Float, nan, inf, fin, Format, low, le, neg, add, sub, mul, div, fits}
 use lib.Ieee.Fits.{add-fits, mul-fits, sub-fits, div-fits}
 use lib.Ieee.Scale.{finite}
+use Rattle.std.proofs.lemmas.Float.{le_trans as float_trans}
 use Rattle.float_laws.proofs.Units.{rnd, rnd-zero}
-use Rattle.float_laws.proofs.Value.{sign, sp, mag, pl, mi, Real, mag_is, pl-under, mi-under, parts→le, one_side, units→le, le→units, le_refl, le_trans', nle→le, neg-real, neg-pl, neg-mi}
+use Rattle.float_laws.proofs.Value.{sign-plus, mag, pl, mi, Real, mag_is, pl-under, mi-under, parts→le, one_side, units→le, le→units, le_refl, nle→le, neg-real, neg-pl, neg-mi}
 use Rattle.float_laws.proofs.Operation.{Is, add-Is, sub-Is, mul-Is, div-Is, is-mag, scale-differ, rnd-order}
 
 -- lo ≤ x ≤ hi, all finite
@@ -169,7 +170,7 @@ chain : (p n q m r s : ℕ) → p + m ≤ q + n → q + s ≤ r + m → p + s �
 chain p n q m r s h k = omega arith
 
 -- over one denominator
-spread : (p n q r c : ℕ) → p + r ≤ q + n → p * c + r * c ≤ q * c + n * c
+pub spread : (p n q r c : ℕ) → p + r ≤ q + n → p * c + r * c ≤ q * c + n * c
 spread p n q r c h = let k : (p + r) * c ≤ (q + n) * c = mul-le-mul_right c h in omega arith
 
 module _ (f : Format) (a b c d x y : Float) (i : In f a b x) (j : In f c d y) where
@@ -236,11 +237,11 @@ module _ (f : Format) (a b c d x y : Float) (i : In f a b x) (j : In f c d y) wh
       let m = most-is f (most (mul f a c) (mul f a d)) (most (mul f b c) (mul f b d)) m1.0 m2.0 in
       enclose f (mul f x y) _ _ (PP (pl f x) (mi f x) (pl f y) (mi f y)) (NN (pl f x) (mi f x) (pl f y) (mi f y)) (2 ^ low f) (mul-Is f x y i.value j.value) l.0 m.0
       (mul-under _ l.0 t1 t2 t3 t4
-      (le_trans' f _ _ _ l.0 l1.0 r1 l.1 l1.1) (le_trans' f _ _ _ l.0 l1.0 r2 l.1 l1.2)
-      (le_trans' f _ _ _ l.0 l2.0 r3 l.2 l2.1) (le_trans' f _ _ _ l.0 l2.0 r4 l.2 l2.2))
+      (float_trans _ _ _ l.1 l1.1) (float_trans _ _ _ l.1 l1.2)
+      (float_trans _ _ _ l.2 l2.1) (float_trans _ _ _ l.2 l2.2))
       (mul-over _ m.0 t1 t2 t3 t4
-      (le_trans' f _ _ _ r1 m1.0 m.0 m1.1 m.1) (le_trans' f _ _ _ r2 m1.0 m.0 m1.2 m.1)
-      (le_trans' f _ _ _ r3 m2.0 m.0 m2.1 m.2) (le_trans' f _ _ _ r4 m2.0 m.0 m2.2 m.2))
+      (float_trans _ _ _ m1.1 m.1) (float_trans _ _ _ m1.2 m.1)
+      (float_trans _ _ _ m2.1 m.2) (float_trans _ _ _ m2.2 m.2))
 
 -- ---- squares: [a, b] not below zero, not above zero, or across it
 abbrev pub nil : Float
@@ -342,13 +343,6 @@ module _ (f : Format) (a b x : Float) (i : In f a b x) (ta : T (finite (mul f a 
       sq-under.0 (most-is f (mul f a a) (mul f b b) (real f (mul f a a) ta (mul-fits f a a)) (real f (mul f b b) tb (mul-fits f b b))).0 sq-under.1 sq-over
 
 -- ---- quotients, by what is above zero
-sign_of_lem : (f : Format) (y : Float) → 0 < pl f y → sign y ≡ false
-unfolding pl
-sign_of_lem f y = go (sign y)
-  where
-    go : (s : Bool) → 0 < sp s (mag f y) → s ≡ false
-    go false h = refl
-    go true h = absurd (lt_irrefl 0 h)
 
 -- by a divisor above zero, with no case on a sign
 pub div-Is' : (f : Format) (x y : Float) → Real f x → Real f y → 0 < pl f y → Is f (div f x y) (pl f x * 2 ^ low f) (mi f x * 2 ^ low f) (pl f y)
@@ -357,7 +351,7 @@ div-Is' f x y r q h =
     let e : mag f y ≡ pl f y = elim (one_side f y) [ inl z ↦ omega arith | inr z ↦ omega arith ] in
     let i = div-Is f x y r q (omega arith) in
     subst (λ (n : ℕ). Is f (div f x y) (pl f x * 2 ^ low f) (mi f x * 2 ^ low f) n) e
-    (subst (λ (s : Bool). Is f (div f x y) (cond s (mi f x) (pl f x) * 2 ^ low f) (cond s (pl f x) (mi f x) * 2 ^ low f) (mag f y)) (sign_of_lem f y h) i)
+    (subst (λ (s : Bool). Is f (div f x y) (cond s (mi f x) (pl f x) * 2 ^ low f) (cond s (pl f x) (mi f x) * 2 ^ low f) (mag f y)) (sign-plus f y h) i)
 
 -- the size of a quotient is the rounded quotient of the sizes
 pub div-mag : (f : Format) (x y : Float) → Real f x → Real f y → 0 < pl f y → T (finite (div f x y)) → mag f (div f x y) ≡ rnd f (mag f x * 2 ^ low f) (pl f y)

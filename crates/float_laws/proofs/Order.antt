@@ -40,22 +40,14 @@ sub-mono f x x' y y' r r' q q' h k t u =
     let b = le→units f y' y q' q k in
     is_le f (sub f x y) (sub f x' y') (pl f x + mi f y) (mi f x + pl f y) 1 (pl f x' + mi f y') (mi f x' + pl f y') 1 (pow_pos 0) (pow_pos 0) (sub-Is f x y r q) (sub-Is f x' y' r' q') t u (omega arith)
 
--- by a factor that is not below zero, and by one that is not above
+-- by a factor that is not below zero
 scaled-up : (a b a' b' c d L : ℕ) → d ≡ 0 → a + b' ≤ a' + b → (a * c + b * d) * L + (a' * d + b' * c) * L ≤ (a' * c + b' * d) * L + (a * d + b * c) * L
 scaled-up a b a' b' c d L z h = subst (λ (w : ℕ). (a * c + b * w) * L + (a' * w + b' * c) * L ≤ (a' * c + b' * w) * L + (a * w + b * c) * L) (sym z) (let k : (a + b') * (c * L) ≤ (a' + b) * (c * L) = mul-le-mul_right (c * L) h in omega arith)
-
-scaled-down : (a b a' b' c d L : ℕ) → c ≡ 0 → a + b' ≤ a' + b → (a' * c + b' * d) * L + (a * d + b * c) * L ≤ (a * c + b * d) * L + (a' * d + b' * c) * L
-scaled-down a b a' b' c d L z h = subst (λ (w : ℕ). (a' * w + b' * d) * L + (a * d + b * w) * L ≤ (a * w + b * d) * L + (a' * d + b' * w) * L) (sym z) (let k : (a + b') * (d * L) ≤ (a' + b) * (d * L) = mul-le-mul_right (d * L) h in omega arith)
 
 pub mul_mono : (f : Format) (x x' y : Float) → Real f x → Real f x' → Real f y → mi f y ≡ 0 → T (le x x') → T (finite (mul f x y)) → T (finite (mul f x' y)) → T (le (mul f x y) (mul f x' y))
 mul_mono f x x' y r r' q z h t u =
     is_le f (mul f x y) (mul f x' y) _ _ (2 ^ low f) _ _ (2 ^ low f) (pow_pos (low f)) (pow_pos (low f)) (mul-Is f x y r q) (mul-Is f x' y r' q) t u
     (scaled-up (pl f x) (mi f x) (pl f x') (mi f x') (pl f y) (mi f y) (2 ^ low f) z (le→units f x x' r r' h))
-
-pub mul-anti : (f : Format) (x x' y : Float) → Real f x → Real f x' → Real f y → pl f y ≡ 0 → T (le x x') → T (finite (mul f x y)) → T (finite (mul f x' y)) → T (le (mul f x' y) (mul f x y))
-mul-anti f x x' y r r' q z h t u =
-    is_le f (mul f x' y) (mul f x y) _ _ (2 ^ low f) _ _ (2 ^ low f) (pow_pos (low f)) (pow_pos (low f)) (mul-Is f x' y r' q) (mul-Is f x y r q) u t
-    (scaled-down (pl f x) (mi f x) (pl f x') (mi f x') (pl f y) (mi f y) (2 ^ low f) z (le→units f x x' r r' h))
 
 -- by a divisor above zero
 pub div_mono : (f : Format) (x x' y : Float) → Real f x → Real f x' → Real f y → 0 < pl f y → T (le x x') → T (finite (div f x y)) → T (finite (div f x' y)) → T (le (div f x y) (div f x' y))

@@ -1,12 +1,11 @@
 -- A value of a format is known by its sign and its magnitude in units: these two give its pattern, and the pattern gives it back. Assumes nothing.
 use mathlib.Core.Path.{◌≡◌, refl, sym, ap, ◌∙◌}
-use Prim.Native.Nat.{ℕ, ◌+◌, ◌-◌, ◌*◌, ◌/◌, ◌^◌, ◌<◌}
-use native.Mathlib.Nat.{lt_irrefl}
-use mathlib.Core.Bool.{Bool, true, false, cond}
+use Prim.Native.Nat.{ℕ, ◌+◌, ◌-◌, ◌*◌, ◌/◌, ◌^◌}
+use mathlib.Core.Bool.{Bool, cond}
 use lib.Ieee.{Float, nan, inf, fin, Format, prec, low, size, hid, top, to_bits, of_bits}
 use lib.Ieee.Bits.{of_bits-to_bits}
 use lib.Ieee.Exact.{HasValue}
-use Rattle.float_laws.proofs.Value.{sign, mag, pl, mi, Real, units_of}
+use Rattle.float_laws.proofs.Value.{sign, mag, Real, units_of}
 use Rattle.float_laws.proofs.Pattern.{bits_of}
 
 pub own_value : (f : Format) (x : Float) → Real f x → HasValue x (sign x) (mag f x) (2 ^ low f)
@@ -21,20 +20,3 @@ same-value f x y r q s g =
     let b : to_bits f y ≡ patterned (sign y) (mag f y) = bits_of f y (sign y) (mag f y) (own_value f y q) in
     let e : to_bits f x ≡ to_bits f y = a ∙ ap (λ (t : Bool). patterned t (mag f x)) s ∙ ap (λ (n : ℕ). patterned (sign y) n) g ∙ sym b in
     sym (of_bits-to_bits f x r.fits) ∙ ap (of_bits f) e ∙ of_bits-to_bits f y q.fits
-
--- a value with a positive part is not below zero, and one with a negative part is
-pub sign-plus : (f : Format) (x : Float) → 0 < pl f x → sign x ≡ false
-unfolding pl
-sign-plus f nan h = refl
-sign-plus f (inf true) h = absurd (lt_irrefl 0 h)
-sign-plus f (inf false) h = refl
-sign-plus f (fin true m e) h = absurd (lt_irrefl 0 h)
-sign-plus f (fin false m e) h = refl
-
-pub sign-minus : (f : Format) (x : Float) → 0 < mi f x → sign x ≡ true
-unfolding mi
-sign-minus f nan h = absurd (lt_irrefl 0 h)
-sign-minus f (inf true) h = refl
-sign-minus f (inf false) h = absurd (lt_irrefl 0 h)
-sign-minus f (fin true m e) h = refl
-sign-minus f (fin false m e) h = absurd (lt_irrefl 0 h)

@@ -3,7 +3,7 @@
 use mathlib.Core.Path.{◌≡◌, refl, sym, ap, ◌∙◌, subst}
 use mathlib.Core.Logic.{◌⊎◌, inl, inr}
 use Prim.Native.Nat.{ℕ, suc, ◌+◌, ◌-◌, ◌*◌, ◌/◌, ◌^◌, ◌≤◌, ◌<◌}
-use native.Mathlib.Nat.{eq-zero-or-pos, zero-div, add-mul, mul-lt-mul_of_pos_right, zero-add, le_refl, lt_of_lt_of_le, le_of_suc-le-suc, zero-mul, le_of_lt, le_trans, le_of_eq, lt_of_le_of_lt, mul-one, one-mul, add-sub_cancel_left, mul-le-mul_right, mul_comm, mul-sub, mul-pos, eq-or-lt_of_le, lt_of_mul-lt-mul_right, sub_self, eq_of_mul-eq-mul_right}
+use native.Mathlib.Nat.{eq-zero-or-pos, zero-div, mul-lt-mul_of_pos_right, zero-add, le_refl, lt_of_lt_of_le, le_of_suc-le-suc, zero-mul, le_of_lt, le_trans, le_of_eq, lt_of_le_of_lt, mul-one, one-mul, add-sub_cancel_left, mul-le-mul_right, mul_comm, mul-sub, mul-pos, eq-or-lt_of_le, lt_of_mul-lt-mul_right, sub_self, eq_of_mul-eq-mul_right}
 use native.Mathlib.Omega.{arith}
 use mathlib.Core.Bool.{Bool, true, false, not, ◌&&◌, ◌||◌, beq, cond}
 use lib.Dec.{T, T_not, eqb, eqb→eq, leb, ltb, lit≤, lit<, leb→le, nleb→lt}
@@ -15,12 +15,12 @@ use lib.Ieee.Exact.{HasValue, units_val}
 use lib.Ieee.Fits.{down_pos, and_l, and_i, eq→eqb}
 use lib.Ieee.Scale.{overflow}
 use Rattle.float_laws.proofs.Units.{rnd, rnd-err, rnd-zero, rnd-exact, rnd-multiple}
-use Rattle.float_laws.proofs.Value.{sign, mag, pl, mi, Real, mag_is, mag_of, units_of}
+use Rattle.float_laws.proofs.Value.{sign, mag, pl, mi, Real, mag_is, mag_of, or_r, units_of, sign-plus}
 use Rattle.float_laws.proofs.Operation.{Is, add-Is, sub-Is, round-has}
 use Rattle.float_laws.proofs.Exact.{fixed}
 use Rattle.float_laws.proofs.Pattern.{bits_of, units-bits}
 pub use Rattle.float_laws.proofs.Pattern.{twice_hid}
-use Rattle.float_laws.proofs.Same.{own_value, same-value, sign-plus}
+use Rattle.float_laws.proofs.Same.{own_value, same-value}
 
 -- ---- what holds of the two formats
 room : (f : Format) → prec f < suc (emax f)
@@ -150,10 +150,6 @@ not-zero f (fin s m e) r h = elim (eq-zero-or-pos (mag f (fin s m e))) [
       absurd (T_not (eqb a b && (beq s false || eqb a 0)) h (and_i (eqb a b) (beq s false || eqb a 0) (eq→eqb t) (or_r (beq s false) (eqb a 0) (eq→eqb t0))))
   | inr o ↦ o
 ]
-  where
-    or_r : (a b : Bool) → T b → T (a || b)
-    or_r true b t = tt
-    or_r false b t = t
 
 -- ---- the sum with a whole c
 -- x + c lies among the values that the format counts in steps of 1
@@ -299,31 +295,6 @@ reach_of f x c a h l m =
 
     most : (a c U T M p n : ℕ) → M ≤ a * U → M ≡ p + n → (c + a) * U < T → p + c * U < T + n
     most a c U T M p n h g l = omega arith
-
--- x from 0 up to hid f, with c = hid f; and x below 0 down to -hid f, with c = 2 ^ prec f
-pub reach-plus : (f : Format) (x : Float) → mi f x ≡ 0 → pl f x < hid f * 2 ^ low f → Reach f x (hid f)
-reach-plus f x z h =
-    let t = twice_hid f in
-    let d : 2 ^ prec f * 2 ^ low f ≡ hid f * 2 ^ low f + hid f * 2 ^ low f = ap (λ (n : ℕ). n * 2 ^ low f) t ∙ add-mul (hid f) (hid f) (2 ^ low f) in
-    record { least = least (hid f * 2 ^ low f) (pl f x) (mi f x) z; most = most (hid f * 2 ^ low f) (2 ^ prec f * 2 ^ low f) (pl f x) (mi f x) d h; from = le_refl (hid f); to = omega arith }
-  where
-    least : (H p n : ℕ) → n ≡ 0 → H + n ≤ p + H
-    least H p n z = omega arith
-
-    most : (H T p n : ℕ) → T ≡ H + H → p < H → p + H < T + n
-    most H T p n e h = omega arith
-
-pub reach-minus : (f : Format) (x : Float) → pl f x ≡ 0 → 0 < mi f x → mi f x < hid f * 2 ^ low f → Reach f x (2 ^ prec f)
-reach-minus f x z u h =
-    let t = twice_hid f in
-    let d : 2 ^ prec f * 2 ^ low f ≡ hid f * 2 ^ low f + hid f * 2 ^ low f = ap (λ (n : ℕ). n * 2 ^ low f) t ∙ add-mul (hid f) (hid f) (2 ^ low f) in
-    record { least = least (hid f * 2 ^ low f) (2 ^ prec f * 2 ^ low f) (pl f x) (mi f x) d h; most = most (2 ^ prec f * 2 ^ low f) (pl f x) (mi f x) z u; from = omega arith; to = le_refl (2 ^ prec f) }
-  where
-    least : (H T p n : ℕ) → T ≡ H + H → n < H → H + n ≤ p + T
-    least H T p n e h = omega arith
-
-    most : (T p n : ℕ) → p ≡ 0 → 0 < n → p + T < T + n
-    most T p n z h = omega arith
 
 -- ---- at binary64, with 1 in units kept shut so that `omega` meets no number of 1,074 digits
 unfoldable pub unit : ℕ

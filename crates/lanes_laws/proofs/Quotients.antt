@@ -12,11 +12,10 @@ use lib.Ieee.Order.{drop, kept}
 use lib.Ieee.Fits.{round_is}
 use lib.Ieee.Scale.{finite, overflow}
 use Rattle.float_laws.proofs.Units.{rnd, rnd-zero, rnd-pow}
-use Rattle.float_laws.proofs.Value.{mag, pl, mi, Real, mag_is, pl-le, le_refl, le→units}
+use Rattle.float_laws.proofs.Value.{mag, pl, mi, Real, mag_is, pl-le, le_refl, le→units, sign-minus}
 use Rattle.float_laws.proofs.Operation.{Is, sub-Is, div-Is}
 use Rattle.float_laws.proofs.Interval.{le→parts, div-Is'}
 use Rattle.float_laws.proofs.Size.{is-bounded}
-use Rattle.float_laws.proofs.Same.{sign-minus}
 use Rattle.float_laws.proofs.Order.{sub-mono}
 use Rattle.lanes_laws.proofs.Fractions.{Fraction}
 

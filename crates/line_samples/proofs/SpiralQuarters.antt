@@ -18,11 +18,11 @@ use lib.Ieee.Fits.{round-fits, sub-fits, and_l, and_r}
 use lib.Ieee.Scale.{finite}
 use Rattle.float_laws.specs.Binary64.{◌⊕◌, ◌⊖◌, f64, zero64}
 use Rattle.float_laws.proofs.Units.{rnd, rnd-exact, rnd-zero, rnd-le}
-use Rattle.float_laws.proofs.Value.{sign, mag, pl, mi, Real, mag_is, one_side, mag_of, under, le→units, lt→units, units→lt}
+use Rattle.float_laws.proofs.Value.{sign, mag, pl, mi, Real, mag_is, one_side, mag_of, under, le→units, lt→units, units→lt, sign-plus}
 use Rattle.float_laws.proofs.Operation.{sub-Is, mul-Is, round-has}
 use Rattle.float_laws.proofs.Exact.{fixed, self-Is, is_le}
 use Rattle.float_laws.proofs.Size.{add-fin}
-use Rattle.float_laws.proofs.Same.{same-value, sign-plus}
+use Rattle.float_laws.proofs.Same.{same-value}
 use Rattle.float_laws.proofs.Whole.{Steps, Whole, steps-rnd, steps-under, steps-add}
 use Rattle.float_laws.proofs.Interval.{in-of_le, least, most}
 use Rattle.float_laws.proofs.Checker.{Ex, var, con, plus, times, eval, iv, ival, add_i, mul_i, con_i, covers, check, checked, good-real}

@@ -21,13 +21,14 @@ pub(crate) fn sampled<'a>(
     ensures { answered result ≡ checked (road_rows words.now numbers.now ++ (sample_row words.now numbers.now (length samples.now) ∷ [])) (value (road_of words.now numbers.now)) }
 {
     let road = admit(words, numbers)?;
+    // the C interface lends samples flat, four numbers each, and only how many there are is asked here
     if samples.len() / 4 < samples_needed(&road) {
         return Err(Refusal::SampleSpace);
     }
     Ok(road)
 }
 
-// The same with a place s on it; rows 3, 4, 5, 6 and 7.
+// The road that the slices hold, with as many samples as it needs and the place s on it; rows 3, 4, 5, 6 and 7.
 pub(crate) fn enter<'a>(
     words: &'a [u16],
     numbers: &'a [f64],

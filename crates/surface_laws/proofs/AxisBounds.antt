@@ -11,8 +11,9 @@ use native.Mathlib.Omega.{arith}
 use lib.Dec.{T, lit≤}
 use lib.Ieee.{Float, binary64, low, le, neg, add, sub, mul, div, fits, of_bits}
 use lib.Ieee.Fits.{and_l, and_r}
+use Rattle.std.proofs.lemmas.Float.{le_trans as float_trans}
 use Rattle.float_laws.specs.Binary64.{◌⊖◌, ◌⊗◌, ◌⊘◌, f64, zero64}
-use Rattle.float_laws.proofs.Value.{mag, pl, mi, Real, mag_is, one_side, le→units, units→le, neg-real, neg-pl, neg-mi, le_trans'}
+use Rattle.float_laws.proofs.Value.{mag, pl, mi, Real, mag_is, one_side, le→units, units→le, neg-real, neg-pl, neg-mi}
 use Rattle.float_laws.proofs.Interval.{In, least, most, sq-low}
 use Rattle.float_laws.proofs.Size.{Within, within-of_le, le_of-within, in-of-within}
 use Rattle.float_laws.proofs.Checker.{Ex, var, plus, minus, times, over, square, opp, eval, Iv, iv, Inside, check, checked, good-real}
@@ -320,5 +321,5 @@ module _ (heading grade bank : Float) (wh : Within binary64 heading sine_range) 
       let iy = checked f crude ρ second-term (neg four) four (neg-real f four four-real) four-real second-passes inside in
       let iz = its-parts.third in
       unit-is v ix.value iy.value iz.value (in_four v.x ix) (in_four v.y iy)
-      (in_four v.z (record { low = neg-real f four four-real; high = four-real; value = iz.value; above = le_trans' f (neg four) eighth v.z (neg-real f four four-real) eighth-real iz.value minus-four-eighth iz.above; below = iz.below }))
+      (in_four v.z (record { low = neg-real f four four-real; high = four-real; value = iz.value; above = float_trans (neg four) eighth v.z minus-four-eighth iz.above; below = iz.below }))
       (inr (inr (in-eighth v.z iz)))

@@ -50,8 +50,6 @@ pass-after : (rs ss : List Row) → pass (rs ++ ss) ≡ true → pass ss ≡ tru
 pass-after [] ss e = e
 pass-after (r ∷ rs) ss e = pass-after rs ss (and-snd r.passes (pass (rs ++ ss)) e)
 
--- ---- the calls, with the samples that the samples call writes into xs
-
 -- a lane that is found is one of its side's
 lane_is-there : (road : Road) (o : Option LanePlace) (p : LanePlace) → lane_there road o ≡ Some p → p.k < length (side_lanes road p.section p.right)
 unfolding lane_there
@@ -61,6 +59,8 @@ lane_is-there road (Some q) p e = go (ltb q.k (length (side_lanes road q.section
     go : (b : Bool) → ltb q.k (length (side_lanes road q.section q.right)) ≡ b → cond b (Some q) None ≡ Some p → p.k < length (side_lanes road p.section p.right)
     go true t h = let same : q ≡ p = cc in subst (λ (x : LanePlace). x.k < length (side_lanes road x.section x.right)) same (ltb-true _ _ t)
     go false t h = cc
+
+-- ---- the calls, with the samples that the samples call writes into xs
 
 module _ (words : List ℕ) (numbers : List Float) (fitting : Fitting numbers) (xs : List Float) (n : ℕ) (made : samples_call words numbers (length xs) ≡ value n) where
   ok : admitted words numbers ≡ true
@@ -126,6 +126,8 @@ module _ (words : List ℕ) (numbers : List Float) (fitting : Fitting numbers) (
         subst (λ (x : SurfacePoint32). SizedPoint x.point.x x.point.y x.point.z) is (lane_surface-narrowed-kept words numbers fitting ok rest s fits-s on t fits-t in-t right k there between)
 
   -- ---- and they answer: wherever s lies in 0..length and t in -80..80, and for a lane that the section at s has
+
+  -- row 6 passes
   room : leb (samples_needed (road_of words numbers)) (length (samples_list words numbers xs) / 4) ≡ true
   room =
       let m = made-needed words numbers (length xs) n made in

@@ -11,6 +11,7 @@ use Rattle.float_laws.proofs.Value.{pl, mi, Real}
 use Rattle.arithmetic_distance.proofs.MissLaws.{gap}
 use Rattle.admission_laws.specs.Fractions.{positive_part, negative_part}
 use Rattle.admission_laws.proofs.FractionLaws.{joined, left-side, right_side}
+use Rattle.surface_laws.proofs.SquareSums.{squared}
 use Rattle.surface_laws.specs.Distances.{difference, distance_squared, UnderOneIn}
 
 abbrev one : ℕ
@@ -47,12 +48,6 @@ spread p q u v d L pos e f = go (leb p q) (leb→le p q) (nleb→lt p q)
     go true f g = up (f tt)
     go false f g = let h = g tt in down (omega arith)
 
-square-scaled : (n d X L : ℕ) → n * L ≡ X * d → n * n * (L * L) ≡ X * X * (d * d)
-square-scaled n d X L e =
-    let a : n * L * (n * L) ≡ X * d * (n * L) = ap (λ (k : ℕ). k * (n * L)) e in
-    let b : X * d * (n * L) ≡ X * d * (X * d) = ap (λ (k : ℕ). X * d * k) e in
-    omega arith
-
 -- N × P is S × D, and S × M under P: N × M under D
 under_of : (N D S P M : ℕ) → 0 < D → N * P ≡ S * D → S * M < P → N * M < D
 under_of N D S P M pos e h =
@@ -83,5 +78,5 @@ distance-under tx x ty y M rtx rx rty ry h =
     let pb = mul-pos (den_pos ty) (den_pos y) in
     under_of (distance_squared tx x ty y).over (distance_squared tx x ty y).under (g * g + k * k) (one * one) M (mul-pos (mul-pos pa pa) (mul-pos pb pb))
     (joined (a.over * a.over) (a.under * a.under) (g * g) (b.over * b.over) (b.under * b.under) (k * k) (one * one)
-    (square-scaled a.over a.under g one (apart-units tx x rtx rx)) (square-scaled b.over b.under k one (apart-units ty y rty ry)))
+    (squared a.over a.under g one (apart-units tx x rtx rx)) (squared b.over b.under k one (apart-units ty y rty ry)))
     h

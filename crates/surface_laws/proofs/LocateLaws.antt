@@ -11,7 +11,7 @@ use lib.ListN.{length}
 use borrow.Author.Tests.{leb-true}
 use Rattle.float_laws.specs.Binary64.{zero64}
 use Rattle.float_laws.proofs.Value.{mag, pl, mi, Real, le→units}
-use Rattle.float_laws.proofs.Interval.{in-of_le, le→parts}
+use Rattle.float_laws.proofs.Interval.{in-of_le, le→parts, from_zero}
 use Rattle.float_laws.proofs.Size.{reach-within}
 use Rattle.refusals.specs.Answer.{value, checked}
 use Rattle.records.specs.Roads.{Road, road_of}
@@ -67,10 +67,6 @@ zero-real : Real binary64 zero64
 unfolding of_bits fits
 zero-real = record { finite = tt; fits = tt }
 
-zero-parts : mi binary64 zero64 ≡ 0
-unfolding of_bits mi
-zero-parts = refl
-
 -- ---- the two ranges, in units
 
 offset-kept : (t : Float) → IsF64 t → across_road t ≡ true → Real binary64 t × (mag binary64 t ≤ 80 * 2 ^ low binary64)
@@ -81,15 +77,10 @@ offset-kept t f h =
     (w.value, le_trans w.le (le_of_eq half_width-is))
 
 station-kept : (len s : Float) → Real binary64 len → IsF64 s → T (le zero64 s) → T (le s len) → (Real binary64 s × (mi binary64 s ≡ 0)) × (Real binary64 len × (pl binary64 s + mi binary64 len ≤ pl binary64 len + mi binary64 s))
+unfolding of_bits
 station-kept len s r f above below =
     let i = in-of_le binary64 zero64 len s zero-real r f above below in
-    let a = (le→parts binary64 zero64 s zero-real i.value above).1 in
-    let b = le→units binary64 s len i.value r below in
-    let z = zero-parts in
-    ((i.value, none (mi binary64 s) (mi binary64 zero64) a z), (r, b))
-  where
-    none : (m n : ℕ) → m ≤ n → n ≡ 0 → m ≡ 0
-    none m n h e = omega arith
+    ((i.value, from_zero binary64 s i.value above), (r, le→units binary64 s len i.value r below))
 
 -- ---- the call
 

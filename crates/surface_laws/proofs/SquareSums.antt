@@ -12,7 +12,7 @@ use Rattle.surface_station.specs.declared.axis.Axis.{Axis}
 use Rattle.surface_laws.specs.Squares.{squares_of, UnitLong}
 
 -- n / d is X / L, so its square is X×X / (L×L)
-squared : (n d X L : ℕ) → n * L ≡ X * d → n * n * (L * L) ≡ X * X * (d * d)
+pub squared : (n d X L : ℕ) → n * L ≡ X * d → n * n * (L * L) ≡ X * X * (d * d)
 squared n d X L e =
     let a : n * L * (n * L) ≡ X * d * (n * L) = ap (λ (k : ℕ). k * (n * L)) e in
     let b : X * d * (n * L) ≡ X * d * (X * d) = ap (λ (k : ℕ). X * d * k) e in

@@ -19,7 +19,7 @@ pub fn pose_at(road: &LentRoad, samples: &[f64], s: f64) -> Pose
     line_pose::pose(road, samples, geom_at(road, s), s)
 }
 
-// The same with the sine and the cosine of its heading.
+// That pose with the sine and the cosine of its heading.
 #[tactic(auto, unfolding(crate::specs::Station::pose_at))]
 pub fn bearing_at(road: &LentRoad, samples: &[f64], s: f64) -> Bearing
     ensures { result ≡ bearing_of (pose_at road.now samples.now s) }
@@ -28,6 +28,7 @@ pub fn bearing_at(road: &LentRoad, samples: &[f64], s: f64) -> Bearing
 }
 
 // The sine and the cosine of the bank at s, which needn't be worked out for a road without banks.
+#[tactic(auto, using(crate::proofs::BankLaws::no_bank))]
 pub fn bank_at(road: &LentRoad, s: f64) -> SinCos
     ensures { result ≡ sin_cos_of (value_in road.now.superelevations s) }
 {

@@ -4,7 +4,7 @@ ghost use Rattle.surface_station.specs.Axes.{cross_of, unit_of};
 
 use crate::axis::Axis;
 
-// The cross product of v and w: x and y give z.
+// The cross product of v and w: x and y give z. The same in f32 is `Vector::cross` of coordinates, which says why they are two.
 #[tactic(auto, unfolding(crate::specs::Axes::cross_of))]
 pub fn cross(v: Axis, w: Axis) -> Axis
     ensures { result ≡ cross_of v w }
@@ -16,7 +16,7 @@ pub fn cross(v: Axis, w: Axis) -> Axis
     }
 }
 
-// v over its length; NaNs for a vector of zeros. (3, 4, 0) gives (0.6, 0.8, 0).
+// v over its length, by three quotients; NaNs for a vector of zeros. (3, 4, 0) gives (0.6, 0.8, 0).
 #[tactic(auto, unfolding(crate::specs::Axes::unit_of))]
 pub fn unit(v: Axis) -> Axis
     ensures { result ≡ unit_of v }

@@ -1,6 +1,7 @@
 -- The nearest place as the code finds it: a turn of the loop over the segments, and that the segment chosen by it is the one of the definition.
-use Prim.Native.Nat.{ℕ, zero, suc, ◌-◌, ◌<◌}
+use Prim.Native.Nat.{ℕ, zero, suc, ◌+◌, ◌-◌, ◌<◌}
 use native.Mathlib.Omega.{arith}
+use native.Mathlib.Numerals.{add-one}
 use mathlib.Core.Path.{◌≡◌, refl, sym, ap, ◌∙◌, subst}
 use mathlib.Core.Bool.{Bool, true, false, cond}
 use lib.Ieee.{Float, lt}
@@ -25,9 +26,9 @@ module _ (p : ℕ → Point) (at : Point) where
   unfolding chosen_of
   chosen_none = refl
 
-  pub chosen_next : (i : ℕ) {best next : Chosen} {on : Segment} → best ≡ chosen_of p at i → on ≡ segment_at p i → next ≡ better_of best on at i → next ≡ chosen_of p at (suc i)
+  pub chosen_next : (i : ℕ) {best next : Chosen} {on : Segment} → best ≡ chosen_of p at i → on ≡ segment_at p i → next ≡ better_of best on at i → next ≡ chosen_of p at (i + 1)
   unfolding chosen_of
-  chosen_next i h e g = rw (g, e, h)
+  chosen_next i h e g = rw (add-one i, g, e, h)
 
   -- ---- what the choice stands for: the nearest place of the definition, its projection not worked out until the end
 
@@ -97,3 +98,7 @@ module _ (p : ℕ → Point) (at : Point) where
 
   pub chosen_below : (k : ℕ) {i : ℕ} {c : Chosen} → c ≡ chosen_of p at k → c.segment ≡ Some i → i < k
   chosen_below k h e = subst (λ (o : Option ℕ). Below k o) e (subst (λ (x : Chosen). Below k x.segment) (sym h) (below k))
+
+pub ruleset choices = (chosen_none, chosen_next)
+
+pub ruleset projections = (project_first, project_on_segment)

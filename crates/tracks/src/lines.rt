@@ -28,7 +28,7 @@ impl<'a> Track<'a> {
         Track { numbers }
     }
 
-    // How many points it has.
+    // How many points it has: the C interface lends them flat, and `Track` is the struct over them.
     pub fn len(&self) -> usize
         ensures value { result ≡ count_of self.now }
         ensures upper_bound { result < 2 ^ 63 }

@@ -88,6 +88,7 @@ impl<'a> Track<'a> {
     }
 
     // The segment and the fraction at the arc length s, which is held to 0..length.
+    #[tactic(auto, using(crate::proofs::PoseSteps::spot_is))]
     fn locate(&self, s: f32) -> Spot
         ensures upper_bound { suc result.segment < 2 ^ 64 }
         ensures value { result ≡ spot_of (point_at self.now) (count_of self.now) s }
@@ -110,6 +111,7 @@ impl<'a> Track<'a> {
     }
 
     // The track's pose at the arc length s, held to 0..length. A NaN s is in the first segment.
+    #[tactic(auto, using(crate::proofs::PoseSteps::pose_is))]
     pub fn pose_on(&self, s: f32) -> TrackPose
         ensures { result ≡ track_pose_of (point_at self.now) (count_of self.now) s }
     {

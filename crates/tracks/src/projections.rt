@@ -101,6 +101,7 @@ impl Chosen {
 
 impl<'a> Track<'a> {
     // The nearest of all segments, the first of them where several are as near. No arc length is summed here: every segment's takes a root, and only those up to the chosen one count.
+    #[tactic(auto, using(crate::proofs::ProjectionSteps::choices))]
     fn choose(&self, at: Point) -> Chosen
         ensures value { result ≡ chosen_of (point_at self.now) at (count_of self.now - 1) }
         ensures upper_bound { count_of self.now < 2 ^ 63 }
@@ -116,6 +117,7 @@ impl<'a> Track<'a> {
     }
 
     // The projection of a place on the track: on its nearest segment, or the first point where none is at a distance below the infinity.
+    #[tactic(auto, using(crate::proofs::ProjectionSteps::projections))]
     pub fn project_on(&self, at: Point) -> Projection
         ensures { result ≡ project_of (point_at self.now) (count_of self.now) at }
     {

@@ -59,6 +59,7 @@ impl<'a> Track<'a> {
         ensures value { result ≡ leb (count_of self.now) (length list.old / 3) }
         ensures list_after { list.new ≡ tangents_left result (point_at self.now) (count_of self.now) list.old }
     {
+        // the C interface lends the list flat
         if list.len() / 3 < self.len() {
             return false;
         }

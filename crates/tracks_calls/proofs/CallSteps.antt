@@ -9,7 +9,6 @@ use lib.ListN.{length}
 use lib.Ieee.{Float}
 use Rattle.std.specs.declared.result.Result.{Result}
 use Rattle.std.specs.declared.result.Result.TheVariants.{Ok, Err}
-use Rattle.std.specs.Result.{IsErrAnd}
 use Rattle.float_laws.proofs.Nearest.{apart}
 use Rattle.refusals.specs.Answer.{Answer, value, refused, answered, row, checked}
 use Rattle.refusals.specs.Refusal.{number_of}

@@ -13,6 +13,7 @@ pub fn tangents(points: &[f32], list: &mut [f32]) -> Result<usize, Refusal>
     ensures result_value { answered result ≡ tangents_call points.now (length list.old) }
     ensures list_after { list.new ≡ tangents_list points.now list.old }
 {
+    // the C interface lends both flat, three numbers a point, and row 13 asks for room before there is a `Track`; a `Track` made for its length alone reads no plainer
     if list.len() / 3 < points.len() / 3 {
         return Err(Refusal::TrackCount);
     }

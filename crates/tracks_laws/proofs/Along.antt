@@ -8,9 +8,10 @@ use lib.Dec.{T}
 use lib.Pow.{pow_pos}
 use lib.Ieee.{Float, binary32, low, of_bits, le, lt}
 use lib.Ieee.Scale.{finite}
+use Rattle.std.proofs.lemmas.Float.{le_trans as float_trans}
 use Rattle.float_laws.specs.Binary32.{◌⊕◌, ◌⊗◌, one32}
 use Rattle.float_laws.proofs.Units.{rnd, rnd-zero}
-use Rattle.float_laws.proofs.Value.{pl, mi, Real, le_refl, le_trans'}
+use Rattle.float_laws.proofs.Value.{pl, mi, Real, le_refl}
 use Rattle.float_laws.proofs.Operation.{mul-Is}
 use Rattle.float_laws.proofs.Size.{add-fin}
 use Rattle.float_laws.proofs.Exact.{self-Is, is_le, add-grow-l}
@@ -85,8 +86,8 @@ module _ (p : ℕ → Point) (n : ℕ) (placed : (i : ℕ) → i < n → Placed 
         let q = part-real x t d.value z i fine in
         let up = add-mono binary32 from from (x ⊗ t) x l.real l.real q d.value (le_refl binary32 from l.real) (part-le x t d.value z i fine) s.finite m.real.finite in
         record {
-          above = le_trans' binary32 nil from (from ⊕ x ⊗ t) (nil-real binary32) l.real s l.above (add-grow-l binary32 from (x ⊗ t) l.real q (part-plus x t d.value z i fine) s.finite);
-          below = le_trans' binary32 (from ⊕ x ⊗ t) (from ⊕ x) whole s m.real whole-real up (lengths_rise p n placed small (suc k) (n - 1) (omega arith) (omega arith));
+          above = float_trans nil from (from ⊕ x ⊗ t) l.above (add-grow-l binary32 from (x ⊗ t) l.real q (part-plus x t d.value z i fine) s.finite);
+          below = float_trans (from ⊕ x ⊗ t) (from ⊕ x) whole up (lengths_rise p n placed small (suc k) (n - 1) (omega arith) (omega arith));
         }
 
     nearer-on : (k : ℕ) → suc k < n → (best : Nearest) → OnTrack best.projection.s → OnTrack (nearer_of best (p k) (p (suc k)) at (length_to p k)).projection.s

@@ -9,8 +9,9 @@ use lib.Dec.{T}
 use lib.Pow.{pow-add, pow-lt}
 use lib.Ieee.{Float, binary32, size, round, units, odd, of_bits, fits, neg, le, lt, eq, add, sub, mul}
 use lib.Ieee.Scale.{overflow}
+use Rattle.std.proofs.lemmas.Float.{le_trans as float_trans}
 use Rattle.float_laws.specs.Binary32.{f32}
-use Rattle.float_laws.proofs.Value.{mag, pl, mi, Real, mag_is, le_refl as float-refl, le_trans'}
+use Rattle.float_laws.proofs.Value.{mag, pl, mi, Real, mag_is, le_refl as float-refl}
 use Rattle.float_laws.proofs.Interval.{In, nil, nil-real, from_zero, le→parts, least, most, sq-low}
 use Rattle.float_laws.proofs.Exact.{add-grow-l}
 use Rattle.float_laws.proofs.Order.{sum-none, sum_step}
@@ -118,7 +119,7 @@ module _ (p : ℕ → Point) (n : ℕ) (placed : (i : ℕ) → i < n → Placed 
   lengths (suc i) h =
       let l = lengths i (omega arith) in
       let g = grown i h l in
-      record { real = g.0; size = g.1; above = le_trans' binary32 nil (length_to p i) (length_to p (suc i)) (nil-real binary32) l.real g.0 l.above g.2 }
+      record { real = g.0; size = g.1; above = float_trans nil (length_to p i) (length_to p (suc i)) l.above g.2 }
 
   -- never falling
   pub lengths_rise : (i j : ℕ) → i ≤ j → j < n → T (le (length_to p i) (length_to p j))
@@ -128,5 +129,5 @@ module _ (p : ℕ → Point) (n : ℕ) (placed : (i : ℕ) → i < n → Placed 
       (λ (e : i ≡ suc j). subst (λ (k : ℕ). T (le (length_to p k) (length_to p (suc j)))) (sym e) (float-refl binary32 (length_to p (suc j)) (lengths (suc j) l).real))
       (λ (g : i < suc j).
       let a = lengths j (omega arith) in
-      le_trans' binary32 (length_to p i) (length_to p j) (length_to p (suc j)) (lengths i (omega arith)).real a.real (lengths (suc j) l).real (lengths_rise i j (le_of_suc-le-suc g) (omega arith)) (grown j l a).2)
+      float_trans (length_to p i) (length_to p j) (length_to p (suc j)) (lengths_rise i j (le_of_suc-le-suc g) (omega arith)) (grown j l a).2)
       (eq-or-lt_of_le h)

@@ -8,11 +8,13 @@ use lib.Dec.{T, leb}
 use borrow.Author.Tests.{leb-true, leb-false}
 use lib.Pow.{pow-add}
 use lib.Ieee.{Float, nan, inf, fin, binary32, low, is_nan, of_bits, fits, neg, le, lt, add, sub}
+use lib.Ieee.Bits.{is_true}
 use lib.Ieee.Scale.{finite}
+use Rattle.std.proofs.lemmas.Float.{le_trans as float_trans, T_from_false}
 use Rattle.float_laws.specs.Binary32.{◌⊖◌, ◌⊘◌, f32, zero32, one32, clamp_of}
 use Rattle.float_laws.proofs.Nearest.{apart}
 use Rattle.float_laws.proofs.Units.{rnd, rnd-zero}
-use Rattle.float_laws.proofs.Value.{pl, mi, Real, pl-le, le→units, lt→units, nlt→units, units→le, le_refl, le_trans', nle→le}
+use Rattle.float_laws.proofs.Value.{pl, mi, Real, pl-le, le→units, lt→units, nlt→units, units→le, le_refl, nle→le}
 use Rattle.float_laws.proofs.Operation.{sub-Is}
 use Rattle.float_laws.proofs.Exact.{self-Is}
 use Rattle.float_laws.proofs.Order.{sub-mono}
@@ -29,13 +31,6 @@ use Rattle.tracks_laws.proofs.Leading.{lead-below, lead-at, lead_after}
 
 -- ---- clamp
 
-pub T_true : (b : Bool) → T b → b ≡ true
-T_true true t = refl
-T_true false t = absurd t
-
-pub not_T : (b : Bool) → b ≡ false → T (not b)
-not_T b e = subst (λ (c : Bool). T (not c)) (sym e) tt
-
 -- x is in the range already: it passed both tests, and is no NaN
 inside : (lo hi x : Float) → Real binary32 lo → Real binary32 hi → T (fits binary32 x) → is_nan x ≡ false → lt x lo ≡ false → lt hi x ≡ false → In binary32 lo hi x
 unfolding lt is_nan
@@ -49,8 +44,8 @@ inside lo (inf s) (inf false) rl rh f n a b = absurd rh.finite
 inside lo hi (fin s m e) rl rh f n a b =
     let x = fin s m e in
     let r : Real binary32 x = record { finite = tt; fits = f } in
-    let u = nlt→units binary32 x lo r rl (not_T (lt x lo) a) in
-    let v = nlt→units binary32 hi x rh r (not_T (lt hi x) b) in
+    let u = nlt→units binary32 x lo r rl (T_from_false (lt x lo) a) in
+    let v = nlt→units binary32 hi x rh r (T_from_false (lt hi x) b) in
     record { low = rl; high = rh; value = r; above = units→le binary32 lo x rl r (omega arith); below = units→le binary32 x hi r rh (omega arith) }
 
 -- "clamp panics if min > max, min is NaN, or max is NaN": lo ≤ hi, both finite, is all it asks
@@ -202,11 +197,11 @@ module _ (p : ℕ → Point) (n : ℕ) (placed : (i : ℕ) → i < n → Placed 
     unfolding of_bits
     held_in =
         let h = length-in (n - 1) (omega arith) in
-        record { low = nil-real binary32; high = top-real; value = held.value; above = held.above; below = le_trans' binary32 d (length_to p (n - 1)) top32 held.value h.value top-real held.below h.below }
+        record { low = nil-real binary32; high = top-real; value = held.value; above = held.above; below = float_trans d (length_to p (n - 1)) top32 held.below h.below }
 
     first-leads : le (length_to p 0) d ≡ true
     unfolding length_to
-    first-leads = T_true (le zero32 d) held.above
+    first-leads = is_true (le zero32 d) held.above
 
     some-lead : 0 < L
     some-lead = rw (lead-step (length_to p) d 0 n (omega arith) first-leads) (omega arith)
@@ -235,7 +230,7 @@ module _ (p : ℕ → Point) (n : ℕ) (placed : (i : ℕ) → i < n → Placed 
             let m : L < n = omega arith in
             let g : suc (min (L - 1) (n - 2)) ≡ L = ap suc (min-eq_left h) ∙ (omega arith) in
             subst (λ (k : ℕ). T (le d (length_to p k))) (sym g)
-            (nle→le binary32 (length_to p L) d (lengths p n placed small L m).real held.value (not_T (le (length_to p L) d) (ap (λ (k : ℕ). le (length_to p k) d) (sym (zero-add L)) ∙ lead-at (length_to p) d 0 n m)))
+            (nle→le binary32 (length_to p L) d (lengths p n placed small L m).real held.value (T_from_false (le (length_to p L) d) (ap (λ (k : ℕ). le (length_to p k) d) (sym (zero-add L)) ∙ lead-at (length_to p) d 0 n m)))
         go false e =
             let h = leb-false (L - 1) (n - 2) e in
             let g : suc (min (L - 1) (n - 2)) ≡ n - 1 = ap suc (min-eq_right (let o : n - 2 ≤ L - 1 = omega arith in o)) ∙ (omega arith) in
@@ -244,7 +239,7 @@ module _ (p : ℕ → Point) (n : ℕ) (placed : (i : ℕ) → i < n → Placed 
     -- it is the last that does, of the segments
     pub spot-last : (j : ℕ) → segment_of p n d < j → suc j < n → le (length_to p j) d ≡ false
     unfolding segment_of
-    spot-last j h l = lead_after (length_to p) n (λ i k. (lengths p n placed small i k).real) (lengths_rise p n placed small) d held.value.fits j (go (leb (L - 1) (n - 2)) refl) (omega arith)
+    spot-last j h l = lead_after (length_to p) n (lengths_rise p n placed small) d j (go (leb (L - 1) (n - 2)) refl) (omega arith)
       where
         go : (b : Bool) → leb (L - 1) (n - 2) ≡ b → L ≤ j
         go true e = let m = min-eq_left (leb-true (L - 1) (n - 2) e) in let o = some-lead in omega arith

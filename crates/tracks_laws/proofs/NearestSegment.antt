@@ -7,6 +7,7 @@ use mathlib.Core.Bool.{Bool, true, false, cond}
 use mathlib.Core.Logic.{⊎_elim}
 use lib.Dec.{T}
 use lib.Ieee.{Float, binary32, le, lt}
+use Rattle.std.proofs.lemmas.Float.{T_from_false}
 use Rattle.float_laws.proofs.Value.{Real, le→units, units→le, lt→units, units→lt, nlt→units, le_refl}
 use Rattle.records_lent.proofs.TestLaws.{true-T}
 use Rattle.records.specs.declared.points.Point.{Point}
@@ -14,7 +15,6 @@ use Rattle.tracks.specs.Lengths.{length_to}
 use Rattle.tracks.specs.Projections.{Nearest, nearer_of, nearest_of}
 use Rattle.tracks_laws.specs.TrackLaws.{square_at, candidate_at}
 use Rattle.tracks_laws.proofs.Admitted.{Placed}
-use Rattle.tracks_laws.proofs.Fractions.{not_T}
 use Rattle.tracks_laws.proofs.Projected.{square-real, under-infinity}
 
 -- ---- order
@@ -26,7 +26,7 @@ lt-le : (x y : Float) → Real binary32 x → Real binary32 y → T (lt x y) →
 lt-le x y rx ry h = let a = lt→units binary32 x y rx ry h in units→le binary32 x y rx ry (omega arith)
 
 not-lt-le : (x y : Float) → Real binary32 x → Real binary32 y → lt x y ≡ false → T (le y x)
-not-lt-le x y rx ry e = units→le binary32 y x ry rx (nlt→units binary32 x y rx ry (not_T (lt x y) e))
+not-lt-le x y rx ry e = units→le binary32 y x ry rx (nlt→units binary32 x y rx ry (T_from_false (lt x y) e))
 
 -- ---- the best of k segments
 

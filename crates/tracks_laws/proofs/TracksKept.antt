@@ -163,7 +163,7 @@ module _ (xs : List Float) (fit : AllF32 xs) (ok : is_track xs ≡ true) where
       record {
         lengths_finite = λ i h. (lengths p n there few i h).real.finite;
         lengths_rise = lengths_rise p n there few;
-        search = λ s f i h. parts_at-lead (length_to p) n (λ j l. (lengths p n there few j l).real) (lengths_rise p n there few) s f i h;
+        search = λ s f. parts_at-lead (length_to p) n (lengths_rise p n there few) s;
         tangents = λ list room. answered (λ (m : ℕ). m ≡ n) (tangents_call xs (length list)) n (tangents-is list room) refl;
         tangent = tangent-kept;
         pose = λ s f no. answered TrackPoseKept (track_pose_call xs s) (track_pose_of p n s) (pose-is s) (pose-kept s f no);

@@ -10,6 +10,7 @@ use lib.Dec.{T}
 use lib.Ieee.{Float, nan, inf, fin, binary32, size, round, units, odd, of_bits, fits, le, lt, eq, mul, div}
 use lib.Ieee.Fits.{add-fits, mul-fits}
 use lib.Ieee.Scale.{finite}
+use Rattle.std.proofs.lemmas.Float.{le_of_lt as float_le_of_lt, T_from_false}
 use Rattle.float_laws.specs.Binary32.{◌⊕◌, ◌⊗◌, ◌⊘◌, f32, zero32, one32, largest32}
 use Rattle.float_laws.proofs.Units.{rnd, rnd-zero}
 use Rattle.float_laws.proofs.Value.{pl, mi, Real, mag_is, pl-le, le→units, lt→units, units→le, nle→le}
@@ -24,8 +25,7 @@ use Rattle.arithmetic.proofs.RootLaws.{root-fits, root-mono, root-not-negative}
 use Rattle.coordinates.specs.declared.vectors.Vector.{Vector}
 use Rattle.coordinates.specs.Vectors.{scaled_by, zero_vector, dot_of, length_of, unit_of}
 use Rattle.records_lent.proofs.TestLaws.{and-fst, and-snd, true-T}
-use Rattle.tracks_laws.proofs.Leading.{T_false}
-use Rattle.tracks_laws.proofs.Fractions.{one-real, quotient-in, not_T}
+use Rattle.tracks_laws.proofs.Fractions.{one-real, quotient-in}
 
 -- all three components finite and at most A in size
 pub record Bounded (v : Vector) (A : Float) : Type 0 where
@@ -213,9 +213,9 @@ module _ (v : Vector) (rx : Real binary32 v.x) (ry : Real binary32 v.y) (rz : Re
       go : (b : Bool) → le (dot_of v v) one32 ≡ b → T (le (dot_of v v) one32)
       go true d = true-T (le (dot_of v v) one32) d
       go false d =
-          let h = nle→le binary32 (dot_of v v) one32 dot-real one-real (not_T (le (dot_of v v) one32) d) in
+          let h = nle→le binary32 (dot_of v v) one32 dot-real one-real (T_from_false (le (dot_of v v) one32) d) in
           let g : T (le one32 len) = subst (λ (y : Float). T (le y len)) root-one (root_over one32 one-real one-mi h) in
-          absurd (T_false (le one32 len) e g)
+          absurd (subst T e g)
 
   short-sides : le one32 len ≡ false → Within binary32 v.x two32 × Within binary32 v.y two32 × Within binary32 v.z two32
   unfolding dot_of
@@ -235,14 +235,6 @@ module _ (v : Vector) (rx : Real binary32 v.x) (ry : Real binary32 v.y) (rz : Re
 largest-real : Real binary32 largest32
 unfolding of_bits fits
 largest-real = good-real binary32 largest32 tt
-
-lt-le : (x y : Float) → T (lt x y) → T (le x y)
-unfolding le
-lt-le x y t = go (lt x y) (eq x y) t
-  where
-    go : (a b : Bool) → T a → T (a || b)
-    go true b t = tt
-    go false b t = absurd t
 
 -- A closed bound A that holds the greatest unit and is its own product with 1; the tests are computed
 pub record Roomy (A : Float) : Type 0 where
@@ -281,7 +273,7 @@ module _ (A : Float) (room : Roomy A) where
   unfolding length_of dot_of
   length-real v a b =
       record {
-        finite = finite-between nil (length_of v) largest32 (nil-real binary32).finite largest-real.finite (lt-le nil (length_of v) a) b;
+        finite = finite-between nil (length_of v) largest32 (nil-real binary32).finite largest-real.finite (float_le_of_lt nil (length_of v) a) b;
         fits = root-fits binary32 (dot_of v v) (add-fits binary32 (v.x ⊗ v.x ⊕ v.y ⊗ v.y) (v.z ⊗ v.z));
       }
 

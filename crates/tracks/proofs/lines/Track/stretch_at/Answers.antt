@@ -1,5 +1,6 @@
 use mathlib.Core.Path.{◌≡◌, refl}
 use native.Mathlib.Omega.{arith}
+use native.Mathlib.Numerals.{add-one}
 use Rattle.coordinates.specs.Points.{point_at}
 use Rattle.tracks.specs.Lines.{count_of}
 use Rattle.tracks.specs.Lengths.{length_to}
@@ -27,7 +28,7 @@ loop-i-preserved c =
     let e = at.invariant.0 in
     let next = walk_next p (count_of xs) c.args.s at.on.segment at.invariant.1 at.invariant.3 (omega arith) c.if-not-behind-on.false in
     let from : at.on.to ≡ length_to p at.i = rw e at.invariant.3 in
-    (omega arith, rw e next, from, length_next p at.i from c.segment-in-loop-i.ensures c.length-in-loop-i.ensures)
+    (omega arith, rw e next, from, rw (← add-one at.i) (length_next p at.i from c.segment-in-loop-i.ensures c.length-in-loop-i.ensures))
 
 pub returns-clause-segment_value : goal.returns-clause-segment_value
 returns-clause-segment_value c =
