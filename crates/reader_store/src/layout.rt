@@ -1,12 +1,12 @@
 // The layout of a lent road's memory by table, as data: its places and strides are those of crate records.
 ghost use Rattle.std.specs.Prelude.{◌≡◌, ℕ, ◌+◌, ◌*◌, ◌<◌, get_or};
 ghost use Rattle.reader_schema.specs.Tables.{columns_most};
-ghost use Rattle.reader_store.specs.Layout.{first_number, numbers_a_line, first_word, words_a_line, place_at, place_number, number_place, word_place, count_place, rule_number, rule_of, family_number, base_of, stride_of};
+ghost use Rattle.reader_store.specs.Layout.{lines_of, number_lines, word_lines, number_place, word_place, count_place, rule_of, base_of, stride_of};
 
 use reader_schema::tables::{
     BANK_TABLE, COLUMNS_MOST, CUBIC_TABLE, ELEV_TABLE, EXTENT_TABLE, GEOM_TABLE, HEIGHT_TABLE,
     LANE_TABLE, MARK_TABLE, OFFSET_TABLE, PROFILE_TABLE, ROAD_TABLE, SECTION_TABLE, SHAPE_TABLE,
-    TABLE_COUNT, TSHIFT_TABLE,
+    STRIP_TABLE, TSHIFT_TABLE,
 };
 use records::layout::{
     BANK_BASE, BANK_COUNT_AT, CUBIC_BASE, CUBIC_STRIDE, ELEV_BASE, ELEV_COUNT_AT, EXTENT_BASE,
@@ -17,8 +17,6 @@ use records::layout::{
     TSHIFT_COUNT_AT,
 };
 
-// A constant is made anew where it is read, so each row has one of its own.
-
 // Where lines stand in a slice: the first, and how far each is from the one before.
 #[derive(Clone, Copy, Debug, PartialEq, Eq)]
 pub(crate) struct Lines {
@@ -27,6 +25,17 @@ pub(crate) struct Lines {
 }
 
 impl Lines {
+    fn of(first: usize, stride: usize) -> Lines
+        requires first_word { first < 65536 }
+        requires stride_word { stride < 65536 }
+        ensures { result ≡ lines_of first stride }
+    {
+        Lines {
+            first: first as u16,
+            stride: stride as u16,
+        }
+    }
+
     // Where line k begins.
     pub(crate) fn line(self, k: u32) -> usize
         ensures { (result ≡ self.first + k * self.stride) × (result < 1000000000000000) }
@@ -34,111 +43,6 @@ impl Lines {
         self.first as usize + k as usize * self.stride as usize
     }
 }
-
-const NONE: Lines = Lines {
-    first: 0,
-    stride: 0,
-};
-
-// The numbers of each table.
-const NUMBERS: [Lines; TABLE_COUNT] = [
-    // road
-    Lines {
-        first: LENGTH_PLACE as u16,
-        stride: 1,
-    },
-    // geom
-    Lines {
-        first: GEOM_BASE as u16,
-        stride: GEOM_STRIDE as u16,
-    },
-    // elev
-    Lines {
-        first: ELEV_BASE as u16,
-        stride: CUBIC_STRIDE as u16,
-    },
-    // bank
-    Lines {
-        first: BANK_BASE as u16,
-        stride: CUBIC_STRIDE as u16,
-    },
-    // offset
-    Lines {
-        first: OFFSET_BASE as u16,
-        stride: CUBIC_STRIDE as u16,
-    },
-    // tshift
-    Lines {
-        first: TSHIFT_BASE as u16,
-        stride: CUBIC_STRIDE as u16,
-    },
-    // section
-    Lines {
-        first: SECTION_BASE as u16,
-        stride: 1,
-    },
-    NONE, // lane
-    // extent
-    Lines {
-        first: EXTENT_BASE as u16,
-        stride: CUBIC_STRIDE as u16,
-    },
-    // height
-    Lines {
-        first: HEIGHT_BASE as u16,
-        stride: HEIGHT_STRIDE as u16,
-    },
-    // profile
-    Lines {
-        first: PROFILE_BASE as u16,
-        stride: 1,
-    },
-    // shape
-    Lines {
-        first: SHAPE_BASE as u16,
-        stride: CUBIC_STRIDE as u16,
-    },
-    NONE, // strip
-    // cubic
-    Lines {
-        first: CUBIC_BASE as u16,
-        stride: CUBIC_STRIDE as u16,
-    },
-    // mark
-    Lines {
-        first: SPAN_BASE as u16,
-        stride: SPAN_STRIDE as u16,
-    },
-    NONE, // want
-];
-
-// A geometry has a word, its kind; a lane's words are those of the layout; the words of the other tables have rules of their own.
-const WORDS: [Lines; TABLE_COUNT] = [
-    NONE, // road
-    // geom
-    Lines {
-        first: KIND_WORDS as u16,
-        stride: 1,
-    },
-    NONE, // elev
-    NONE, // bank
-    NONE, // offset
-    NONE, // tshift
-    NONE, // section
-    // lane
-    Lines {
-        first: LANE_WORDS as u16,
-        stride: LANE_STRIDE as u16,
-    },
-    NONE, // extent
-    NONE, // height
-    NONE, // profile
-    NONE, // shape
-    NONE, // strip
-    NONE, // cubic
-    NONE, // mark
-    NONE, // want
-];
 
 // Which of its line's numbers, or words, each column of a table is, counted from 1; 0 where it is none. Options in place of the numbers are laid out one to
 // a line, and read for each column took 100 µs of a text of 57,213 bytes where these took 94.
@@ -168,26 +72,6 @@ const GEOM_CODES: Row = [0, 0, 0, 0, 0, 1, 0, 0];
 
 const LANE_CODES: Row = [0, 0, 1, 2, 0, 0, 0, 0];
 
-// The word that holds each table's count of lines, where one does.
-const COUNTS: [Option<u8>; TABLE_COUNT] = [
-    None, // road
-    Some(GEOM_COUNT_AT as u8), // geom
-    Some(ELEV_COUNT_AT as u8), // elev
-    Some(BANK_COUNT_AT as u8), // bank
-    Some(OFFSET_COUNT_AT as u8), // offset
-    Some(TSHIFT_COUNT_AT as u8), // tshift
-    Some(SECTION_COUNT_AT as u8), // section
-    None, // lane
-    None, // extent
-    None, // height
-    Some(PROFILE_COUNT_AT as u8), // profile
-    None, // shape
-    None, // strip
-    None, // cubic
-    None, // mark
-    None, // want
-];
-
 // Whose children the lines of a table are: a section's lanes, a lane's extents, its heights, a profile's shapes, a strip's cubics, a section's marks.
 #[derive(Clone, Copy, Debug, PartialEq, Eq)]
 pub(crate) enum Family {
@@ -206,76 +90,55 @@ pub(crate) enum Rule {
     Child(Family),
 }
 
-const RULES: [Option<Rule>; TABLE_COUNT] = [
-    None, // road
-    None, // geom
-    None, // elev
-    None, // bank
-    None, // offset
-    None, // tshift
-    None, // section
-    Some(Rule::Child(Family::Lane)), // lane
-    Some(Rule::Child(Family::Extent)), // extent
-    Some(Rule::Child(Family::Height)), // height
-    None, // profile
-    Some(Rule::Child(Family::Shape)), // shape
-    Some(Rule::Strip), // strip
-    Some(Rule::Child(Family::Cubic)), // cubic
-    Some(Rule::Child(Family::Mark)), // mark
-    None, // want
-];
-
 impl Family {
     // Where the ranges (first, count) of the parents stand among the words. A section's lanes have a record of their own.
-    #[tactic(auto, unfolding(crate::specs::Layout::base_of, crate::specs::Layout::bases, crate::specs::Layout::stride_of, crate::specs::Layout::strides))]
+    #[tactic(auto, unfolding(crate::specs::Layout::base_of, crate::specs::Layout::stride_of))]
     pub(crate) fn ranges(self) -> Lines
-        ensures { (result.first ≡ base_of (family_number self)) × (result.stride ≡ stride_of (family_number self)) }
+        ensures { (result.first ≡ base_of self) × (result.stride ≡ stride_of self) }
     {
         match self {
-            Family::Lane => NONE,
-            Family::Extent => Lines {
-                first: LANE_WORDS as u16 + 2,
-                stride: LANE_STRIDE as u16,
-            },
-            Family::Height => Lines {
-                first: LANE_WORDS as u16 + 4,
-                stride: LANE_STRIDE as u16,
-            },
-            Family::Shape => Lines {
-                first: PROFILE_WORDS as u16,
-                stride: PROFILE_STRIDE as u16,
-            },
-            Family::Cubic => Lines {
-                first: STRIP_WORDS as u16 + 1,
-                stride: 1,
-            },
-            Family::Mark => Lines {
-                first: SECTION_MARK_WORDS as u16,
-                stride: SECTION_MARK_STRIDE as u16,
-            },
+            Family::Lane => Lines::of(0, 0),
+            Family::Extent => Lines::of(LANE_WORDS + 2, LANE_STRIDE),
+            Family::Height => Lines::of(LANE_WORDS + 4, LANE_STRIDE),
+            Family::Shape => Lines::of(PROFILE_WORDS, PROFILE_STRIDE),
+            Family::Cubic => Lines::of(STRIP_WORDS + 1, 1),
+            Family::Mark => Lines::of(SECTION_MARK_WORDS, SECTION_MARK_STRIDE),
         }
     }
 }
 
 // Where a table's numbers stand.
+#[tactic(auto, unfolding(crate::specs::Layout::number_lines))]
 pub(crate) fn number_lines(table: usize) -> Lines
-    ensures { (result.first ≡ place_at table first_number) × (result.stride ≡ place_at table numbers_a_line) }
+    ensures { result ≡ number_lines table }
 {
-    if table < TABLE_COUNT {
-        NUMBERS[table]
-    } else {
-        NONE
+    match table {
+        ROAD_TABLE => Lines::of(LENGTH_PLACE, 1),
+        GEOM_TABLE => Lines::of(GEOM_BASE, GEOM_STRIDE),
+        ELEV_TABLE => Lines::of(ELEV_BASE, CUBIC_STRIDE),
+        BANK_TABLE => Lines::of(BANK_BASE, CUBIC_STRIDE),
+        OFFSET_TABLE => Lines::of(OFFSET_BASE, CUBIC_STRIDE),
+        TSHIFT_TABLE => Lines::of(TSHIFT_BASE, CUBIC_STRIDE),
+        SECTION_TABLE => Lines::of(SECTION_BASE, 1),
+        EXTENT_TABLE => Lines::of(EXTENT_BASE, CUBIC_STRIDE),
+        HEIGHT_TABLE => Lines::of(HEIGHT_BASE, HEIGHT_STRIDE),
+        PROFILE_TABLE => Lines::of(PROFILE_BASE, 1),
+        SHAPE_TABLE => Lines::of(SHAPE_BASE, CUBIC_STRIDE),
+        CUBIC_TABLE => Lines::of(CUBIC_BASE, CUBIC_STRIDE),
+        MARK_TABLE => Lines::of(SPAN_BASE, SPAN_STRIDE),
+        _ => Lines::of(0, 0),
     }
 }
 
-// Where a table's words stand.
+// Where a table's words stand. A geometry has a word, its kind; a lane's words are those of the layout; the words of the other tables have rules of their own.
+#[tactic(auto, unfolding(crate::specs::Layout::word_lines))]
 pub(crate) fn word_lines(table: usize) -> Lines
-    ensures { (result.first ≡ place_at table first_word) × (result.stride ≡ place_at table words_a_line) }
+    ensures { result ≡ word_lines table }
 {
-    if table < TABLE_COUNT {
-        WORDS[table]
-    } else {
-        NONE
+    match table {
+        GEOM_TABLE => Lines::of(KIND_WORDS, 1),
+        LANE_TABLE => Lines::of(LANE_WORDS, LANE_STRIDE),
+        _ => Lines::of(0, 0),
     }
 }
 
@@ -310,22 +173,35 @@ pub(crate) fn word_row(table: usize) -> Row
     }
 }
 
-pub(crate) fn count_place(table: usize) -> Option<u8>
-    ensures { place_number result ≡ count_place table }
+// The word that holds a table's count of lines, where one does.
+#[tactic(auto, unfolding(crate::specs::Layout::count_place))]
+pub(crate) fn count_place(table: usize) -> Option<usize>
+    ensures { result ≡ count_place table }
 {
-    if table < TABLE_COUNT {
-        COUNTS[table]
-    } else {
-        None
+    match table {
+        GEOM_TABLE => Some(GEOM_COUNT_AT),
+        ELEV_TABLE => Some(ELEV_COUNT_AT),
+        BANK_TABLE => Some(BANK_COUNT_AT),
+        OFFSET_TABLE => Some(OFFSET_COUNT_AT),
+        TSHIFT_TABLE => Some(TSHIFT_COUNT_AT),
+        SECTION_TABLE => Some(SECTION_COUNT_AT),
+        PROFILE_TABLE => Some(PROFILE_COUNT_AT),
+        _ => None,
     }
 }
 
+#[tactic(auto, unfolding(crate::specs::Layout::rule_of))]
 pub(crate) fn rule_of(table: usize) -> Option<Rule>
-    ensures { rule_number result ≡ rule_of table }
+    ensures { result ≡ rule_of table }
 {
-    if table < TABLE_COUNT {
-        RULES[table]
-    } else {
-        None
+    match table {
+        LANE_TABLE => Some(Rule::Child(Family::Lane)),
+        EXTENT_TABLE => Some(Rule::Child(Family::Extent)),
+        HEIGHT_TABLE => Some(Rule::Child(Family::Height)),
+        SHAPE_TABLE => Some(Rule::Child(Family::Shape)),
+        STRIP_TABLE => Some(Rule::Strip),
+        CUBIC_TABLE => Some(Rule::Child(Family::Cubic)),
+        MARK_TABLE => Some(Rule::Child(Family::Mark)),
+        _ => None,
     }
 }

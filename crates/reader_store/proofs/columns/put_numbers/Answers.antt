@@ -1,4 +1,5 @@
-use mathlib.Core.Path.{refl, ◌∙◌}
+use mathlib.Core.Path.{refl, ap, ◌∙◌}
+use Rattle.reader_store.specs.declared.layout.Lines.{Lines}
 use Rattle.reader_store.proofs.Puts.{numbers_more}
 use Rattle.reader_store.specs.Layout.{numbers_below}
 use Rattle.reader_store.proofs.columns.put_numbers.Goals as goal
@@ -11,5 +12,5 @@ pub loop-column-preserved : goal.loop-column-preserved
 loop-column-preserved c =
     let a = c.args in let at = c.loop-column in let l = c.number_lines.ensures in (
       c.put_cell.auto.list ∙ at.invariant.0,
-      numbers_more a.table a.k a.cells at.column a.numbers.now l.0 l.1 c.line-line.ensures.0 (c.number_row-places.ensures at.column c.loop-column-test.true) c.of_bits-value.ensures at.invariant.1 c.put_cell.ensures,
+      numbers_more a.table a.k a.cells at.column a.numbers.now (ap (λ (l : Lines). l.first) l) (ap (λ (l : Lines). l.stride) l) c.line-line.ensures.0 (c.number_row-places.ensures at.column c.loop-column-test.true) c.of_bits-value.ensures at.invariant.1 c.put_cell.ensures,
     )
