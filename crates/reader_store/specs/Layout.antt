@@ -19,79 +19,60 @@ use Rattle.reader_lines.specs.Columns.{cell_of}
 use Rattle.reader_lines.specs.declared.columns.Cells.{Cells}
 
 -- where lines stand in a slice: the first, and how far each is from the one before
-abbrev pub lines_of : ℕ → ℕ → Lines
-lines_of first stride = record { first = first; stride = stride }
+abbrev pub spaced : ℕ → ℕ → Lines
+spaced first stride = record { first = first; stride = stride }
 
 -- the numbers of each table; a lane, a strip and a want have none
 unfoldable pub number_lines : ℕ → Lines
 number_lines table =
-    cond (eqb table road_table) (lines_of length_place 1)
-    (cond (eqb table geom_table) (lines_of geom_base geom_stride)
-    (cond (eqb table elev_table) (lines_of elev_base cubic_stride)
-    (cond (eqb table bank_table) (lines_of bank_base cubic_stride)
-    (cond (eqb table offset_table) (lines_of offset_base cubic_stride)
-    (cond (eqb table tshift_table) (lines_of tshift_base cubic_stride)
-    (cond (eqb table section_table) (lines_of section_base 1)
-    (cond (eqb table extent_table) (lines_of extent_base cubic_stride)
-    (cond (eqb table height_table) (lines_of height_base height_stride)
-    (cond (eqb table profile_table) (lines_of profile_base 1)
-    (cond (eqb table shape_table) (lines_of shape_base cubic_stride)
-    (cond (eqb table cubic_table) (lines_of cubic_base cubic_stride)
-    (cond (eqb table mark_table) (lines_of span_base span_stride) (lines_of 0 0)))))))))))))
+    cond (eqb table road_table) (spaced length_place 1)
+    (cond (eqb table geom_table) (spaced geom_base geom_stride)
+    (cond (eqb table elev_table) (spaced elev_base cubic_stride)
+    (cond (eqb table bank_table) (spaced bank_base cubic_stride)
+    (cond (eqb table offset_table) (spaced offset_base cubic_stride)
+    (cond (eqb table tshift_table) (spaced tshift_base cubic_stride)
+    (cond (eqb table section_table) (spaced section_base 1)
+    (cond (eqb table extent_table) (spaced extent_base cubic_stride)
+    (cond (eqb table height_table) (spaced height_base height_stride)
+    (cond (eqb table profile_table) (spaced profile_base 1)
+    (cond (eqb table shape_table) (spaced shape_base cubic_stride)
+    (cond (eqb table cubic_table) (spaced cubic_base cubic_stride)
+    (cond (eqb table mark_table) (spaced span_base span_stride) (spaced 0 0)))))))))))))
 
 -- the words of each table: a geometry's kind, a lane's record; those of the other tables have rules of their own
 unfoldable pub word_lines : ℕ → Lines
 word_lines table =
-    cond (eqb table geom_table) (lines_of kind_words 1)
-    (cond (eqb table lane_table) (lines_of lane_words lane_stride) (lines_of 0 0))
+    cond (eqb table geom_table) (spaced kind_words 1)
+    (cond (eqb table lane_table) (spaced lane_words lane_stride) (spaced 0 0))
 
 -- which of its line's numbers each column is, counted from 1, eight columns to a table; 0 where it is none: a parent's number, a code, a want
-unfoldable pub numbers : List (List ℕ)
-numbers =
-    (1 ∷ 0 ∷ 0 ∷ 0 ∷ 0 ∷ 0 ∷ 0 ∷ 0 ∷ []) ∷  -- road
-    (1 ∷ 2 ∷ 3 ∷ 4 ∷ 5 ∷ 0 ∷ 6 ∷ 7 ∷ []) ∷  -- geom
-    (1 ∷ 2 ∷ 3 ∷ 4 ∷ 5 ∷ 0 ∷ 0 ∷ 0 ∷ []) ∷  -- elev
-    (1 ∷ 2 ∷ 3 ∷ 4 ∷ 5 ∷ 0 ∷ 0 ∷ 0 ∷ []) ∷  -- bank
-    (1 ∷ 2 ∷ 3 ∷ 4 ∷ 5 ∷ 0 ∷ 0 ∷ 0 ∷ []) ∷  -- offset
-    (1 ∷ 2 ∷ 3 ∷ 4 ∷ 5 ∷ 0 ∷ 0 ∷ 0 ∷ []) ∷  -- tshift
-    (1 ∷ 0 ∷ 0 ∷ 0 ∷ 0 ∷ 0 ∷ 0 ∷ 0 ∷ []) ∷  -- section
-    (0 ∷ 0 ∷ 0 ∷ 0 ∷ 0 ∷ 0 ∷ 0 ∷ 0 ∷ []) ∷  -- lane
-    (0 ∷ 0 ∷ 1 ∷ 2 ∷ 3 ∷ 4 ∷ 5 ∷ 0 ∷ []) ∷  -- extent
-    (0 ∷ 0 ∷ 1 ∷ 2 ∷ 3 ∷ 0 ∷ 0 ∷ 0 ∷ []) ∷  -- height
-    (1 ∷ 0 ∷ 0 ∷ 0 ∷ 0 ∷ 0 ∷ 0 ∷ 0 ∷ []) ∷  -- profile
-    (0 ∷ 1 ∷ 2 ∷ 3 ∷ 4 ∷ 5 ∷ 0 ∷ 0 ∷ []) ∷  -- shape
-    (0 ∷ 0 ∷ 0 ∷ 0 ∷ 0 ∷ 0 ∷ 0 ∷ 0 ∷ []) ∷  -- strip
-    (0 ∷ 0 ∷ 0 ∷ 1 ∷ 2 ∷ 3 ∷ 4 ∷ 5 ∷ []) ∷  -- cubic
-    (0 ∷ 0 ∷ 1 ∷ 2 ∷ 0 ∷ 0 ∷ 0 ∷ 0 ∷ []) ∷  -- mark
-    (0 ∷ 0 ∷ 0 ∷ 0 ∷ 0 ∷ 0 ∷ 0 ∷ 0 ∷ []) ∷  -- want
-    []
+unfoldable pub number_row : ℕ → List ℕ
+number_row table =
+    cond (eqb table road_table) (1 ∷ 0 ∷ 0 ∷ 0 ∷ 0 ∷ 0 ∷ 0 ∷ 0 ∷ [])
+    (cond (eqb table geom_table) (1 ∷ 2 ∷ 3 ∷ 4 ∷ 5 ∷ 0 ∷ 6 ∷ 7 ∷ [])
+    (cond (eqb table elev_table) (1 ∷ 2 ∷ 3 ∷ 4 ∷ 5 ∷ 0 ∷ 0 ∷ 0 ∷ [])
+    (cond (eqb table bank_table) (1 ∷ 2 ∷ 3 ∷ 4 ∷ 5 ∷ 0 ∷ 0 ∷ 0 ∷ [])
+    (cond (eqb table offset_table) (1 ∷ 2 ∷ 3 ∷ 4 ∷ 5 ∷ 0 ∷ 0 ∷ 0 ∷ [])
+    (cond (eqb table tshift_table) (1 ∷ 2 ∷ 3 ∷ 4 ∷ 5 ∷ 0 ∷ 0 ∷ 0 ∷ [])
+    (cond (eqb table section_table) (1 ∷ 0 ∷ 0 ∷ 0 ∷ 0 ∷ 0 ∷ 0 ∷ 0 ∷ [])
+    (cond (eqb table extent_table) (0 ∷ 0 ∷ 1 ∷ 2 ∷ 3 ∷ 4 ∷ 5 ∷ 0 ∷ [])
+    (cond (eqb table height_table) (0 ∷ 0 ∷ 1 ∷ 2 ∷ 3 ∷ 0 ∷ 0 ∷ 0 ∷ [])
+    (cond (eqb table profile_table) (1 ∷ 0 ∷ 0 ∷ 0 ∷ 0 ∷ 0 ∷ 0 ∷ 0 ∷ [])
+    (cond (eqb table shape_table) (0 ∷ 1 ∷ 2 ∷ 3 ∷ 4 ∷ 5 ∷ 0 ∷ 0 ∷ [])
+    (cond (eqb table cubic_table) (0 ∷ 0 ∷ 0 ∷ 1 ∷ 2 ∷ 3 ∷ 4 ∷ 5 ∷ [])
+    (cond (eqb table mark_table) (0 ∷ 0 ∷ 1 ∷ 2 ∷ 0 ∷ 0 ∷ 0 ∷ 0 ∷ []) (0 ∷ 0 ∷ 0 ∷ 0 ∷ 0 ∷ 0 ∷ 0 ∷ 0 ∷ [])))))))))))))
 
 unfoldable pub number_place : ℕ → ℕ → ℕ
-number_place table column = cond (ltb column columns_most) (get_or (get_or numbers table []) column 0) 0
+number_place table column = cond (ltb column columns_most) (get_or (number_row table) column 0) 0
 
 -- which of its line's words each column is, likewise: a geometry's kind, a lane's extent and level. A strip's relative, and a mark's lane and kind, have rules of their own
-unfoldable pub words : List (List ℕ)
-words =
-    (0 ∷ 0 ∷ 0 ∷ 0 ∷ 0 ∷ 0 ∷ 0 ∷ 0 ∷ []) ∷  -- road
-    (0 ∷ 0 ∷ 0 ∷ 0 ∷ 0 ∷ 1 ∷ 0 ∷ 0 ∷ []) ∷  -- geom
-    (0 ∷ 0 ∷ 0 ∷ 0 ∷ 0 ∷ 0 ∷ 0 ∷ 0 ∷ []) ∷  -- elev
-    (0 ∷ 0 ∷ 0 ∷ 0 ∷ 0 ∷ 0 ∷ 0 ∷ 0 ∷ []) ∷  -- bank
-    (0 ∷ 0 ∷ 0 ∷ 0 ∷ 0 ∷ 0 ∷ 0 ∷ 0 ∷ []) ∷  -- offset
-    (0 ∷ 0 ∷ 0 ∷ 0 ∷ 0 ∷ 0 ∷ 0 ∷ 0 ∷ []) ∷  -- tshift
-    (0 ∷ 0 ∷ 0 ∷ 0 ∷ 0 ∷ 0 ∷ 0 ∷ 0 ∷ []) ∷  -- section
-    (0 ∷ 0 ∷ 1 ∷ 2 ∷ 0 ∷ 0 ∷ 0 ∷ 0 ∷ []) ∷  -- lane
-    (0 ∷ 0 ∷ 0 ∷ 0 ∷ 0 ∷ 0 ∷ 0 ∷ 0 ∷ []) ∷  -- extent
-    (0 ∷ 0 ∷ 0 ∷ 0 ∷ 0 ∷ 0 ∷ 0 ∷ 0 ∷ []) ∷  -- height
-    (0 ∷ 0 ∷ 0 ∷ 0 ∷ 0 ∷ 0 ∷ 0 ∷ 0 ∷ []) ∷  -- profile
-    (0 ∷ 0 ∷ 0 ∷ 0 ∷ 0 ∷ 0 ∷ 0 ∷ 0 ∷ []) ∷  -- shape
-    (0 ∷ 0 ∷ 0 ∷ 0 ∷ 0 ∷ 0 ∷ 0 ∷ 0 ∷ []) ∷  -- strip
-    (0 ∷ 0 ∷ 0 ∷ 0 ∷ 0 ∷ 0 ∷ 0 ∷ 0 ∷ []) ∷  -- cubic
-    (0 ∷ 0 ∷ 0 ∷ 0 ∷ 0 ∷ 0 ∷ 0 ∷ 0 ∷ []) ∷  -- mark
-    (0 ∷ 0 ∷ 0 ∷ 0 ∷ 0 ∷ 0 ∷ 0 ∷ 0 ∷ []) ∷  -- want
-    []
+unfoldable pub word_row : ℕ → List ℕ
+word_row table =
+    cond (eqb table geom_table) (0 ∷ 0 ∷ 0 ∷ 0 ∷ 0 ∷ 1 ∷ 0 ∷ 0 ∷ [])
+    (cond (eqb table lane_table) (0 ∷ 0 ∷ 1 ∷ 2 ∷ 0 ∷ 0 ∷ 0 ∷ 0 ∷ []) (0 ∷ 0 ∷ 0 ∷ 0 ∷ 0 ∷ 0 ∷ 0 ∷ 0 ∷ []))
 
 unfoldable pub word_place : ℕ → ℕ → ℕ
-word_place table column = cond (ltb column columns_most) (get_or (get_or words table []) column 0) 0
+word_place table column = cond (ltb column columns_most) (get_or (word_row table) column 0) 0
 
 -- the word that holds a table's count of lines; the counts of the others are those of their ranges
 unfoldable pub count_place : ℕ → Option ℕ

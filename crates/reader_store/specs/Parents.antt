@@ -8,7 +8,7 @@ use Rattle.reader_lines.specs.declared.columns.Cells.{Cells}
 use Rattle.reader_store.specs.Layout.{base_of, stride_of}
 use Rattle.reader_store.specs.Progress.{strip_of, strip_line}
 use Rattle.reader_store.specs.declared.layout.Family.{Family}
-use Rattle.reader_store.specs.declared.layout.Family.TheVariants.{Lane, Extent, Height, Shape, Cubic, Mark}
+use Rattle.reader_store.specs.declared.layout.Family.TheVariants.{Lane, Shape, Cubic, Mark}
 use Rattle.reader_store.specs.declared.parents.Ranked.{Ranked}
 use Rattle.reader_store.specs.declared.parents.Counted.{Counted}
 use Rattle.reader_store.specs.declared.parents.Side.{Side}

@@ -1,7 +1,7 @@
-// The layout of a lent road's memory by table, as data: its places and strides are those of crate records.
-ghost use Rattle.std.specs.Prelude.{◌≡◌, ℕ, ◌+◌, ◌*◌, ◌<◌, get_or};
-ghost use Rattle.reader_schema.specs.Tables.{columns_most};
-ghost use Rattle.reader_store.specs.Layout.{lines_of, number_lines, word_lines, number_place, word_place, count_place, rule_of, base_of, stride_of};
+// The layout of a lent road's memory by table: its places and strides are those of crate records. A function answers each question, with none where a table
+// has nothing of the kind; a struct for each table would name six things, most of them none.
+ghost use Rattle.std.specs.Prelude.{◌≡◌, ◌+◌, ◌*◌, ◌<◌};
+ghost use Rattle.reader_store.specs.Layout.{spaced, number_lines, word_lines, number_row, word_row, count_place, rule_of, base_of, stride_of};
 
 use reader_schema::tables::{
     BANK_TABLE, COLUMNS_MOST, CUBIC_TABLE, ELEV_TABLE, EXTENT_TABLE, GEOM_TABLE, HEIGHT_TABLE,
@@ -25,10 +25,11 @@ pub(crate) struct Lines {
 }
 
 impl Lines {
-    fn of(first: usize, stride: usize) -> Lines
+    // Lines from a place on.
+    fn spaced(first: usize, stride: usize) -> Lines
         requires first_word { first < 65536 }
         requires stride_word { stride < 65536 }
-        ensures { result ≡ lines_of first stride }
+        ensures { result ≡ spaced first stride }
     {
         Lines {
             first: first as u16,
@@ -97,12 +98,12 @@ impl Family {
         ensures { (result.first ≡ base_of self) × (result.stride ≡ stride_of self) }
     {
         match self {
-            Family::Lane => Lines::of(0, 0),
-            Family::Extent => Lines::of(LANE_WORDS + 2, LANE_STRIDE),
-            Family::Height => Lines::of(LANE_WORDS + 4, LANE_STRIDE),
-            Family::Shape => Lines::of(PROFILE_WORDS, PROFILE_STRIDE),
-            Family::Cubic => Lines::of(STRIP_WORDS + 1, 1),
-            Family::Mark => Lines::of(SECTION_MARK_WORDS, SECTION_MARK_STRIDE),
+            Family::Lane => Lines::spaced(0, 0),
+            Family::Extent => Lines::spaced(LANE_WORDS + 2, LANE_STRIDE),
+            Family::Height => Lines::spaced(LANE_WORDS + 4, LANE_STRIDE),
+            Family::Shape => Lines::spaced(PROFILE_WORDS, PROFILE_STRIDE),
+            Family::Cubic => Lines::spaced(STRIP_WORDS + 1, 1),
+            Family::Mark => Lines::spaced(SECTION_MARK_WORDS, SECTION_MARK_STRIDE),
         }
     }
 }
@@ -113,20 +114,20 @@ pub(crate) fn number_lines(table: usize) -> Lines
     ensures { result ≡ number_lines table }
 {
     match table {
-        ROAD_TABLE => Lines::of(LENGTH_PLACE, 1),
-        GEOM_TABLE => Lines::of(GEOM_BASE, GEOM_STRIDE),
-        ELEV_TABLE => Lines::of(ELEV_BASE, CUBIC_STRIDE),
-        BANK_TABLE => Lines::of(BANK_BASE, CUBIC_STRIDE),
-        OFFSET_TABLE => Lines::of(OFFSET_BASE, CUBIC_STRIDE),
-        TSHIFT_TABLE => Lines::of(TSHIFT_BASE, CUBIC_STRIDE),
-        SECTION_TABLE => Lines::of(SECTION_BASE, 1),
-        EXTENT_TABLE => Lines::of(EXTENT_BASE, CUBIC_STRIDE),
-        HEIGHT_TABLE => Lines::of(HEIGHT_BASE, HEIGHT_STRIDE),
-        PROFILE_TABLE => Lines::of(PROFILE_BASE, 1),
-        SHAPE_TABLE => Lines::of(SHAPE_BASE, CUBIC_STRIDE),
-        CUBIC_TABLE => Lines::of(CUBIC_BASE, CUBIC_STRIDE),
-        MARK_TABLE => Lines::of(SPAN_BASE, SPAN_STRIDE),
-        _ => Lines::of(0, 0),
+        ROAD_TABLE => Lines::spaced(LENGTH_PLACE, 1),
+        GEOM_TABLE => Lines::spaced(GEOM_BASE, GEOM_STRIDE),
+        ELEV_TABLE => Lines::spaced(ELEV_BASE, CUBIC_STRIDE),
+        BANK_TABLE => Lines::spaced(BANK_BASE, CUBIC_STRIDE),
+        OFFSET_TABLE => Lines::spaced(OFFSET_BASE, CUBIC_STRIDE),
+        TSHIFT_TABLE => Lines::spaced(TSHIFT_BASE, CUBIC_STRIDE),
+        SECTION_TABLE => Lines::spaced(SECTION_BASE, 1),
+        EXTENT_TABLE => Lines::spaced(EXTENT_BASE, CUBIC_STRIDE),
+        HEIGHT_TABLE => Lines::spaced(HEIGHT_BASE, HEIGHT_STRIDE),
+        PROFILE_TABLE => Lines::spaced(PROFILE_BASE, 1),
+        SHAPE_TABLE => Lines::spaced(SHAPE_BASE, CUBIC_STRIDE),
+        CUBIC_TABLE => Lines::spaced(CUBIC_BASE, CUBIC_STRIDE),
+        MARK_TABLE => Lines::spaced(SPAN_BASE, SPAN_STRIDE),
+        _ => Lines::spaced(0, 0),
     }
 }
 
@@ -136,25 +137,28 @@ pub(crate) fn word_lines(table: usize) -> Lines
     ensures { result ≡ word_lines table }
 {
     match table {
-        GEOM_TABLE => Lines::of(KIND_WORDS, 1),
-        LANE_TABLE => Lines::of(LANE_WORDS, LANE_STRIDE),
-        _ => Lines::of(0, 0),
+        GEOM_TABLE => Lines::spaced(KIND_WORDS, 1),
+        LANE_TABLE => Lines::spaced(LANE_WORDS, LANE_STRIDE),
+        _ => Lines::spaced(0, 0),
     }
 }
 
 // Which of its line's numbers each column of a table is.
+#[tactic(auto, unfolding(crate::specs::Layout::number_row))]
 pub(crate) fn number_row(table: usize) -> Row
-    ensures { (column : ℕ) → column < columns_most → get_or result column 0 ≡ number_place table column }
+    ensures { result ≡ number_row table }
 {
     match table {
-        ROAD_TABLE | SECTION_TABLE | PROFILE_TABLE => ONE,
+        ROAD_TABLE => ONE,
         GEOM_TABLE => GEOM,
         ELEV_TABLE => ALONG,
         BANK_TABLE => ALONG,
         OFFSET_TABLE => ALONG,
         TSHIFT_TABLE => ALONG,
+        SECTION_TABLE => ONE,
         EXTENT_TABLE => EXTENT,
         HEIGHT_TABLE => HEIGHT,
+        PROFILE_TABLE => ONE,
         SHAPE_TABLE => SHAPE,
         CUBIC_TABLE => CUBIC,
         MARK_TABLE => MARK,
@@ -163,8 +167,9 @@ pub(crate) fn number_row(table: usize) -> Row
 }
 
 // Which of its line's words each column of a table is.
+#[tactic(auto, unfolding(crate::specs::Layout::word_row))]
 pub(crate) fn word_row(table: usize) -> Row
-    ensures { (column : ℕ) → column < columns_most → get_or result column 0 ≡ word_place table column }
+    ensures { result ≡ word_row table }
 {
     match table {
         GEOM_TABLE => GEOM_CODES,
@@ -190,6 +195,7 @@ pub(crate) fn count_place(table: usize) -> Option<usize>
     }
 }
 
+// What a table's lines are beside their cells.
 #[tactic(auto, unfolding(crate::specs::Layout::rule_of))]
 pub(crate) fn rule_of(table: usize) -> Option<Rule>
     ensures { result ≡ rule_of table }

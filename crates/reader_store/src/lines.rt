@@ -133,19 +133,12 @@ pub fn keep_line(
     keep_ruled(words, rule_of(table), k, cells, progress)
 }
 
-// Keeps a table's count of lines, where the layout has a word for it.
+// Ends a table of k lines: keeps its count, where the layout has a word for it, and lets the next table's parents begin anew.
 #[tactic(auto, unfolding(crate::specs::Layout::count_kept))]
-fn keep_count(words: &mut [u16], table: usize, k: u16)
-    ensures { words.new ≡ count_kept table k words.old }
-{
-    put_at(words, count_place(table), k);
-}
-
-// Ends a table of k lines: keeps its count, and lets the next table's parents begin anew.
 pub fn end_table(words: &mut [u16], table: usize, k: u16, progress: Progress) -> Progress
     ensures value { result ≡ ended_progress progress }
     ensures words_after { words.new ≡ count_kept table k words.old }
 {
-    keep_count(words, table, k);
+    put_at(words, count_place(table), k);
     progress.ended()
 }
