@@ -1,8 +1,4 @@
-use mathlib.Core.Path.{refl, ap, ◌∙◌}
-use Prim.Native.Nat.{ℕ}
-use mathlib.Core.List.{List}
-use lib.ListN.{get_or}
-use Rattle.reader_store.specs.declared.layout.Lines.{Lines}
+use mathlib.Core.Path.{refl, ◌∙◌}
 use Rattle.reader_store.proofs.Puts.{numbers_more}
 use Rattle.reader_store.specs.Layout.{numbers_below}
 use Rattle.reader_store.proofs.columns.put_numbers.Goals as goal
@@ -13,7 +9,7 @@ loop-column-init c = (refl, refl)
 
 pub loop-column-preserved : goal.loop-column-preserved
 loop-column-preserved c =
-    let a = c.args in let at = c.loop-column in let l = c.number_lines.ensures in (
+    let a = c.args in let at = c.loop-column in (
       c.put_cell.auto.list ∙ at.invariant.0,
-      numbers_more a.table a.k a.cells at.column a.numbers.now (ap (λ (l : Lines). l.first) l) (ap (λ (l : Lines). l.stride) l) c.line-line.ensures.0 c.loop-column-test.true (ap (λ (xs : List ℕ). get_or xs at.column 0) c.number_row-places.ensures) c.of_bits-value.ensures at.invariant.1 c.put_cell.ensures,
+      numbers_more a.table a.k a.cells at.column c.line-line.ensures.0 c.loop-column-test.true a.numbers.now c.number_lines.ensures c.number_row-places.ensures c.of_bits-value.ensures at.invariant.1 c.put_cell.ensures,
     )
