@@ -75,7 +75,7 @@ const LANE_CODES: Row = [0, 0, 1, 2, 0, 0, 0, 0];
 
 // Whose children the lines of a table are: a section's lanes, a lane's extents, its heights, a profile's shapes, a strip's cubics, a section's marks.
 #[derive(Clone, Copy, Debug, PartialEq, Eq)]
-pub(crate) enum Family {
+pub enum Family {
     Lane,
     Extent,
     Height,
@@ -86,7 +86,7 @@ pub(crate) enum Family {
 
 // What the lines of a table are, beside their cells: strips, or children.
 #[derive(Clone, Copy, Debug, PartialEq, Eq)]
-pub(crate) enum Rule {
+pub enum Rule {
     Strip,
     Child(Family),
 }

@@ -69,7 +69,7 @@ fn section_of(words: &[u16], section: u64) -> Option<Ranked>
 
 // The sides that a lane adds to.
 #[derive(Clone, Copy, Debug, PartialEq, Eq)]
-enum Side {
+pub enum Side {
     Left,
     Right,
 }
