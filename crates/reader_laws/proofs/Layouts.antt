@@ -21,7 +21,7 @@ use Rattle.reader_schema.specs.Tables.{geom_table, elev_table, bank_table, offse
 use Rattle.reader_schema.specs.Schema.{limits, limit_of}
 use Rattle.reader_store.specs.Layout.{number_lines, word_lines, number_row, number_place, word_row, word_place, base_of, stride_of}
 use Rattle.reader_store.specs.declared.layout.Family.{Family}
-use Rattle.reader_store.specs.declared.layout.Family.TheVariants.{Extent, Height, Shape, Cubic, Mark as MarkFamily}
+use Rattle.reader_store.specs.declared.layout.Family.TheVariants.{Extent, Height, Shape, Cubic as CubicFamily, Mark as MarkFamily}
 use Rattle.reader_store.specs.Parents.{section_word}
 
 -- ---- places
@@ -251,7 +251,7 @@ module _ (ws : List ℕ) (ns : List Float) where
   profile-join i = rw (one_more_lem 5841 i)
 
   -- the cubics of a strip's width or of a term: the range that `term_of` counts up
-  pub column-join : (i column : ℕ) → column_in ws ns i column ≡ cubics_in ws ns (number_lines 13).first (first_of Cubic (i * 11 + column * 2)) (count_of Cubic (i * 11 + column * 2))
+  pub column-join : (i column : ℕ) → column_in ws ns i column ≡ cubics_in ws ns (number_lines 13).first (first_of CubicFamily (i * 11 + column * 2)) (count_of CubicFamily (i * 11 + column * 2))
   unfolding column_in number_lines word_lines base_of stride_of
   column-join i column = ap (λ (p : ℕ). cubics_in ws ns 7137 (get_or ws p 0) (get_or ws (p + 1) 0)) (column-place i column)
 

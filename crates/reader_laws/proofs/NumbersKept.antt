@@ -14,7 +14,7 @@ use lib.Ieee.{Float, nan, binary64, of_bits}
 use borrow.Author.Tests.{ltb-true, lt-ltb}
 use Rattle.reader_lines.specs.Columns.{cell_of, no_cells}
 use Rattle.reader_lines.specs.declared.columns.Cells.{Cells}
-use Rattle.reader_store.specs.Layout.{word_lines, number_place, number_put, numbers_below}
+use Rattle.reader_store.specs.Layout.{number_lines, number_place, number_put, numbers_below}
 
 -- the place of a column of line k
 abbrev pub place_of : ℕ → ℕ → ℕ → ℕ
