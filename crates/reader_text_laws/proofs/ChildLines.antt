@@ -5,7 +5,6 @@ use mathlib.Core.Path.{◌≡◌, refl, sym, ◌∙◌, ap, subst}
 use mathlib.Core.Bool.{Bool, true}
 use mathlib.Core.List.{List}
 use lib.ListN.{length, get_or, replicate}
-use lib.Dec.{eqb}
 use borrow.Author.Tests.{eqb-true, eq-eqb}
 use Rattle.std.specs.Prelude.{Option, Some, None, option_and_then}
 use Rattle.reader_schema.specs.Schema.{limits, limit_of}
@@ -20,12 +19,12 @@ use Rattle.reader_laws.specs.Lines.{lines_of}
 use Rattle.reader_text_laws.specs.Said.{under, of_lane}
 use Rattle.reader_text_laws.specs.Family.{Follow}
 use Rattle.reader_text_laws.proofs.ParentCases.{found, There, there, counted-there}
-use Rattle.reader_text_laws.proofs.Those.{Part, part_same}
+use Rattle.reader_text_laws.proofs.Those.{pair-tells, pair-holds, Part, part_same}
 use Rattle.reader_text_laws.proofs.Folds.{track_after, words_after, State, Step}
 use Rattle.reader_text_laws.proofs.States.{Reading, state-long, blank, blank-strips, still-10}
 use Rattle.reader_text_laws.proofs.Ranges.{NoWord, no_own, none_owned, Outside, Parents, Kept, extent-ranged, height-ranged, shape-ranged, ranges-kept}
 use Rattle.reader_text_laws.proofs.Lanes.{Lanes, lanes-kept}
-use Rattle.reader_text_laws.proofs.LaneLines.{and_both, both, LaneRows, lane_rows_lem, lane-one, Named, of_lane_named, lane-found}
+use Rattle.reader_text_laws.proofs.LaneLines.{LaneRows, lane_rows_lem, lane-one, Named, of_lane_named, lane-found}
 
 -- a parent's range is the lines that a test picks, where the test picks the lines that name it
 pub kept-part : (base stride : ℕ) (Good Mine : ℕ → Type 0) (all : List Cells) (strips : List (Option ℕ)) (ws : List ℕ) (I : Cells → Option Ranked) (progress : Progress) (us : List ℕ) → Kept base stride Good Mine all strips ws I (length all) progress us
@@ -93,31 +92,24 @@ module _ (lanes : List Cells) (S : ℕ) (zs : List ℕ) (rows : LaneRows lanes S
   lane-part base all strips progress us kept i h =
       kept-part base 6 (λ i. i < length lanes) NoWord all strips zs lane_as progress us kept i h (of_lane (get_or lanes i no_cells))
       (λ k l e.
-      let p = and_both (eqb (cell_of (get_or all k no_cells) 0) (cell_of (get_or lanes i no_cells) 0)) (eqb (cell_of (get_or all k no_cells) 1) (cell_of (get_or lanes i no_cells) 1)) e in
+      let p = pair-tells (cell_of (get_or lanes i no_cells) 0) (cell_of (get_or lanes i no_cells) 1) (get_or all k no_cells) e in
       let n = named (get_or all k no_cells) (kept.there k l) in
-      lane-one lanes S zs rows (found (lane_as (get_or all k no_cells))).index i n.inside h (n.same_section ∙ eqb-true (cell_of (get_or all k no_cells) 0) (cell_of (get_or lanes i no_cells) 0) p.0) (n.same_id ∙ eqb-true (cell_of (get_or all k no_cells) 1) (cell_of (get_or lanes i no_cells) 1) p.1))
+      lane-one lanes S zs rows (found (lane_as (get_or all k no_cells))).index i n.inside h (n.same_section ∙ p.0) (n.same_id ∙ p.1))
       (λ k l e.
       let n = named (get_or all k no_cells) (kept.there k l) in
-      both (eqb (cell_of (get_or all k no_cells) 0) (cell_of (get_or lanes i no_cells) 0)) (eqb (cell_of (get_or all k no_cells) 1) (cell_of (get_or lanes i no_cells) 1))
-      (eq-eqb (cell_of (get_or all k no_cells) 0) (cell_of (get_or lanes i no_cells) 0) (sym n.same_section ∙ ap (λ (j : ℕ). cell_of (get_or lanes j no_cells) 0) e))
-      (eq-eqb (cell_of (get_or all k no_cells) 1) (cell_of (get_or lanes i no_cells) 1) (sym n.same_id ∙ ap (λ (j : ℕ). cell_of (get_or lanes j no_cells) 1) e)))
+      pair-holds (cell_of (get_or lanes i no_cells) 0) (cell_of (get_or lanes i no_cells) 1) (get_or all k no_cells) (sym n.same_section ∙ ap (λ (j : ℕ). cell_of (get_or lanes j no_cells) 0) e) (sym n.same_id ∙ ap (λ (j : ℕ). cell_of (get_or lanes j no_cells) 1) e))
 
   -- the lane that a line names, where the table has it
   pub lane-is : (cells : Cells) (k : ℕ) → k < length lanes → of_lane (get_or lanes k no_cells) cells ≡ true → lane_as cells ≡ Some (index_at k)
   lane-is cells k g e =
-      let p = and_both (eqb (cell_of cells 0) (cell_of (get_or lanes k no_cells) 0)) (eqb (cell_of cells 1) (cell_of (get_or lanes k no_cells) 1)) e in
-      ap (λ (a : ℕ). lane_index zs a (cell_of cells 1)) (eqb-true (cell_of cells 0) (cell_of (get_or lanes k no_cells) 0) p.0)
-      ∙ ap (lane_index zs (cell_of (get_or lanes k no_cells) 0)) (eqb-true (cell_of cells 1) (cell_of (get_or lanes k no_cells) 1) p.1)
-      ∙ lane-found lanes S zs rows counts k g
+      let p = pair-tells (cell_of (get_or lanes k no_cells) 0) (cell_of (get_or lanes k no_cells) 1) cells e in
+      ap (λ (a : ℕ). lane_index zs a (cell_of cells 1)) p.0 ∙ ap (lane_index zs (cell_of (get_or lanes k no_cells) 0)) p.1 ∙ lane-found lanes S zs rows counts k g
 
   pub lane-names : (cells : Cells) → There (lane_as cells) → (k : ℕ) × (k < length lanes) × (of_lane (get_or lanes k no_cells) cells ≡ true)
   lane-names cells t =
       let q = named cells t in
-      let k : ℕ = (found (lane_as cells)).index in (
-        k,
-        q.inside,
-        both (eqb (cell_of cells 0) (cell_of (get_or lanes k no_cells) 0)) (eqb (cell_of cells 1) (cell_of (get_or lanes k no_cells) 1)) (eq-eqb (cell_of cells 0) (cell_of (get_or lanes k no_cells) 0) (sym q.same_section)) (eq-eqb (cell_of cells 1) (cell_of (get_or lanes k no_cells) 1) (sym q.same_id)),
-      )
+      let k : ℕ = (found (lane_as cells)).index in
+      (k, q.inside, pair-holds (cell_of (get_or lanes k no_cells) 0) (cell_of (get_or lanes k no_cells) 1) cells (sym q.same_section) (sym q.same_id))
 
   lane-rank : (cells : Cells) (k : ℕ) → k < length lanes → of_lane (get_or lanes k no_cells) cells ≡ true → (found (lane_as cells)).rank ≡ k
   lane-rank cells k g e = ap (λ (o : Option Ranked). (found o).rank) (lane-is cells k g e)

@@ -1,6 +1,6 @@
 -- The words of a stored text pass the tests on words (`structured`) exactly where the lists of the road that it says have right lengths (`structured-says`), test by test.
 -- Slices, codes and kinds always pass. A range is a part of its table (`Part`), so it lies inside the table, the table inside its limit, and its count is how many lines the part has: what is left of its test is the test on that count.
-use Prim.Native.Nat.{ℕ, ◌+◌, ◌-◌, ◌*◌, ◌/◌, ◌%◌, ◌<◌, ◌≤◌}
+use Prim.Native.Nat.{ℕ, ◌+◌, ◌*◌, ◌/◌, ◌%◌, ◌<◌, ◌≤◌}
 use native.Mathlib.Omega.{arith}
 use mathlib.Core.Path.{◌≡◌, refl, sym, ◌∙◌, ap}
 use mathlib.Core.Bool.{Bool, true, false, ◌&&◌, ◌||◌, and-true, and-false}

@@ -1,16 +1,14 @@
 -- A text of right form is sound to the reader exactly where its lines' references and order are right (`sound-is-family`).
-use Prim.Native.Nat.{ℕ, zero, suc, ◌+◌, ◌-◌, ◌*◌, ◌%◌, ◌<◌, ◌≤◌}
+use Prim.Native.Nat.{ℕ, suc, ◌+◌, ◌-◌, ◌*◌, ◌%◌, ◌<◌, ◌≤◌}
 use native.Mathlib.Omega.{arith}
-use native.Mathlib.Nat.{eq-or-lt_of_le, le_of_suc-le-suc}
+use native.Mathlib.Nat.{eq-or-lt_of_le, le_of_suc-le-suc, mod-eq_of_lt}
 use mathlib.Core.Path.{◌≡◌, refl, sym, ◌∙◌, ap, subst}
 use mathlib.Core.Bool.{true}
 use mathlib.Core.List.{List}
 use mathlib.Core.Logic.{⊎_elim}
 use lib.ListN.{length, get_or}
-use lib.Dec.{eqb}
 use lib.Ieee.{Float}
-use borrow.Author.Tests.{eqb-true, eq-eqb}
-use Rattle.std.specs.Prelude.{Option, Some, None, is_some}
+use Rattle.std.specs.Prelude.{Option, Some, is_some}
 use Rattle.std.proofs.lemmas.Option.{same_Some}
 use Rattle.reader_lines.specs.Columns.{cell_of, no_cells}
 use Rattle.reader_lines.specs.declared.columns.Cells.{Cells}
@@ -30,21 +28,17 @@ use Rattle.reader_text_laws.proofs.Folds.{track_after, after-sound, plain-track,
 use Rattle.reader_text_laws.proofs.States.{Reading, state, state-step, state-first, state-end, reading, sound-reading, state-last, state-long, blank}
 use Rattle.reader_text_laws.proofs.Ranges.{NoWord, no_own, none_owned, extent-ranged, height-ranged, shape-ranged, cubic-ranged, ranges-right}
 use Rattle.reader_text_laws.proofs.Lanes.{section_in, lanes-right}
-use Rattle.reader_text_laws.proofs.LaneLines.{and_both, both}
+use Rattle.reader_text_laws.proofs.Those.{pair-tells, pair-holds}
 use Rattle.reader_text_laws.proofs.LaneIds.{ids-kept, id-turn}
 use Rattle.reader_text_laws.proofs.Listed.{strip-cells, cubic-cells}
 use Rattle.reader_text_laws.proofs.ChildLines.{sections-few, lanes-few, profiles-few, lanes, rows-8, counts-8, rows-9, counts-9, extents, heights, shapes, lane_as, extent-parents, height-parents, shape-parents, profile-named, lane-names, lane-is, lane-follow, follow-there, follow-order, strips-12}
-use Rattle.reader_text_laws.proofs.StripLines.{strip_at, strips-few, blank-12, seen-13, noted-13, I, cubics, cubic-parents, Term, term_as, term-is, term-there, two-bits, mods, compared, strips-right}
+use Rattle.reader_text_laws.proofs.StripLines.{strip_at, strips-few, blank-12, seen-13, noted-13, I, cubics, cubic-parents, Term, term_as, term-is, term-there, two-bits, mods, strips-right}
 use Rattle.reader_text_laws.proofs.MarkLines.{mark-ranged, MarkWord, mark-there, Marked, rows-14, counts-14, most-14, mark_named, marked-in, parents-14, owned-14, mark-there-14, mark-rising}
 
 -- ---- strips by their pairs
 
 pair_same : (strip r : Cells) → of_pair strip r ≡ true → strip_named r ≡ strip_named strip
-pair_same strip r e =
-    let p = and_both (eqb (cell_of r 0) (cell_of strip 0)) (eqb (cell_of r 1) (cell_of strip 1)) e in
-    let a = eqb-true (cell_of r 0) (cell_of strip 0) p.0 in
-    let b = eqb-true (cell_of r 1) (cell_of strip 1) p.1 in
-    joined (cell_of r 0) (cell_of r 1) (cell_of strip 0) (cell_of strip 1) a b
+pair_same strip r e = let p = pair-tells (cell_of strip 0) (cell_of strip 1) r e in joined (cell_of r 0) (cell_of r 1) (cell_of strip 0) (cell_of strip 1) p.0 p.1
   where
     joined : (x y a b : ℕ) → x ≡ a → y ≡ b → x % 2 * 2 + y % 2 ≡ a % 2 * 2 + b % 2
     joined x y a b p q = omega arith
@@ -52,7 +46,7 @@ pair_same strip r e =
 pair_of : (strip r : Cells) → cell_of strip 0 < 2 → cell_of strip 1 < 2 → cell_of r 0 < 2 → cell_of r 1 < 2 → strip_named r ≡ strip_named strip → of_pair strip r ≡ true
 pair_of strip r a b c d e =
     let t = two-bits (cell_of r 0) (cell_of r 1) (cell_of strip 0) (cell_of strip 1) c d a b (e ∙ bits (cell_of strip 0) (cell_of strip 1) a b) in
-    both (eqb (cell_of r 0) (cell_of strip 0)) (eqb (cell_of r 1) (cell_of strip 1)) (eq-eqb (cell_of r 0) (cell_of strip 0) t.0) (eq-eqb (cell_of r 1) (cell_of strip 1) t.1)
+    pair-holds (cell_of strip 0) (cell_of strip 1) r t.0 t.1
   where
     bits : (x y : ℕ) → x < 2 → y < 2 → x % 2 * 2 + y % 2 ≡ x * 2 + y
     bits x y h g = omega arith
@@ -60,18 +54,15 @@ pair_of strip r a b c d e =
 -- one with the pair of another that has a third's
 pair_then : (a b c : Cells) → of_pair a b ≡ true → of_pair b c ≡ true → of_pair a c ≡ true
 pair_then a b c e f =
-    let p = and_both (eqb (cell_of b 0) (cell_of a 0)) (eqb (cell_of b 1) (cell_of a 1)) e in
-    let q = and_both (eqb (cell_of c 0) (cell_of b 0)) (eqb (cell_of c 1) (cell_of b 1)) f in
-    both (eqb (cell_of c 0) (cell_of a 0)) (eqb (cell_of c 1) (cell_of a 1)) (eq-eqb (cell_of c 0) (cell_of a 0) (eqb-true (cell_of c 0) (cell_of b 0) q.0 ∙ eqb-true (cell_of b 0) (cell_of a 0) p.0)) (eq-eqb (cell_of c 1) (cell_of a 1) (eqb-true (cell_of c 1) (cell_of b 1) q.1 ∙ eqb-true (cell_of b 1) (cell_of a 1) p.1))
+    let p = pair-tells (cell_of a 0) (cell_of a 1) b e in
+    let q = pair-tells (cell_of b 0) (cell_of b 1) c f in
+    pair-holds (cell_of a 0) (cell_of a 1) c (q.0 ∙ p.0) (q.1 ∙ p.1)
 
 rank-strip : (k m a b : ℕ) → a < 5 → b < 5 → k * 5 + a ≤ m * 5 + b → k ≤ m
-rank-strip k m a b h g e = compared k m (λ l. omega arith) (λ l. omega arith) (λ l. absurd (omega arith))
+rank-strip k m a b h g e = omega arith
 
 rank-later : (x y a b : ℕ) → a < 5 → b < 5 → x < y → x * 5 + a ≤ y * 5 + b
 rank-later x y a b h g l = omega arith
-
-mod-five : (z : ℕ) → z < 5 → z % 5 ≡ z
-mod-five z h = omega arith
 
 -- ---- a sound text
 
@@ -153,8 +144,8 @@ module _ (text : List ℕ) (l n : ℕ) (st : ℕ → State) (rd : Reading text l
       let p = ranked i s.0 s.1 s.2 in
       let q = ranked j s.0 s.1 (pair_then (get_or (T 12) s.0 no_cells) (get_or (T 13) i no_cells) (get_or (T 13) j no_cells) s.2 e) in
       let r = rising i j g h in
-      let a = mod-five (cell_of (get_or (T 13) i no_cells) 2) (cubic-cells text i).2 in
-      let b = mod-five (cell_of (get_or (T 13) j no_cells) 2) (cubic-cells text j).2 in
+      let a = mod-eq_of_lt (cubic-cells text i).2 in
+      let b = mod-eq_of_lt (cubic-cells text j).2 in
       omega arith
 
   mark_at_lem : (j : ℕ) → j < length (T 14) → Marked (length (T 6)) (st 14).words (get_or (T 14) j no_cells)
@@ -312,7 +303,7 @@ module _ (text : List ℕ) (l m n at count : ℕ) (progress : Progress) (ws : Li
           five' i = (mods (cell_of (get_or (T' 13) i no_cells) 0) (cell_of (get_or (T' 13) i no_cells) 1) (cell_of (get_or (T' 13) i no_cells) 2)).1
 
           later : (a b c d : ℕ) → a ≡ b → c < 5 → d < 5 → c ≤ d → a * 5 + c % 5 ≤ b * 5 + d % 5
-          later a b c d e h g l = let x = mod-five c h in let y = mod-five d g in omega arith
+          later a b c d e h g l = let x = mod-eq_of_lt h in let y = mod-eq_of_lt g in omega arith
 
           same : (a b : ℕ) → of_pair (get_or (T' 12) a no_cells) (get_or (T' 13) k no_cells) ≡ true → of_pair (get_or (T' 12) b no_cells) (get_or (T' 13) (suc k) no_cells) ≡ true → a ≡ b
               → a * 5 + cell_of (get_or (T' 13) k no_cells) 2 % 5 ≤ b * 5 + cell_of (get_or (T' 13) (suc k) no_cells) 2 % 5

@@ -1,10 +1,10 @@
 -- A section's ids: in a sound text they are 1 to n, then -1 to -m (`ids-kept`); and where they are, it is the turn of each line's id (`id-turn`).
 use Prim.Native.Nat.{ℕ, zero, suc, ◌+◌, ◌-◌, ◌<◌, ◌≤◌, suc-le-suc}
 use native.Mathlib.Omega.{arith}
-use native.Mathlib.Nat.{le_of_suc-le-suc, not-suc-le-zero, eq-or-lt_of_le, zero-lt-suc}
+use native.Mathlib.Nat.{eq-or-lt_of_le, zero-lt-suc}
 use mathlib.Core.Path.{◌≡◌, refl, sym, ◌∙◌, ap, subst}
 use mathlib.Core.Bool.{Bool, true, false, ◌&&◌}
-use mathlib.Core.List.{List, [], ◌∷◌, ◌++◌, map}
+use mathlib.Core.List.{List, [], ◌∷◌, map}
 use mathlib.Core.Logic.{⊎_elim}
 use lib.ListN.{length, get_or, length-map, length-append, get_or-map}
 use lib.Seq.{ext_get_or}
@@ -16,6 +16,8 @@ use Rattle.reader_lines.specs.Columns.{cell_of, no_cells}
 use Rattle.reader_lines.specs.declared.columns.Cells.{Cells}
 use Rattle.reader_store.specs.Parents.{side_of}
 use Rattle.std.specs.Prelude.{Option, Some}
+use Rattle.std.specs.Cmp.Derive.{both_true}
+use Rattle.std.proofs.lemmas.List.{get_or_append_left, get_or-append-add}
 use Rattle.reader_store.specs.declared.parents.Side.{Side}
 use Rattle.reader_store.specs.declared.parents.Side.TheVariants.{Left, Right}
 use Rattle.reader_store.specs.declared.progress.Progress.{Progress}
@@ -24,26 +26,16 @@ use Rattle.reader_text_laws.specs.Said.{those, under, left_under, right_under}
 use Rattle.reader_text_laws.specs.Family.{ids_of, id_said}
 use Rattle.reader_text_laws.proofs.Those.{Part, those-part, part_length}
 use Rattle.reader_text_laws.proofs.Lanes.{first_at, lefts_at, rights_at, section_in, id_in, Lanes}
-use Rattle.reader_text_laws.proofs.LaneLines.{both, LaneRows, left-part, right-part}
+use Rattle.reader_text_laws.proofs.LaneLines.{LaneRows, left-part, right-part}
 
 -- ---- lists
 
-append-low : {A : Type 0} (xs ys : List A) (q : ℕ) (d : A) → q < length xs → get_or (xs ++ ys) q d ≡ get_or xs q d
-append-low [] ys q d h = absurd (not-suc-le-zero h)
-append-low (x ∷ xs) ys zero d h = refl
-append-low (x ∷ xs) ys (suc q) d h = append-low xs ys q d (le_of_suc-le-suc h)
-
-append-high : {A : Type 0} (xs ys : List A) (q r : ℕ) (d : A) → q ≡ length xs + r → get_or (xs ++ ys) q d ≡ get_or ys r d
-append-high [] ys q r d e = ap (λ (k : ℕ). get_or ys k d) (omega arith)
-append-high (x ∷ xs) ys zero r d e = absurd (omega arith)
-append-high (x ∷ xs) ys (suc q) r d e = append-high xs ys q r d (omega arith)
-
 module _ (n m : ℕ) where
   ids-left : (q : ℕ) → q < n → get_or (ids_of n m) q 0 ≡ 10001 + q
-  ids-left q h = append-low (tabulate (λ k. 10001 + k) n) (tabulate (λ k. 9999 - k) m) q 0 (let l = length-table (λ k. 10001 + k) n in omega arith) ∙ table_at (λ k. 10001 + k) n q 0 h
+  ids-left q h = get_or_append_left (tabulate (λ k. 10001 + k) n) (tabulate (λ k. 9999 - k) m) 0 q (let l = length-table (λ k. 10001 + k) n in omega arith) ∙ table_at (λ k. 10001 + k) n q 0 h
 
   ids-right : (r : ℕ) → r < m → get_or (ids_of n m) (n + r) 0 ≡ 9999 - r
-  ids-right r h = append-high (tabulate (λ k. 10001 + k) n) (tabulate (λ k. 9999 - k) m) (n + r) r 0 (ap (λ (q : ℕ). q + r) (sym (length-table (λ k. 10001 + k) n))) ∙ table_at (λ k. 9999 - k) m r 0 h
+  ids-right r h = ap (λ (q : ℕ). get_or (ids_of n m) (q + r) 0) (sym (length-table (λ k. 10001 + k) n)) ∙ get_or-append-add (tabulate (λ k. 10001 + k) n) (tabulate (λ k. 9999 - k) m) r 0 ∙ table_at (λ k. 9999 - k) m r 0 h
 
   ids-length : length (ids_of n m) ≡ n + m
   ids-length = let a = length-append (tabulate (λ k. 10001 + k) n) (tabulate (λ k. 9999 - k) m) in let b = length-table (λ k. 10001 + k) n in let c = length-table (λ k. 9999 - k) m in omega arith
@@ -268,7 +260,7 @@ module _ (all : List Cells) (S : ℕ) (strips : List (Option ℕ)) (ws : List �
           let r = none_right l in
           let i = here in
           let d = ids-left n m c l in
-          (Left, side_left L R (id_in all k) (both (eqb (id_in all k) (L + 10001)) (eqb R 0) (eq-eqb (id_in all k) (L + 10001) (omega arith)) (eq-eqb R 0 r)))
+          (Left, side_left L R (id_in all k) (both_true (eq-eqb (id_in all k) (L + 10001) (omega arith)) (eq-eqb R 0 r)))
       go false e =
           let g = ltb-false c n e in
           let l = all_left g in

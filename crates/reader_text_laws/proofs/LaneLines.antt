@@ -1,14 +1,14 @@
--- What the words of sections say of the lines of lane: a section's left and right lanes are parts of the table (`left-part`, `right-part`), and the lane that a section and an id name is the one line that has both (`of_lane_named`).
+-- What the words of sections say of the lines of lane: a section's left and right lanes are parts of the table (`left-part`, `right-part`), and the lane that a section and an id name is the one line that has both_true
 use Prim.Native.Nat.{ℕ, ◌+◌, ◌-◌, ◌*◌, ◌<◌, ◌≤◌}
 use native.Mathlib.Omega.{arith}
-use native.Mathlib.Nat.{eq-or-lt_of_le}
 use mathlib.Core.Path.{◌≡◌, refl, sym, ◌∙◌, ap, subst}
-use mathlib.Core.Bool.{Bool, true, false, ◌&&◌, cond}
+use mathlib.Core.Bool.{Bool, true, false, cond}
 use mathlib.Core.List.{List}
-use mathlib.Core.Logic.{⊎_elim}
 use lib.ListN.{length, get_or}
 use lib.Dec.{eqb, ltb}
 use Rattle.std.specs.Prelude.{Option, Some, None, option_and_then}
+use Rattle.std.specs.Cmp.Derive.{both_true}
+use Rattle.std.proofs.lemmas.Bool.{and_parts}
 use Rattle.std.proofs.lemmas.Option.{none-some, same_Some, option_and_then_some}
 use borrow.Author.Tests.{ltb-true, ltb-false, eqb-true, eqb-false, eq-eqb, lt-ltb}
 use Rattle.reader_lines.specs.Columns.{cell_of, no_cells}
@@ -21,35 +21,19 @@ use Rattle.reader_text_laws.specs.Said.{under, left_under, right_under}
 use Rattle.reader_text_laws.proofs.Those.{Part}
 use Rattle.reader_text_laws.proofs.Lanes.{first_at, lefts_at, rights_at, section_in, id_in, Lanes}
 
-never : {A : Type 0} → false ≡ true → A
-never e = let z : ◌≡◌ {A = ℕ} 0 1 = cc in absurd (omega arith)
-
-pub and_both : (a b : Bool) → a && b ≡ true → (a ≡ true) × (b ≡ true)
-and_both true true e = (refl, refl)
-and_both true false e = never e
-and_both false b e = never e
-
-pub both : (a b : Bool) → a ≡ true → b ≡ true → a && b ≡ true
-both true true e f = refl
-both true false e f = f
-both false b e f = e
-
 -- a lane that is there is a left one or a right one, and its place is that of its id
 pub among_cases : {A : Type 0} (first left right id : ℕ) (x : Ranked) → lane_among first left right id ≡ Some x
     → (10000 < id → id ≤ left + 10000 → x ≡ index_at (first + (id - 10001)) → A) → (id < 10000 → 10000 ≤ id + right → x ≡ index_at (first + left + (9999 - id)) → A) → A
 unfolding lane_among
 among_cases {A} first left right id x t l r = go (eqb id 10000) (ltb 10000 id) (ltb (left + 10000) id) (ltb (id + right) 10000) refl refl refl refl t
   where
-    below : (n : ℕ) → n ≤ 10000 → (n ≡ 10000 → ⊥) → n < 10000
-    below n h f = ⊎_elim (λ e. absurd (f e)) (λ l. l) (eq-or-lt_of_le h)
-
     go : (a b c d : Bool) → eqb id 10000 ≡ a → ltb 10000 id ≡ b → ltb (left + 10000) id ≡ c → ltb (id + right) 10000 ≡ d
         → cond a None (cond b (cond c None (Some (index_at (first + (id - 10001))))) (cond d None (Some (index_at (first + left + (9999 - id)))))) ≡ Some x → A
     go true b c d p q u v e = absurd (none-some x e)
     go false true true d p q u v e = absurd (none-some x e)
     go false true false d p q u v e = l (ltb-true 10000 id q) (ltb-false (left + 10000) id u) (sym (same_Some (index_at (first + (id - 10001))) x e))
     go false false c true p q u v e = absurd (none-some x e)
-    go false false c false p q u v e = r (below id (ltb-false 10000 id q) (eqb-false id 10000 p)) (ltb-false (id + right) 10000 v) (sym (same_Some (index_at (first + left + (9999 - id))) x e))
+    go false false c false p q u v e = r (let m = ltb-false 10000 id q in let n = eqb-false id 10000 p in omega arith) (ltb-false (id + right) 10000 v) (sym (same_Some (index_at (first + left + (9999 - id))) x e))
 
 -- the sections' words and the lines, in words that may have changed elsewhere
 pub record LaneRows (all : List Cells) (S : ℕ) (us : List ℕ) : Type 0 where
@@ -91,7 +75,7 @@ module _ (all : List Cells) (S : ℕ) (us : List ℕ) (rows : LaneRows all S us)
       record {
         fits = let b = rows.below i h in omega arith;
         within = λ j l e.
-            let p = and_both (under i (get_or all j no_cells)) (ltb 10000 (id_in all j)) e in
+            let p = and_parts (under i (get_or all j no_cells)) (ltb 10000 (id_in all j)) e in
             let a = eqb-true (cell_of (get_or all j no_cells) 0) (10000 + i) p.0 in
             let b = ltb-true 10000 (id_in all j) p.1 in
             let s : section_in all j ≡ i = omega arith in
@@ -102,7 +86,7 @@ module _ (all : List Cells) (S : ℕ) (us : List ℕ) (rows : LaneRows all S us)
             let f = rows.below i h in
             let s = rows.section j (omega arith) in
             let d = rows.lefts i j h a b in
-            both (under i (get_or all j no_cells)) (ltb 10000 (id_in all j)) (eq-eqb (cell_of (get_or all j no_cells) 0) (10000 + i) (omega arith)) (lt-ltb 10000 (id_in all j) (omega arith));
+            both_true (eq-eqb (cell_of (get_or all j no_cells) 0) (10000 + i) (omega arith)) (lt-ltb 10000 (id_in all j) (omega arith));
       }
     where
       side : (j : ℕ) → first_at us i ≤ j → j < first_at us i + lefts_at us i + rights_at us i → 10000 < id_in all j → (b : Bool) → ltb j (first_at us i + lefts_at us i) ≡ b → j < first_at us i + lefts_at us i
@@ -114,7 +98,7 @@ module _ (all : List Cells) (S : ℕ) (us : List ℕ) (rows : LaneRows all S us)
       record {
         fits = rows.below i h;
         within = λ j l e.
-            let p = and_both (under i (get_or all j no_cells)) (ltb (id_in all j) 10000) e in
+            let p = and_parts (under i (get_or all j no_cells)) (ltb (id_in all j) 10000) e in
             let a = eqb-true (cell_of (get_or all j no_cells) 0) (10000 + i) p.0 in
             let b = ltb-true (id_in all j) 10000 p.1 in
             let s : section_in all j ≡ i = omega arith in
@@ -125,7 +109,7 @@ module _ (all : List Cells) (S : ℕ) (us : List ℕ) (rows : LaneRows all S us)
             let f = rows.below i h in
             let s = rows.section j (omega arith) in
             let d = rows.rights i j h a b in
-            both (under i (get_or all j no_cells)) (ltb (id_in all j) 10000) (eq-eqb (cell_of (get_or all j no_cells) 0) (10000 + i) (omega arith)) (lt-ltb (id_in all j) 10000 (omega arith));
+            both_true (eq-eqb (cell_of (get_or all j no_cells) 0) (10000 + i) (omega arith)) (lt-ltb (id_in all j) 10000 (omega arith));
       }
     where
       side : (j : ℕ) → first_at us i ≤ j → id_in all j < 10000 → (b : Bool) → ltb j (first_at us i + lefts_at us i) ≡ b → first_at us i + lefts_at us i ≤ j

@@ -10,8 +10,9 @@ use mathlib.Core.Logic.{⊎_elim}
 use lib.ListN.{length, get_or, set, length-set}
 use lib.Seq.{get_or-set_same, get_or-set_other}
 use lib.Dec.{eqb}
-use borrow.Author.Tests.{eqb-true, eqb-false, eq-eqb}
+use borrow.Author.Tests.{eqb-true, eq-eqb}
 use Rattle.std.specs.Prelude.{Option, Some, option_map, option_and_then}
+use Rattle.std.proofs.lemmas.Bool.{cases_eq}
 use Rattle.std.proofs.lemmas.Option.{option_and_then_some}
 use Rattle.reader_lines.specs.Columns.{cell_of, no_cells}
 use Rattle.reader_lines.specs.declared.columns.Cells.{Cells}
@@ -204,16 +205,12 @@ module _ (all : List Cells) (S : ℕ) (strips : List (Option ℕ)) (ws : List �
               extent = λ j h. three_other (119 + j * 6) (λ e. omega arith) (λ e. omega arith) ∙ ⊎_elim (λ e. subst (λ (j : ℕ). get_or us1 (119 + j * 6) 0 ≡ code_of (cell_of (get_or all j no_cells) 2)) (sym e) one-extent) (λ l. one-other (119 + j * 6) (λ e. omega arith) (λ e. omega arith) ∙ inv.extent j l) (eq-or-lt_of_le (omega arith));
               level = λ j h. three_other (119 + j * 6 + 1) (λ e. omega arith) (λ e. omega arith) ∙ ⊎_elim (λ e. subst (λ (j : ℕ). get_or us1 (119 + j * 6 + 1) 0 ≡ code_of (cell_of (get_or all j no_cells) 3)) (sym e) one-level) (λ l. one-other (119 + j * 6 + 1) (λ e. omega arith) (λ e. omega arith) ∙ inv.level j l) (eq-or-lt_of_le (omega arith));
               spans = subst (λ (n : ℕ). Spans (λ i. i < S) (section_in all) (section_in all) n s (first_at us3) (λ i. lefts_at us3 i + rights_at us3 i)) (sym (add-one k)) next;
-              lefts = λ i j h. by i h (λ (i : ℕ). first_at us3 i ≤ j → j < first_at us3 i + lefts_at us3 i → id_in all j + first_at us3 i ≡ 10001 + j) (mine-left j) (λ n a b. let o = others i h n in let p = o.0 in let q = o.1 in let f = inv.lefts i j h (omega arith) (omega arith) in omega arith);
-              rights = λ i j h. by i h (λ (i : ℕ). first_at us3 i + lefts_at us3 i ≤ j → j < first_at us3 i + lefts_at us3 i + rights_at us3 i → id_in all j + j + 1 ≡ 10000 + (first_at us3 i + lefts_at us3 i)) (mine-right j) (λ n a b. let o = others i h n in let p = o.0 in let q = o.1 in let r = o.2 in let f = inv.rights i j h (omega arith) (omega arith) in omega arith);
+              lefts = λ i j h. by i (λ (i : ℕ). first_at us3 i ≤ j → j < first_at us3 i + lefts_at us3 i → id_in all j + first_at us3 i ≡ 10001 + j) (mine-left j) (λ n a b. let o = others i h n in let p = o.0 in let q = o.1 in let f = inv.lefts i j h (omega arith) (omega arith) in omega arith);
+              rights = λ i j h. by i (λ (i : ℕ). first_at us3 i + lefts_at us3 i ≤ j → j < first_at us3 i + lefts_at us3 i + rights_at us3 i → id_in all j + j + 1 ≡ 10000 + (first_at us3 i + lefts_at us3 i)) (mine-right j) (λ n a b. let o = others i h n in let p = o.0 in let q = o.1 in let r = o.2 in let f = inv.rights i j h (omega arith) (omega arith) in omega arith);
             }
           where
-            by : (i : ℕ) → i < S → (P : ℕ → Type 0) → P s → ((i ≡ s → ⊥) → P i) → P i
-            by i h P p f = go (eqb i s) refl
-              where
-                go : (b : Bool) → eqb i s ≡ b → P i
-                go true e = subst P (sym (eqb-true i s e)) p
-                go false e = f (eqb-false i s e)
+            by : (i : ℕ) → (P : ℕ → Type 0) → P s → ((i ≡ s → ⊥) → P i) → P i
+            by i P p f = ⊎_elim (λ e. subst P (sym e) p) f (cases_eq i s)
 
     module _ (there : 10000 ≤ cell_of cells 0) (known : s < S) (order : progress.last ≤ s) where
       abbrev words_by : ℕ → List ℕ

@@ -3,7 +3,7 @@ use Prim.Native.Nat.{ℕ, suc, ◌+◌, ◌-◌, ◌*◌, ◌<◌, ◌≤◌}
 use native.Mathlib.Omega.{arith}
 use native.Mathlib.Nat.{eq-or-lt_of_le}
 use mathlib.Core.Path.{◌≡◌, refl, sym, ◌∙◌, ap, subst}
-use mathlib.Core.Bool.{Bool, true, false, ◌&&◌, cond}
+use mathlib.Core.Bool.{Bool, true, false, cond}
 use mathlib.Core.List.{List}
 use mathlib.Core.Logic.{⊎_elim}
 use lib.ListN.{length, get_or, set, length-set}
@@ -16,7 +16,7 @@ use Rattle.reader_schema.specs.Schema.{limits, limit_of}
 use Rattle.reader_lines.specs.Columns.{cell_of, no_cells}
 use Rattle.reader_lines.specs.declared.columns.Cells.{Cells}
 use Rattle.reader_store.specs.Layout.{code_of, word_row, word_place, word_put, words_below, rule_of, base_of, stride_of}
-use Rattle.reader_store.specs.Parents.{index_at, section_at, counted, lane_among, lane_within, lane_index, mark_lane_in, mark_lane, mark_within, mark_index, index_of, parent_of}
+use Rattle.reader_store.specs.Parents.{index_at, counted, lane_among, lane_within, lane_index, mark_lane_in, mark_lane, mark_within, mark_index, index_of, parent_of}
 use Rattle.reader_store.specs.Keep.{mark_kind, mark_place, mark_put, own_words, ruled_words, ruled_progress, kept_words, kept_progress}
 use Rattle.reader_store.specs.declared.layout.Family.TheVariants.{Mark}
 use Rattle.reader_store.specs.declared.parents.Ranked.{Ranked}

@@ -9,7 +9,6 @@ use Rattle.std.specs.Prelude.{Option, Some, None, is_some, unwrap_or, option_map
 use Rattle.std.proofs.lemmas.Option.{none-some, same_Some}
 use Rattle.reader_store.specs.Parents.{index_at, counted, side_of, lane_among}
 use Rattle.reader_store.specs.declared.parents.Ranked.{Ranked}
-use Rattle.reader_store.specs.declared.parents.Side.{Side}
 use Rattle.reader_store.specs.declared.parents.Side.TheVariants.{Left, Right}
 
 -- the parent that is found; where there is none it means nothing

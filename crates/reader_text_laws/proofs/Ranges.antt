@@ -9,6 +9,7 @@ use mathlib.Core.List.{List}
 use mathlib.Core.Logic.{⊎_elim}
 use lib.ListN.{length, get_or, set, length-set}
 use lib.Seq.{get_or-set_same, get_or-set_other}
+use Rattle.std.proofs.lemmas.Bool.{false≢true}
 use Rattle.std.proofs.lemmas.List.{set-get_or}
 use lib.Dec.{eqb, leb}
 use borrow.Author.Tests.{leb-true, le-leb, eq-eqb, ne_eqb, lt-ltb}
@@ -38,14 +39,11 @@ pub record Under (ws : List ℕ) (k : ℕ) (parent : Counted) (progress : Progre
   pub words : under_words ws k (Some parent) progress ≡ added ws k parent
   pub held : under_progress (Some parent) progress ≡ held_by parent progress
 
-never : {A : Type 0} → false ≡ true → A
-never e = let z : ◌≡◌ {A = ℕ} 0 1 = cc in absurd (omega arith)
-
 -- it has one
 pub under-there : {P : Type 0} (parent : Option Counted) (progress : Progress) → (under_progress parent progress).sound ≡ true → ((p : Counted) → parent ≡ Some p → P) → P
 unfolding under_progress
 under-there (Some parent) progress e go = go parent refl
-under-there None progress e go = never e
+under-there None progress e go = absurd (false≢true e)
 
 pub under-sound : (ws : List ℕ) (k : ℕ) (parent : Counted) (progress : Progress) → (under_progress (Some parent) progress).sound ≡ true → Under ws k parent progress
 unfolding under_progress under_words in_order
@@ -54,7 +52,7 @@ under-sound ws k parent progress e = let g = go (leb progress.last parent.rank) 
     go : (b : Bool) → leb progress.last parent.rank ≡ b → (cond b (held_by parent progress) (unsound_progress progress)).sound ≡ true
         → (progress.last ≤ parent.rank) × (cond b (added ws k parent) ws ≡ added ws k parent) × (cond b (held_by parent progress) (unsound_progress progress) ≡ held_by parent progress)
     go true q s = (leb-true progress.last parent.rank q, refl, refl)
-    go false q s = never s
+    go false q s = absurd (false≢true s)
 
 -- and a right line is sound
 pub under-right : (parent : Counted) (progress : Progress) → progress.last ≤ parent.rank → progress.sound ≡ true → (under_progress (Some parent) progress).sound ≡ true

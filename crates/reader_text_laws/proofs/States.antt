@@ -3,13 +3,14 @@ use Prim.Native.Nat.{ℕ, zero, suc, ◌+◌, ◌-◌, ◌*◌, ◌<◌, ◌≤�
 use native.Mathlib.Omega.{arith}
 use native.Mathlib.Nat.{zero-add}
 use mathlib.Core.Path.{◌≡◌, refl, sym, ◌∙◌, ap, subst}
-use mathlib.Core.Bool.{Bool, true, false, not, ◌||◌}
+use mathlib.Core.Bool.{true, not, ◌||◌}
 use mathlib.Core.List.{List, [], ◌∷◌}
 use lib.ListN.{length, get_or, set, replicate}
 use lib.Seq.{get_or-set_other}
 use lib.Dec.{eqb, leb}
 use lib.Ieee.{Float}
 use borrow.Author.Tests.{lt-leb}
+use Rattle.std.proofs.lemmas.Bool.{both_ways, not-true}
 use Rattle.records_lent.specs.Lists.{all_below}
 use Rattle.records_lent.proofs.TestLaws.{all-at}
 use Rattle.reader_schema.specs.Schema.{limits, limit_of}
@@ -57,10 +58,6 @@ limit-geom = refl
 counts-test : (all_below (λ t. leb t 6 || not (eqb (unwrap_or (count_place t) 7) 5)) 16 ≡ true) × (all_below (λ t. leb t 10 || not (eqb (unwrap_or (count_place t) 7) 6)) 16 ≡ true) × (count_place 6 ≡ Some 5) × (count_place 10 ≡ Some 6)
 unfolding all_below count_place
 counts-test = (refl, refl, refl, refl)
-
-not_so : (a : Bool) → not a ≡ true → a ≡ true → ⊥
-not_so true e f = let z : ◌≡◌ {A = ℕ} 0 1 = cc in omega arith
-not_so false e f = let z : ◌≡◌ {A = ℕ} 0 1 = cc in omega arith
 
 -- what is known of the states of a text of right form, the tables before u sound
 pub record Reading (text : List ℕ) (l n u : ℕ) (state : ℕ → State) : Type 0 where
@@ -117,14 +114,14 @@ module _ (text : List ℕ) (l m n at count : ℕ) (progress : Progress) (ws : Li
   sections-word : (t : ℕ) → 7 ≤ t → t ≤ 16 → get_or (state t).words 5 0 ≡ length (lines_of text 6)
   sections-word t g h =
       low-from 5 7 (omega arith)
-      (λ t a b e. not_so (eqb (unwrap_or (count_place t) 7) 5) (or_else (leb t 6) (not (eqb (unwrap_or (count_place t) 7) 5)) (all-at (λ t. leb t 6 || not (eqb (unwrap_or (count_place t) 7) 5)) 16 counts-test.0 t b) (lt-leb t 6 (omega arith))) (ap (λ (o : Option ℕ). eqb (unwrap_or o 7) 5) e))
+      (λ t a b e. both_ways (eqb (unwrap_or (count_place t) 7) 5) (not-true (eqb (unwrap_or (count_place t) 7) 5) (or_else (leb t 6) (not (eqb (unwrap_or (count_place t) 7) 5)) (all-at (λ t. leb t 6 || not (eqb (unwrap_or (count_place t) 7) 5)) 16 counts-test.0 t b) (lt-leb t 6 (omega arith)))) (ap (λ (o : Option ℕ). eqb (unwrap_or o 7) 5) e))
       (16 - t) t (omega arith) g
       ∙ count_word_lem 6 5 (omega arith) counts-test.2
 
   profiles-word : (t : ℕ) → 11 ≤ t → t ≤ 16 → get_or (state t).words 6 0 ≡ length (lines_of text 10)
   profiles-word t g h =
       low-from 6 11 (omega arith)
-      (λ t a b e. not_so (eqb (unwrap_or (count_place t) 7) 6) (or_else (leb t 10) (not (eqb (unwrap_or (count_place t) 7) 6)) (all-at (λ t. leb t 10 || not (eqb (unwrap_or (count_place t) 7) 6)) 16 counts-test.1 t b) (lt-leb t 10 (omega arith))) (ap (λ (o : Option ℕ). eqb (unwrap_or o 7) 6) e))
+      (λ t a b e. both_ways (eqb (unwrap_or (count_place t) 7) 6) (not-true (eqb (unwrap_or (count_place t) 7) 6) (or_else (leb t 10) (not (eqb (unwrap_or (count_place t) 7) 6)) (all-at (λ t. leb t 10 || not (eqb (unwrap_or (count_place t) 7) 6)) 16 counts-test.1 t b) (lt-leb t 10 (omega arith)))) (ap (λ (o : Option ℕ). eqb (unwrap_or o 7) 6) e))
       (16 - t) t (omega arith) g
       ∙ count_word_lem 10 6 (omega arith) counts-test.3
 

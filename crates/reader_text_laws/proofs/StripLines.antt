@@ -1,16 +1,19 @@
 -- The strips of a text of right form that is sound up to their table, and their cubics: a strip's word says whether the text has its line, and which (`strip-none`, `strip-one`); the range of each of its terms is the lines of cubic that name it (`term-part`).
-use Prim.Native.Nat.{ℕ, zero, suc, ◌+◌, ◌*◌, ◌%◌, ◌<◌, ◌≤◌}
+use Prim.Native.Nat.{ℕ, suc, ◌+◌, ◌*◌, ◌%◌, ◌<◌, ◌≤◌}
 use native.Mathlib.Omega.{arith}
 use native.Mathlib.Nat.{eq-or-lt_of_le}
 use mathlib.Core.Path.{◌≡◌, refl, sym, ◌∙◌, ap, subst}
-use mathlib.Core.Bool.{Bool, true, false, cond}
+use mathlib.Core.Bool.{true, cond}
 use mathlib.Core.List.{List}
 use mathlib.Core.Logic.{⊎_elim}
 use lib.ListN.{length, get_or, set, replicate, length-set}
 use lib.Seq.{get_or-set_same, get_or-set_other}
-use lib.Dec.{eqb, ltb}
-use borrow.Author.Tests.{ltb-true, ltb-false, eqb-true, eqb-false, eq-eqb}
+use lib.Dec.{eqb}
+use borrow.Author.Tests.{eqb-true, eq-eqb}
 use Rattle.std.specs.Prelude.{Option, Some, None, is_some, option_map}
+use Rattle.std.specs.Cmp.Derive.{both_true}
+use Rattle.std.proofs.lemmas.Bool.{false≢true, and_parts, cases_eq}
+use Rattle.std.proofs.lemmas.Nat.{same_from_place}
 use Rattle.std.proofs.lemmas.Option.{none-some, same_Some}
 use Rattle.std.proofs.lemmas.List.{get_or-replicate}
 use Rattle.reader_schema.specs.Schema.{limits, limit_of}
@@ -25,17 +28,13 @@ use Rattle.reader_store.specs.declared.parents.Ranked.{Ranked}
 use Rattle.reader_store.specs.declared.progress.Progress.{Progress}
 use Rattle.reader_laws.specs.Lines.{lines_of}
 use Rattle.reader_text_laws.specs.Said.{of_strip, of_term}
-use Rattle.reader_text_laws.proofs.ParentCases.{found, There, there, map_some}
-use Rattle.reader_text_laws.proofs.Those.{Part, part_same}
+use Rattle.reader_text_laws.proofs.ParentCases.{found, There, map_some}
+use Rattle.reader_text_laws.proofs.Those.{pair-tells, pair-holds, Part, part_same}
 use Rattle.reader_text_laws.proofs.Folds.{track_after, words_after, after-lines, right-lines, State, Step}
 use Rattle.reader_text_laws.proofs.States.{Reading, state-long}
 use Rattle.reader_text_laws.proofs.Ranges.{NoWord, no_own, none_owned, Outside, Parents, Kept, cubic-ranged, ranges-kept}
-use Rattle.reader_text_laws.proofs.LaneLines.{and_both, both}
 use Rattle.reader_text_laws.proofs.Listed.{strip-cells, cubic-cells}
 use Rattle.reader_text_laws.proofs.ChildLines.{kept-part, strips-12, frame-11, blank-11}
-
-never : {A : Type 0} → false ≡ true → A
-never e = let z : ◌≡◌ {A = ℕ} 0 1 = cc in absurd (omega arith)
 
 -- ---- a strip's line noted
 
@@ -57,7 +56,7 @@ strip-sound k cells progress us e = go (strip_line progress.strips (strip_named 
     go : (o : Option ℕ) → (cond (is_some o) (unsound_progress progress) (noted_by k cells progress)).sound ≡ true
         → (o ≡ None) × (cond (is_some o) (unsound_progress progress) (noted_by k cells progress) ≡ noted_by k cells progress) × (cond (is_some o) us (set us (1303 + strip_named cells * 11) (cell_of cells 2 % 2 + 1)) ≡ set us (1303 + strip_named cells * 11) (cell_of cells 2 % 2 + 1))
     go None s = (refl, refl, refl)
-    go (Some line) s = never s
+    go (Some line) s = absurd (false≢true s)
 
 -- ---- the table strip
 
@@ -111,13 +110,6 @@ module _ (all : List Cells) (ws : List ℕ) (few : length all ≤ 4) (long : 189
       line_other : (i : ℕ) → (i ≡ x → ⊥) → strip_line line i ≡ strip_line progress.strips i
       line_other i f = get_or-set_other progress.strips (strip_named cells) i (Some k) None f
 
-      same? : (i : ℕ) {A : Type 0} → (i ≡ x → A) → ((i ≡ x → ⊥) → A) → A
-      same? i {A} f g = go (eqb i x) refl
-        where
-          go : (b : Bool) → eqb i x ≡ b → A
-          go true e = f (eqb-true i x e)
-          go false e = g (eqb-false i x e)
-
       apart : (i : ℕ) → (i ≡ x → ⊥) → 1303 + i * 11 ≡ 1303 + x * 11 → ⊥
       apart i f e = f (cancel i x e)
         where
@@ -136,12 +128,10 @@ module _ (all : List Cells) (ws : List ℕ) (few : length all ≤ 4) (long : 189
             four = length-set progress.strips (strip_named cells) (Some k) ∙ inv.four;
             size = length-set us (1303 + strip_named cells * 11) (cell_of cells 2 % 2 + 1) ∙ inv.size;
             frame = λ p f. other p (f x below) ∙ inv.frame p f;
-            none = λ i g e. same? i (λ d. absurd (none-some k (sym e ∙ ap (strip_line line) d ∙ line_same))) (λ f. other (1303 + i * 11) (apart i f) ∙ inv.none i g (sym (line_other i f) ∙ e));
-            seen = λ i j g e. same? i
-                (λ d. let y : k ≡ j = same_Some k j (sym line_same ∙ ap (strip_line line) (sym d) ∙ e) in
+            none = λ i g e. ⊎_elim (λ d. absurd (none-some k (sym e ∙ ap (strip_line line) d ∙ line_same))) (λ f. other (1303 + i * 11) (apart i f) ∙ inv.none i g (sym (line_other i f) ∙ e)) (cases_eq i x);
+            seen = λ i j g e. ⊎_elim (λ d. let y : k ≡ j = same_Some k j (sym line_same ∙ ap (strip_line line) (sym d) ∙ e) in
                 subst (λ (i : ℕ). (j < k + 1) × (strip_at all j ≡ i) × (get_or us' (1303 + i * 11) 0 ≡ cell_of (get_or all j no_cells) 2 % 2 + 1)) (sym d)
-                (subst (λ (j : ℕ). (j < k + 1) × (strip_at all j ≡ x) × (get_or us' (1303 + x * 11) 0 ≡ cell_of (get_or all j no_cells) 2 % 2 + 1)) y (omega arith, refl, word)))
-                (λ f. let p = inv.seen i j g (sym (line_other i f) ∙ e) in let a = p.0 in (omega arith, p.1, other (1303 + i * 11) (apart i f) ∙ p.2));
+                (subst (λ (j : ℕ). (j < k + 1) × (strip_at all j ≡ x) × (get_or us' (1303 + x * 11) 0 ≡ cell_of (get_or all j no_cells) 2 % 2 + 1)) y (omega arith, refl, word))) (λ f. let p = inv.seen i j g (sym (line_other i f) ∙ e) in let a = p.0 in (omega arith, p.1, other (1303 + i * 11) (apart i f) ∙ p.2)) (cases_eq i x);
             noted = λ j g. ⊎_elim (λ d. subst (λ (j : ℕ). strip_line line (strip_at all j) ≡ Some j) (sym d) line_same)
                 (λ b. let p = inv.noted j b in line_other (strip_at all j) (λ d. none-some j (sym free ∙ ap (strip_line progress.strips) (sym d) ∙ p)) ∙ p) (eq-or-lt_of_le (omega arith));
           }
@@ -222,21 +212,12 @@ limits-are : (limit_of 12 ≡ 4) × (limit_of 13 ≡ 160)
 unfolding limit_of limits
 limits-are = (refl, refl)
 
--- two numbers compared
-pub compared : {A : Type 0} (x y : ℕ) → (x < y → A) → (x ≡ y → A) → (y < x → A) → A
-compared {A} x y f g h = go (ltb x y) (ltb y x) refl refl
-  where
-    go : (a b : Bool) → ltb x y ≡ a → ltb y x ≡ b → A
-    go true b p q = f (ltb-true x y p)
-    go false true p q = h (ltb-true y x q)
-    go false false p q = g (let u = ltb-false x y p in let v = ltb-false y x q in omega arith)
-
 same-term : (x y a b : ℕ) → a < 5 → b < 5 → x * 11 + a * 2 ≡ y * 11 + b * 2 → (x ≡ y) × (a ≡ b)
-same-term x y a b h g e = compared x y (λ l. absurd (omega arith)) (λ l. (l, omega arith)) (λ l. absurd (omega arith))
+same-term x y a b h g e = (omega arith, omega arith)
 
 -- no range's first word is another's second
 no-next : (x a y b : ℕ) → a < 5 → b < 5 → x * 11 + a * 2 ≡ y * 11 + b * 2 + 1 → ⊥
-no-next x a y b p q e = compared x y (λ l. omega arith) (λ l. compared a b (λ m. omega arith) (λ m. omega arith) (λ m. omega arith)) (λ l. omega arith)
+no-next x a y b p q e = omega arith
 
 pub two-bits : (x y a b : ℕ) → x < 2 → y < 2 → a < 2 → b < 2 → x % 2 * 2 + y % 2 ≡ a * 2 + b → (x ≡ a) × (y ≡ b)
 two-bits x y a b p q h g e = (omega arith, omega arith)
@@ -246,10 +227,7 @@ one-term z c h e = omega arith
 
 -- and none is a presence
 no-presence : (i j x a : ℕ) → a < 5 → i ≡ x * 11 + a * 2 → (1304 + i * 1 ≡ 1303 + j * 11 → ⊥) × (1304 + i * 1 + 1 ≡ 1303 + j * 11 → ⊥)
-no-presence i j x a h e = (λ f. compared x j (λ l. omega arith) (λ l. omega arith) (λ l. omega arith), λ f. compared x j (λ l. omega arith) (λ l. omega arith) (λ l. omega arith))
-
-same_rank : (x y a b : ℕ) → a < 5 → b < 5 → x * 5 + a ≡ y * 5 + b → (x ≡ y) × (a ≡ b)
-same_rank x y a b h g e = (omega arith, omega arith)
+no-presence i j x a h e = (λ f. omega arith, λ f. omega arith)
 
 module _ (text : List ℕ) (l n u : ℕ) (state : ℕ → State) (reading : Reading text l n u state) where
   abbrev st : ℕ → State
@@ -319,7 +297,7 @@ module _ (text : List ℕ) (l n u : ℕ) (state : ℕ → State) (reading : Read
         let y = termed b t in
         let p = mods (cell_of a 0) (cell_of a 1) (cell_of a 2) in
         let q = mods (cell_of b 0) (cell_of b 1) (cell_of b 2) in
-        let r = same_rank x.line y.line (cell_of a 2 % 5) (cell_of b 2 % 5) p.1 q.1 (sym x.rank ∙ e ∙ y.rank) in
+        let r = same_from_place x.line (cell_of a 2 % 5) y.line (cell_of b 2 % 5) 5 p.1 q.1 (sym x.rank ∙ e ∙ y.rank) in
         x.index ∙ together (sym x.strip ∙ ap (strip_at (T 12)) r.0 ∙ y.strip) r.1 ∙ sym y.index
       where
         together : {x y c d : ℕ} → x ≡ y → c ≡ d → x * 11 + c * 2 ≡ y * 11 + d * 2
@@ -377,16 +355,12 @@ module _ (text : List ℕ) (l n u : ℕ) (state : ℕ → State) (reading : Read
 
       cell-strip : (j a b : ℕ) → a < 2 → b < 2 → (strip_at (T 12) j ≡ a * 2 + b → of_strip a b (get_or (T 12) j no_cells) ≡ true) × (of_strip a b (get_or (T 12) j no_cells) ≡ true → strip_at (T 12) j ≡ a * 2 + b)
       cell-strip j a b h g =
+          let r : Cells = get_or (T 12) j no_cells in
           let c = strip-cells text j in (
-            λ e. both (eqb (cell_of (get_or (T 12) j no_cells) 0) a) (eqb (cell_of (get_or (T 12) j no_cells) 1) b) (eq-eqb (cell_of (get_or (T 12) j no_cells) 0) a (parts (cell_of (get_or (T 12) j no_cells) 0) (cell_of (get_or (T 12) j no_cells) 1) c.0 c.1 e).0) (eq-eqb (cell_of (get_or (T 12) j no_cells) 1) b (parts (cell_of (get_or (T 12) j no_cells) 0) (cell_of (get_or (T 12) j no_cells) 1) c.0 c.1 e).1),
-            λ e.
-                let p = and_both (eqb (cell_of (get_or (T 12) j no_cells) 0) a) (eqb (cell_of (get_or (T 12) j no_cells) 1) b) e in
-                joined (cell_of (get_or (T 12) j no_cells) 0) (cell_of (get_or (T 12) j no_cells) 1) (eqb-true (cell_of (get_or (T 12) j no_cells) 0) a p.0) (eqb-true (cell_of (get_or (T 12) j no_cells) 1) b p.1),
+            λ e. let p = two-bits (cell_of r 0) (cell_of r 1) a b c.0 c.1 h g e in pair-holds a b r p.0 p.1,
+            λ e. let p = pair-tells a b r e in joined (cell_of r 0) (cell_of r 1) p.0 p.1,
           )
         where
-          parts : (x y : ℕ) → x < 2 → y < 2 → x % 2 * 2 + y % 2 ≡ a * 2 + b → (x ≡ a) × (y ≡ b)
-          parts x y p q e = (omega arith, omega arith)
-
           joined : (x y : ℕ) → x ≡ a → y ≡ b → x % 2 * 2 + y % 2 ≡ a * 2 + b
           joined x y p q = omega arith
 
@@ -432,13 +406,13 @@ module _ (text : List ℕ) (l n u : ℕ) (state : ℕ → State) (reading : Read
           to : (j : ℕ) → j < length (T 13) → of_term a b c (get_or (T 13) j no_cells) ≡ true → (found (I (get_or (T 13) j no_cells))).index ≡ i
           to j q e =
               let r : Cells = get_or (T 13) j no_cells in
-              let u = and_both (of_strip a b r) (eqb (cell_of r 2) c) e in
-              let v = and_both (eqb (cell_of r 0) a) (eqb (cell_of r 1) b) u.0 in
-              (termed r (cubics.there j q)).index ∙ joined (cell_of r 0) (cell_of r 1) (cell_of r 2) (eqb-true (cell_of r 0) a v.0) (eqb-true (cell_of r 1) b v.1) (eqb-true (cell_of r 2) c u.1)
+              let u = and_parts (of_strip a b r) (eqb (cell_of r 2) c) e in
+              let v = pair-tells a b r u.0 in
+              (termed r (cubics.there j q)).index ∙ joined (cell_of r 0) (cell_of r 1) (cell_of r 2) v.0 v.1 (eqb-true (cell_of r 2) c u.1)
 
           from : (j : ℕ) → j < length (T 13) → (found (I (get_or (T 13) j no_cells))).index ≡ i → of_term a b c (get_or (T 13) j no_cells) ≡ true
           from j q e =
               let r : Cells = get_or (T 13) j no_cells in
               let d = cubic-cells text j in
               let u = parts (cell_of r 0) (cell_of r 1) (cell_of r 2) d.0 d.1 d.2 (sym (termed r (cubics.there j q)).index ∙ e) in
-              both (of_strip a b r) (eqb (cell_of r 2) c) (both (eqb (cell_of r 0) a) (eqb (cell_of r 1) b) (eq-eqb (cell_of r 0) a u.0) (eq-eqb (cell_of r 1) b u.1)) (eq-eqb (cell_of r 2) c u.2)
+              both_true (pair-holds a b r u.0 u.1) (eq-eqb (cell_of r 2) c u.2)
