@@ -1,4 +1,4 @@
--- The layout of a road in lent memory by table, as data, and the cells of one line put into it. Document 01: "`Vec` fields become ranges in lent slices".
+-- The layout of a road in lent memory by table, and the cells of one line put into it. Document 01: "`Vec` fields become ranges in lent slices".
 -- Where each table stands is said once, in crate records (specs/Layout).
 -- numbers: length; geom; elev; bank; offset; tshift; section starts; extents; heights; profiles; shapes; cubics; spans of marks, each at its table's limit.
 -- words: seven counts; a kind for each geometry; (first lane, left, right) of each section; (extent, level, extents' range, heights' range) of each lane;
@@ -125,21 +125,15 @@ unfoldable pub one_more : ℕ → ℕ
 one_more n = cond (ltb n greatest_word) (n + 1) n
 
 -- a list with a value at a place, counted from 1, of the line that begins at `line`; 0 is no place
-unfoldable pub placed : {A : Type 0} → ℕ → ℕ → A → List A → List A
+abbrev pub placed : {A : Type 0} → ℕ → ℕ → A → List A → List A
 placed line place v xs = cond (ltb 0 place) (set xs (line + (place - 1)) v) xs
 
 -- the numbers and the words with one cell of line k kept: an f64 as the float of its pattern, a word of a list as its place there
 unfoldable pub number_put : ℕ → ℕ → ℕ → ℕ → List Float → List Float
-number_put table k column v ns =
-    cond (ltb 0 (number_place table column))
-    (set ns ((number_lines table).first + k * (number_lines table).stride + (number_place table column - 1)) (of_bits binary64 v))
-    ns
+number_put table k column v ns = placed ((number_lines table).first + k * (number_lines table).stride) (number_place table column) (of_bits binary64 v) ns
 
 unfoldable pub word_put : ℕ → ℕ → ℕ → ℕ → List ℕ → List ℕ
-word_put table k column v ws =
-    cond (ltb 0 (word_place table column))
-    (set ws ((word_lines table).first + k * (word_lines table).stride + (word_place table column - 1)) (code_of v))
-    ws
+word_put table k column v ws = placed ((word_lines table).first + k * (word_lines table).stride) (word_place table column) (code_of v) ws
 
 -- the same with the cells of the first n columns kept; all are `numbers_below table k cells columns_most`
 unfoldable pub numbers_below : ℕ → ℕ → Cells → ℕ → List Float → List Float
