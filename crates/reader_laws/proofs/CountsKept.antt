@@ -1,15 +1,15 @@
 -- An accepted text's counts: the word of each table that has one holds how many lines the text has of it (`count_kept`). No other word that is kept lies among the counts.
-use Prim.Native.Nat.{ℕ, zero, suc, ◌+◌, ◌-◌, ◌<◌, ◌≤◌}
+use Prim.Native.Nat.{ℕ, zero, suc, ◌+◌, ◌<◌, ◌≤◌}
 use native.Mathlib.Omega.{arith}
 use native.Mathlib.Nat.{le_of_suc-le-suc, not-suc-le-zero, zero-add}
 use mathlib.Core.Path.{◌≡◌, refl, sym, ◌∙◌, ap, subst}
-use mathlib.Core.Bool.{Bool, true, false, not, ◌&&◌, ◌||◌, cond}
+use mathlib.Core.Bool.{Bool, true, false, ◌&&◌, ◌||◌, cond}
 use mathlib.Core.List.{List, [], ◌∷◌}
 use lib.ListN.{length, get_or, set, length-set}
 use lib.Seq.{get_or-set_same, get_or-set_other}
 use lib.Dec.{eqb, ltb, leb}
 use lib.Ieee.{Float}
-use borrow.Author.Tests.{ltb-true, ltb-false, leb-true, eqb-true, ne_eqb, eq-eqb}
+use borrow.Author.Tests.{ltb-true, leb-true, eqb-true, ne_eqb}
 use Rattle.records_lent.specs.Lists.{all_below}
 use Rattle.records_lent.proofs.TestLaws.{chain-at, all-at}
 use Rattle.reader_schema.specs.Schema.{name_of, limit_of}
@@ -17,11 +17,12 @@ use Rattle.reader_cells.specs.Cells.{byte_at, name_span}
 use Rattle.reader_lines.specs.NamesLine.{head_at}
 use Rattle.reader_lines.specs.ValuesLine.{values_at}
 use Rattle.std.specs.Prelude.{Option, Some, None}
+use Rattle.std.proofs.lemmas.Option.{none-some, same_Some}
 use Rattle.reader_lines.specs.declared.names_line.Head.{Head}
 use Rattle.reader_lines.specs.declared.values_line.Values.{Values}
 use Rattle.reader_lines.specs.declared.columns.Order.{Order}
 use Rattle.reader_lines.specs.declared.columns.Cells.{Cells}
-use Rattle.reader_store.specs.Layout.{places, place_at, words, word_place, counts, count_place, count_kept, numbers_below, wants_kept}
+use Rattle.reader_store.specs.Layout.{number_lines, word_lines, word_row, word_place, count_place, put_at, count_kept, numbers_below, wants_kept}
 use Rattle.reader_store.specs.Progress.{start_progress, ended_progress}
 use Rattle.reader_store.specs.Keep.{kept_words, kept_progress}
 use Rattle.reader_store.specs.declared.progress.Progress.{Progress}
@@ -33,71 +34,76 @@ use Rattle.reader_laws.proofs.LinesKept.{Agree, table-agree}
 
 -- ---- the layout's tests: words of lines and ranges stand past the counts; each count has its own word
 
-words-test : all_below (λ t. all_below (λ c. eqb (word_place t c) 0 || leb 7 (place_at t 2)) 8) 16 ≡ true
-unfolding all_below place_at places word_place words
+words-test : all_below (λ t. all_below (λ c. eqb (word_place t c) 0 || leb 7 (word_lines t).first) 8) 16 ≡ true
+unfolding all_below number_lines word_lines word_place word_row
 words-test = refl
 
-counts-test : all_below (λ t. leb (count_place t) 7 && all_below (λ u. eqb (count_place t) 0 || (not (eqb (count_place t) (count_place u)) || eqb t u)) 16) 16 ≡ true
-unfolding all_below count_place counts
-counts-test = refl
+-- the table whose count a word is
+owner : ℕ → ℕ
+owner p = get_or (1 ∷ 2 ∷ 3 ∷ 4 ∷ 5 ∷ 6 ∷ 10 ∷ []) p 0
+
+owned : Option ℕ → ℕ → Bool
+owned (Some p) t = ltb p 7 && eqb t (owner p)
+owned None t = true
+
+owners-test : all_below (λ t. owned (count_place t) t) 16 ≡ true
+unfolding all_below count_place owned owner
+owners-test = refl
 
 module _ (t : ℕ) (small : t < 16) where
   column-below : (c : ℕ) → 0 < word_place t c → c < 8
   unfolding word_place
   column-below c h = go (ltb c 8) refl h
     where
-      go : (b : Bool) → ltb c 8 ≡ b → 0 < cond b (get_or (get_or words t []) c 0) 0 → c < 8
+      go : (b : Bool) → ltb c 8 ≡ b → 0 < cond b (get_or (word_row t) c 0) 0 → c < 8
       go true e p = ltb-true c 8 e
       go false e p = absurd (not-suc-le-zero p)
 
-  pub word-past : (c : ℕ) → 0 < word_place t c → 7 ≤ place_at t 2
+  pub word-past : (c : ℕ) → 0 < word_place t c → 7 ≤ (word_lines t).first
   word-past c h =
-      let a = all-at (λ c. eqb (word_place t c) 0 || leb 7 (place_at t 2)) 8 (all-at (λ t. all_below (λ c. eqb (word_place t c) 0 || leb 7 (place_at t 2)) 8) 16 words-test t small) c (column-below c h) in
-      leb-true 7 (place_at t 2) (or_else (eqb (word_place t c) 0) (leb 7 (place_at t 2)) a (ne_eqb (word_place t c) 0 (λ z. omega arith)))
+      let a = all-at (λ c. eqb (word_place t c) 0 || leb 7 (word_lines t).first) 8 (all-at (λ t. all_below (λ c. eqb (word_place t c) 0 || leb 7 (word_lines t).first) 8) 16 words-test t small) c (column-below c h) in
+      leb-true 7 (word_lines t).first (or_else (eqb (word_place t c) 0) (leb 7 (word_lines t).first) a (ne_eqb (word_place t c) 0 (λ z. omega arith)))
 
 -- ---- a table
 
 -- its count's word has the count, the others are as they were
 pub record Tallied (t : ℕ) (ws : List ℕ) (n : ℕ) (us : List ℕ) : Type 0 where
   pub same : length us ≡ length ws
-  pub other : (i : ℕ) → i < 7 → (0 < count_place t → i ≡ count_place t - 1 → ⊥) → get_or us i 0 ≡ get_or ws i 0
-  pub count : 0 < count_place t → 7 ≤ length ws → get_or us (count_place t - 1) 0 ≡ n
+  pub other : (i : ℕ) → i < 7 → (count_place t ≡ Some i → ⊥) → get_or us i 0 ≡ get_or ws i 0
+  pub count : (p : ℕ) → count_place t ≡ Some p → 7 ≤ length ws → get_or us p 0 ≡ n
 
 abbrev pub TalliedBy : ℕ → List ℕ → Outcome → Type 0
 TalliedBy t ws (stop m) = Unit {0}
 TalliedBy t ws (done at n progress us ns vs) = Tallied t ws n us
 
 module _ (t : ℕ) (small : t < 16) where
-  row : (leb (count_place t) 7 ≡ true) × (all_below (λ u. eqb (count_place t) 0 || (not (eqb (count_place t) (count_place u)) || eqb t u)) 16 ≡ true)
-  row =
-      let a = all-at (λ t. leb (count_place t) 7 && all_below (λ u. eqb (count_place t) 0 || (not (eqb (count_place t) (count_place u)) || eqb t u)) 16) 16 counts-test t small in
-      let c = chain-at (leb (count_place t) 7) (all_below (λ u. eqb (count_place t) 0 || (not (eqb (count_place t) (count_place u)) || eqb t u)) 16 ∷ []) a in
+  row : (p : ℕ) → count_place t ≡ Some p → (ltb p 7 ≡ true) × (eqb t (owner p) ≡ true)
+  unfolding owned
+  row p e =
+      let a : owned (Some p) t ≡ true = rw e at (all-at (λ t. owned (count_place t) t) 16 owners-test t small) in
+      let c = chain-at (ltb p 7) (eqb t (owner p) ∷ []) a in
       (c 0, c 1)
 
-  pub count-few : count_place t ≤ 7
-  count-few = leb-true (count_place t) 7 row.0
+  pub count-few : (p : ℕ) → count_place t ≡ Some p → p < 7
+  count-few p e = ltb-true p 7 (row p e).0
 
-  count-own : (u : ℕ) → u < 16 → 0 < count_place t → count_place t ≡ count_place u → t ≡ u
-  count-own u l p e =
-      let a = all-at (λ u. eqb (count_place t) 0 || (not (eqb (count_place t) (count_place u)) || eqb t u)) 16 row.1 u l in
-      let b = or_else (eqb (count_place t) 0) (not (eqb (count_place t) (count_place u)) || eqb t u) a (ne_eqb (count_place t) 0 (λ z. omega arith)) in
-      eqb-true t u (or_else (not (eqb (count_place t) (count_place u))) (eqb t u) b (ap not (eq-eqb (count_place t) (count_place u) e)))
+  count-owner : (p : ℕ) → count_place t ≡ Some p → t ≡ owner p
+  count-owner p e = eqb-true t (owner p) (row p e).1
 
   count-tallied : (n : ℕ) (xs ws : List ℕ) → Low 7 xs ws → Tallied t ws n (count_kept t n xs)
   unfolding count_kept
-  count-tallied n xs ws h = go (ltb 0 (count_place t)) refl
+  count-tallied n xs ws h = go (count_place t) refl
     where
-      go : (b : Bool) → ltb 0 (count_place t) ≡ b → Tallied t ws n (cond b (set xs (count_place t - 1) n) xs)
-      go true e =
-          let p = ltb-true 0 (count_place t) e in
-          let f = count-few in
+      go : (o : Option ℕ) → count_place t ≡ o → Tallied t ws n (put_at o n xs)
+      go (Some p) e =
+          let f = count-few p e in
           let l = h.0 in
           record {
-            same = length-set xs (count_place t - 1) n ∙ h.0;
-            other = λ i s q. get_or-set_other xs (count_place t - 1) i n 0 (q p) ∙ h.1 i s;
-            count = λ q long. get_or-set_same xs (count_place t - 1) n 0 (omega arith);
+            same = length-set xs p n ∙ h.0;
+            other = λ i s q. get_or-set_other xs p i n 0 (λ z. q (e ∙ ap (λ (k : ℕ). Some k) (sym z))) ∙ h.1 i s;
+            count = λ q d long. let z = same_Some q p (sym d ∙ e) in ap (λ (k : ℕ). get_or (set xs p n) k 0) z ∙ get_or-set_same xs p n 0 (omega arith);
           }
-      go false e = let f = ltb-false 0 (count_place t) e in record { same = h.0; other = λ i s q. h.1 i s; count = λ q. absurd (omega arith) }
+      go None e = record { same = h.0; other = λ i s q. h.1 i s; count = λ p d. absurd (none-some p (sym e ∙ d)) }
 
   lines-tallied : (fuel : ℕ) (order : Order) (text : List ℕ) (at k : ℕ) (progress : Progress) (ws : List ℕ) (ns : List Float) (vs : List ℕ) (from : List ℕ) → Low 7 ws from
       → TalliedBy t from (lines_from fuel t order text at k progress ws ns vs)
@@ -112,14 +118,14 @@ module _ (t : ℕ) (small : t < 16) where
       go (eqb (byte_at text at) 10) (values_at text at t order)
       (λ cells next.
       lines-tallied fuel order text next (k + 1) (kept_progress t k cells progress ws) (kept_words t k cells progress ws) (numbers_below t k cells 8 ns) (wants_kept t k cells vs) from
-      (low-then 7 (kept_words t k cells progress ws) ws from (kept_low 7 (omega arith) t small (word-past t small) k cells progress ws) h))
+      (low-then 7 (kept_words t k cells progress ws) ws from (kept_low 7 (omega arith) t (word-past t small) k cells progress ws) h))
     where
       go : (a : Bool) (x : Option Values) → ((cells : Cells) (next : ℕ) → TalliedBy t from (lines_from fuel t order text next (k + 1) (kept_progress t k cells progress ws) (kept_words t k cells progress ws) (numbers_below t k cells 8 ns) (wants_kept t k cells vs))) → TalliedBy t from (cond a (done (at + 1) k (ended_progress progress) (count_kept t k ws) ns vs) (by_values x (λ cells next. lines_from fuel t order text next (k + 1) (kept_progress t k cells progress ws) (kept_words t k cells progress ws) (numbers_below t k cells 8 ns) (wants_kept t k cells vs))))
       go true x ih = count-tallied k ws from h
       go false (Some row) ih = ih row.cells row.next
       go false None ih = tt
 
-  table-tallied : (text : List ℕ) (at : ℕ) (progress : Progress) (ws : List ℕ) (ns : List Float) (vs : List ℕ) → (0 < count_place t → get_or ws (count_place t - 1) 0 ≡ 0) → TalliedBy t ws (table_at t text at progress ws ns vs)
+  table-tallied : (text : List ℕ) (at : ℕ) (progress : Progress) (ws : List ℕ) (ns : List Float) (vs : List ℕ) → ((p : ℕ) → count_place t ≡ Some p → get_or ws p 0 ≡ 0) → TalliedBy t ws (table_at t text at progress ws ns vs)
   unfolding table_at
   table-tallied text at progress ws ns vs blank =
       go (eqb (name_span text at).value (name_of t)) (head_at text (name_span text at).next t) (λ order next. lines-tallied (limit_of t) order text next 0 progress ws ns vs ws (low_same 7 ws))
@@ -128,15 +134,15 @@ module _ (t : ℕ) (small : t < 16) where
           → TalliedBy t ws (cond a (by_head x (λ order next. lines_from (limit_of t) t order text next 0 progress ws ns vs)) (done at 0 progress ws ns vs))
       go true (Some head) ih = ih head.order head.next
       go true None ih = tt
-      go false x ih = record { same = refl; other = λ i s q. refl; count = λ p long. blank p }
+      go false x ih = record { same = refl; other = λ i s q. refl; count = λ p e long. blank p e }
 
 -- ---- tables, one after another
 
 -- n tables from t on, kept in ws as us
 pub record Counts (n t : ℕ) (ws us : List ℕ) (tables : List (List Cells)) : Type 0 where
   pub same : length us ≡ length ws
-  pub other : (i : ℕ) → i < 7 → ((u : ℕ) → t ≤ u → u < t + n → 0 < count_place u → i ≡ count_place u - 1 → ⊥) → get_or us i 0 ≡ get_or ws i 0
-  pub count : (i u : ℕ) → u ≡ t + i → i < n → 0 < count_place u → get_or us (count_place u - 1) 0 ≡ length (get_or tables i [])
+  pub other : (i : ℕ) → i < 7 → ((u : ℕ) → t ≤ u → u < t + n → count_place u ≡ Some i → ⊥) → get_or us i 0 ≡ get_or ws i 0
+  pub count : (i u p : ℕ) → u ≡ t + i → i < n → count_place u ≡ Some p → get_or us p 0 ≡ length (get_or tables i [])
 
 abbrev pub CountsBy : ℕ → ℕ → List ℕ → List (List Cells) → Outcome → Type 0
 CountsBy n t ws tables (stop m) = Unit {0}
@@ -144,19 +150,17 @@ CountsBy n t ws tables (done at count progress us ns vs) = Counts n t ws us tabl
 
 -- no count yet of a table from t on
 abbrev pub Blank : ℕ → List ℕ → Type 0
-Blank t ws = (u : ℕ) → t ≤ u → u < 16 → 0 < count_place u → get_or ws (count_place u - 1) 0 ≡ 0
+Blank t ws = (u p : ℕ) → t ≤ u → u < 16 → count_place u ≡ Some p → get_or ws p 0 ≡ 0
 
 module _ (n t : ℕ) (most : t + suc n ≤ 16) (ws : List ℕ) (long : 7 ≤ length ws) (rows : List Cells) (k : ℕ) (all : k ≡ 0 + length rows) (us : List ℕ) (tally : Tallied t ws k us) where
   small : t < 16
   small = omega arith
 
-  apart : (u v : ℕ) → u < 16 → v < 16 → u < v → 0 < count_place u → 0 < count_place v → count_place u - 1 ≡ count_place v - 1 → ⊥
-  apart u v l m h p q e = let f = count-own u l v m p (omega arith) in omega arith
+  apart : (u v p : ℕ) → u < 16 → v < 16 → u < v → count_place u ≡ Some p → count_place v ≡ Some p → ⊥
+  apart u v p l m h d e = let f = count-owner u l p d in let g = count-owner v m p e in omega arith
 
   still-blank : Blank t ws → Blank (t + 1) us
-  still-blank b u h l p =
-      let f = count-few u l in
-      tally.other (count_place u - 1) (omega arith) (λ q e. apart t u small l (omega arith) q p (sym e)) ∙ b u (omega arith) l p
+  still-blank b u p h l e = tally.other p (count-few u l p e) (λ d. apart t u p small l (omega arith) d e) ∙ b u p (omega arith) l e
 
   join : (tables : List (List Cells)) (o : Outcome) → CountsBy n (t + 1) us tables o → CountsBy (suc n) t ws (rows ∷ tables) o
   join tables (stop m) h = tt
@@ -167,16 +171,13 @@ module _ (n t : ℕ) (most : t + suc n ≤ 16) (ws : List ℕ) (long : 7 ≤ len
         count = counted-as;
       }
     where
-      first : 0 < count_place t → get_or xs (count_place t - 1) 0 ≡ length rows
-      first p =
-          let f = count-few t small in
-          h.other (count_place t - 1) (omega arith) (λ u a b q. apart t u small (omega arith) (omega arith) p q) ∙ tally.count p long ∙ all ∙ zero-add (length rows)
+      first : (p : ℕ) → count_place t ≡ Some p → get_or xs p 0 ≡ length rows
+      first p e =
+          h.other p (count-few t small p e) (λ u a b d. apart t u p small (omega arith) (omega arith) e d) ∙ tally.count p e long ∙ all ∙ zero-add (length rows)
 
-      counted-as : (i u : ℕ) → u ≡ t + i → i < suc n → 0 < count_place u → get_or xs (count_place u - 1) 0 ≡ length (get_or (rows ∷ tables) i [])
-      counted-as zero u e l p =
-          let r : t ≡ u = omega arith in
-          subst (λ (w : ℕ). get_or xs (count_place w - 1) 0 ≡ length rows) r (first (subst (λ (w : ℕ). 0 < count_place w) (sym r) p))
-      counted-as (suc i) u e l p = h.count i u (omega arith) (le_of_suc-le-suc l) p
+      counted-as : (i u p : ℕ) → u ≡ t + i → i < suc n → count_place u ≡ Some p → get_or xs p 0 ≡ length (get_or (rows ∷ tables) i [])
+      counted-as zero u p e l d = let r : u ≡ t = omega arith in first p (subst (λ (w : ℕ). count_place w ≡ Some p) r d)
+      counted-as (suc i) u p e l d = h.count i u p (omega arith) (le_of_suc-le-suc l) d
 
 pub tables-counted : (n t : ℕ) (text : List ℕ) (at count : ℕ) (progress : Progress) (ws : List ℕ) (ns : List Float) (vs : List ℕ) → t + n ≤ 16 → 7 ≤ length ws → Blank t ws
     → CountsBy n t ws (tables_lines n t text at) (tables_from n t text at count progress ws ns vs)
@@ -185,9 +186,9 @@ tables-counted zero t text at count progress ws ns vs most long blank = go (ltb 
   where
     go : (b : Bool) → CountsBy 0 t ws [] (cond b (stop 1) (done at count progress ws ns vs))
     go true = tt
-    go false = record { same = refl; other = λ i s f. refl; count = λ i u e h. absurd (not-suc-le-zero h) }
+    go false = record { same = refl; other = λ i s f. refl; count = λ i u p e h. absurd (not-suc-le-zero h) }
 tables-counted (suc n) t text at count progress ws ns vs most long blank =
-    step (table_lines t text at) (table_at t text at progress ws ns vs) (table-agree t text at progress ws ns vs) (table-tallied t (omega arith) text at progress ws ns vs (blank t (omega arith) (omega arith)))
+    step (table_lines t text at) (table_at t text at progress ws ns vs) (table-agree t text at progress ws ns vs) (table-tallied t (omega arith) text at progress ws ns vs (λ p e. blank t p (omega arith) (omega arith) e))
     (λ at' count' progress' us xs vs' long' blank'. tables-counted n (t + 1) text at' count' progress' us xs vs' (omega arith) long' blank')
   where
     step : (p : Lines) (o : Outcome) → Agree t (limit_of t) 0 ns p o → TalliedBy t ws o
@@ -216,9 +217,9 @@ module _ (text : List ℕ) (l m n at count : ℕ) (progress : Progress) (ws : Li
       let a = read in
       let long = a.words_long in
       subst (λ (o : Outcome). CountsBy 16 0 (zeros l) (tables_lines 16 0 text 0) o) a.tables
-      (tables-counted 16 0 text 0 0 start_progress (zeros l) (zero_numbers m) (zeros n) (omega arith) (omega arith) (λ u h i p. zeros-blank l (count_place u - 1)))
+      (tables-counted 16 0 text 0 0 start_progress (zeros l) (zero_numbers m) (zeros n) (omega arith) (omega arith) (λ u p h i e. zeros-blank l p))
 
   -- of geom, elev, bank, offset, tshift, section and profile
-  pub count_kept_lem : (t : ℕ) → t < 16 → 0 < count_place t → get_or ws (count_place t - 1) 0 ≡ length (lines_of text t)
+  pub count_kept_lem : (t p : ℕ) → t < 16 → count_place t ≡ Some p → get_or ws p 0 ≡ length (lines_of text t)
   unfolding lines_of
-  count_kept_lem t h = all-counts.count t t (sym (zero-add t)) h
+  count_kept_lem t p h = all-counts.count t t p (sym (zero-add t)) h

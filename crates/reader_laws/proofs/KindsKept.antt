@@ -1,5 +1,5 @@
 -- An accepted text's kinds of geometries: word 7 + k is the place of line k's kind in its list (`kind-kept`). No other table keeps a word between the counts and the sections' words.
-use Prim.Native.Nat.{ℕ, zero, suc, ◌+◌, ◌-◌, ◌*◌, ◌<◌, ◌≤◌}
+use Prim.Native.Nat.{ℕ, zero, suc, ◌+◌, ◌*◌, ◌<◌, ◌≤◌}
 use native.Mathlib.Omega.{arith}
 use native.Mathlib.Nat.{le_of_suc-le-suc, not-suc-le-zero, zero-add, add-zero}
 use mathlib.Core.Path.{◌≡◌, refl, sym, ◌∙◌, ap, subst}
@@ -22,7 +22,7 @@ use Rattle.reader_lines.specs.declared.values_line.Values.{Values}
 use Rattle.reader_lines.specs.declared.columns.Order.{Order}
 use Rattle.reader_lines.specs.Columns.{cell_of, no_cells}
 use Rattle.reader_lines.specs.declared.columns.Cells.{Cells}
-use Rattle.reader_store.specs.Layout.{places, place_at, words, word_place, code_of, word_put, words_below, count_place, count_kept, rules, rule_of, numbers_below, wants_kept}
+use Rattle.reader_store.specs.Layout.{number_lines, word_lines, word_row, word_place, code_of, word_put, words_below, count_place, put_at, count_kept, rule_of, numbers_below, wants_kept}
 use Rattle.reader_store.specs.Progress.{start_progress, ended_progress}
 use Rattle.reader_store.specs.Keep.{ruled_words, kept_words, kept_progress}
 use Rattle.reader_store.specs.declared.progress.Progress.{Progress}
@@ -59,7 +59,7 @@ kinds-same (r ∷ rs) k (suc i) ws h l =
     next k i = omega arith
 
 kind-line : (k : ℕ) (cells : Cells) (progress : Progress) (ws : List ℕ) → kept_words 1 k cells progress ws ≡ set ws (7 + k) (code_of (cell_of cells 5))
-unfolding kept_words ruled_words words_below word_put word_place words place_at places rule_of rules
+unfolding kept_words ruled_words words_below word_put word_place word_row number_lines word_lines rule_of
 kind-line k cells progress ws = ap (λ (p : ℕ). set ws p (code_of (cell_of cells 5))) (place k)
   where
     place : (k : ℕ) → 7 + k * 1 + 0 ≡ 7 + k
@@ -68,11 +68,11 @@ kind-line k cells progress ws = ap (λ (p : ℕ). set ws p (code_of (cell_of cel
 -- a count is kept below 7
 count_past : (t : ℕ) → t < 16 → (n : ℕ) (ws : List ℕ) (j : ℕ) → 7 ≤ j → get_or (count_kept t n ws) j 0 ≡ get_or ws j 0
 unfolding count_kept
-count_past t small n ws j h = go (ltb 0 (count_place t)) refl
+count_past t small n ws j h = go (count_place t) refl
   where
-    go : (b : Bool) → ltb 0 (count_place t) ≡ b → get_or (cond b (set ws (count_place t - 1) n) ws) j 0 ≡ get_or ws j 0
-    go true e = let f = count-few t small in let p = ltb-true 0 (count_place t) e in get_or-set_other ws (count_place t - 1) j n 0 (λ q. omega arith)
-    go false e = refl
+    go : (o : Option ℕ) → count_place t ≡ o → get_or (put_at o n ws) j 0 ≡ get_or ws j 0
+    go (Some p) e = let f = count-few t small p e in get_or-set_other ws p j n 0 (λ q. omega arith)
+    go None e = refl
 
 abbrev KindsBy : ℕ → List ℕ → Lines → Outcome → Type 0
 KindsBy k ws p (stop m) = Unit {0}
@@ -114,8 +114,8 @@ kinds-table text at progress ws ns vs =
 
 -- ---- the other tables
 
-others-test : all_below (λ t. all_below (λ c. eqb t 1 || (eqb (word_place t c) 0 || leb 71 (place_at t 2))) 8) 16 ≡ true
-unfolding all_below place_at places word_place words
+others-test : all_below (λ t. all_below (λ c. eqb t 1 || (eqb (word_place t c) 0 || leb 71 (word_lines t).first)) 8) 16 ≡ true
+unfolding all_below number_lines word_lines word_place word_row
 others-test = refl
 
 abbrev OthersBy : List ℕ → Outcome → Type 0
@@ -124,26 +124,26 @@ OthersBy ws (done at n progress us ns vs) = (length us ≡ length ws) × ((j : �
 
 count-length : (t n : ℕ) (ws : List ℕ) → length (count_kept t n ws) ≡ length ws
 unfolding count_kept
-count-length t n ws = go (ltb 0 (count_place t))
+count-length t n ws = go (count_place t)
   where
-    go : (b : Bool) → length (cond b (set ws (count_place t - 1) n) ws) ≡ length ws
-    go true = length-set ws (count_place t - 1) n
-    go false = refl
+    go : (o : Option ℕ) → length (put_at o n ws) ≡ length ws
+    go (Some p) = length-set ws p n
+    go None = refl
 
 module _ (t : ℕ) (small : t < 16) (unlike : t ≡ 1 → ⊥) where
   column-below : (c : ℕ) → 0 < word_place t c → c < 8
   unfolding word_place
   column-below c h = go (ltb c 8) refl h
     where
-      go : (b : Bool) → ltb c 8 ≡ b → 0 < cond b (get_or (get_or words t []) c 0) 0 → c < 8
+      go : (b : Bool) → ltb c 8 ≡ b → 0 < cond b (get_or (word_row t) c 0) 0 → c < 8
       go true e p = ltb-true c 8 e
       go false e p = absurd (not-suc-le-zero p)
 
-  word-past : (c : ℕ) → 0 < word_place t c → 71 ≤ place_at t 2
+  word-past : (c : ℕ) → 0 < word_place t c → 71 ≤ (word_lines t).first
   word-past c h =
-      let a = all-at (λ c. eqb t 1 || (eqb (word_place t c) 0 || leb 71 (place_at t 2))) 8 (all-at (λ t. all_below (λ c. eqb t 1 || (eqb (word_place t c) 0 || leb 71 (place_at t 2))) 8) 16 others-test t small) c (column-below c h) in
-      let b = or_else (eqb t 1) (eqb (word_place t c) 0 || leb 71 (place_at t 2)) a (ne_eqb t 1 unlike) in
-      leb-true 71 (place_at t 2) (or_else (eqb (word_place t c) 0) (leb 71 (place_at t 2)) b (ne_eqb (word_place t c) 0 (λ z. omega arith)))
+      let a = all-at (λ c. eqb t 1 || (eqb (word_place t c) 0 || leb 71 (word_lines t).first)) 8 (all-at (λ t. all_below (λ c. eqb t 1 || (eqb (word_place t c) 0 || leb 71 (word_lines t).first)) 8) 16 others-test t small) c (column-below c h) in
+      let b = or_else (eqb t 1) (eqb (word_place t c) 0 || leb 71 (word_lines t).first) a (ne_eqb t 1 unlike) in
+      leb-true 71 (word_lines t).first (or_else (eqb (word_place t c) 0) (leb 71 (word_lines t).first) b (ne_eqb (word_place t c) 0 (λ z. omega arith)))
 
   ended : (k : ℕ) (ws from : List ℕ) → Low 71 ws from → (length (count_kept t k ws) ≡ length from) × ((j : ℕ) → 7 ≤ j → j < 71 → get_or (count_kept t k ws) j 0 ≡ get_or from j 0)
   ended k ws from h = (count-length t k ws ∙ h.0, λ j p q. count_past t small k ws j p ∙ h.1 j q)
@@ -161,7 +161,7 @@ module _ (t : ℕ) (small : t < 16) (unlike : t ≡ 1 → ⊥) where
       go (eqb (byte_at text at) 10) (values_at text at t order)
       (λ cells next.
       others-lines fuel order text next (k + 1) (kept_progress t k cells progress ws) (kept_words t k cells progress ws) (numbers_below t k cells 8 ns) (wants_kept t k cells vs) from
-      (low-then 71 (kept_words t k cells progress ws) ws from (kept_low 71 (omega arith) t small word-past k cells progress ws) h))
+      (low-then 71 (kept_words t k cells progress ws) ws from (kept_low 71 (omega arith) t word-past k cells progress ws) h))
     where
       go : (a : Bool) (x : Option Values) → ((cells : Cells) (next : ℕ) → OthersBy from (lines_from fuel t order text next (k + 1) (kept_progress t k cells progress ws) (kept_words t k cells progress ws) (numbers_below t k cells 8 ns) (wants_kept t k cells vs))) → OthersBy from (cond a (done (at + 1) k (ended_progress progress) (count_kept t k ws) ns vs) (by_values x (λ cells next. lines_from fuel t order text next (k + 1) (kept_progress t k cells progress ws) (kept_words t k cells progress ws) (numbers_below t k cells 8 ns) (wants_kept t k cells vs))))
       go true x ih = ended k ws from h

@@ -14,12 +14,14 @@ use Rattle.records_cubic.specs.Cubics.{cubic_at}
 use Rattle.records_cubic.proofs.CubicTables.{cubic-count, cubic_in_lem}
 use Rattle.records.specs.declared.points.HeightDef.{HeightDef}
 use Rattle.records.specs.declared.points.Mark.{Mark}
-use Rattle.records.specs.Layout.{length_place, profile_count_at, geom_base, geom_stride, elev_base, bank_base, offset_base, tshift_base, section_base, extent_base, height_base, profile_base, shape_base, cubic_base, span_base, numbers_needed, cubic_stride, height_stride, span_stride, kind_words, section_words, section_stride, lane_words, lane_stride, profile_words, profile_stride, strip_words, strip_stride, section_mark_words, section_mark_stride, mark_words, mark_stride, words_needed, want_stride, wants_needed}
+use Rattle.records.specs.Layout.{length_place, geom_count_at, elev_count_at, bank_count_at, offset_count_at, tshift_count_at, section_count_at, profile_count_at, geom_base, geom_stride, elev_base, bank_base, offset_base, tshift_base, section_base, extent_base, height_base, profile_base, shape_base, cubic_base, span_base, numbers_needed, cubic_stride, height_stride, span_stride, kind_words, section_words, section_stride, lane_words, lane_stride, profile_words, profile_stride, strip_words, strip_stride, section_mark_words, section_mark_stride, mark_words, mark_stride, words_needed, want_stride, wants_needed}
 use Rattle.records.specs.Roads.{Lane, road_of, geom_shape_of, geom_in, unused_in, unused_of, lane_in, mark_in, section_in, profile_in, cubics_in, heights_in, height_def_at, column_in}
 use Rattle.records.proofs.CubicLaws.{height-count, height_in_lem}
 use Rattle.reader_schema.specs.Tables.{geom_table, elev_table, bank_table, offset_table, tshift_table, section_table, lane_table, extent_table, height_table, profile_table, shape_table, strip_table, cubic_table, mark_table, want_table}
 use Rattle.reader_schema.specs.Schema.{limits, limit_of}
-use Rattle.reader_store.specs.Layout.{places, place_at, numbers, number_place, words, word_place, counts, count_place, bases, base_of, strides, stride_of}
+use Rattle.reader_store.specs.Layout.{number_lines, word_lines, number_row, number_place, word_row, word_place, base_of, stride_of}
+use Rattle.reader_store.specs.declared.layout.Family.{Family}
+use Rattle.reader_store.specs.declared.layout.Family.TheVariants.{Extent, Height, Shape, Cubic as CubicFamily, Mark as MarkFamily}
 use Rattle.reader_store.specs.Parents.{section_word}
 
 -- ---- places
@@ -50,8 +52,8 @@ want-limits-join = refl
 
 -- a table whose columns from one on are start a b c d
 pub record Five (t column base : ℕ) : Type 0 where
-  pub first : place_at t 0 ≡ base
-  pub stride : place_at t 1 ≡ 5
+  pub first : (number_lines t).first ≡ base
+  pub stride : (number_lines t).stride ≡ 5
   pub start : number_place t column ≡ 1
   pub a : number_place t (column + 1) ≡ 2
   pub b : number_place t (column + 2) ≡ 3
@@ -60,31 +62,31 @@ pub record Five (t column base : ℕ) : Type 0 where
 
 -- elev, bank, offset, tshift; extent, shape, cubic
 pub elev-five : Five 2 0 elev_base
-unfolding place_at places number_place numbers
+unfolding number_lines word_lines number_place number_row
 elev-five = record { first = refl; stride = refl; start = refl; a = refl; b = refl; c = refl; d = refl }
 
 pub bank-five : Five 3 0 bank_base
-unfolding place_at places number_place numbers
+unfolding number_lines word_lines number_place number_row
 bank-five = record { first = refl; stride = refl; start = refl; a = refl; b = refl; c = refl; d = refl }
 
 pub offset-five : Five 4 0 offset_base
-unfolding place_at places number_place numbers
+unfolding number_lines word_lines number_place number_row
 offset-five = record { first = refl; stride = refl; start = refl; a = refl; b = refl; c = refl; d = refl }
 
 pub tshift-five : Five 5 0 tshift_base
-unfolding place_at places number_place numbers
+unfolding number_lines word_lines number_place number_row
 tshift-five = record { first = refl; stride = refl; start = refl; a = refl; b = refl; c = refl; d = refl }
 
 pub extent-five : Five 8 2 extent_base
-unfolding place_at places number_place numbers
+unfolding number_lines word_lines number_place number_row
 extent-five = record { first = refl; stride = refl; start = refl; a = refl; b = refl; c = refl; d = refl }
 
 pub shape-five : Five 11 1 shape_base
-unfolding place_at places number_place numbers
+unfolding number_lines word_lines number_place number_row
 shape-five = record { first = refl; stride = refl; start = refl; a = refl; b = refl; c = refl; d = refl }
 
 pub cubic-five : Five 13 3 cubic_base
-unfolding place_at places number_place numbers
+unfolding number_lines word_lines number_place number_row
 cubic-five = record { first = refl; stride = refl; start = refl; a = refl; b = refl; c = refl; d = refl }
 
 pub cubic-same : {a b c d e a' b' c' d' e' : Float} → a ≡ a' → b ≡ b' → c ≡ c' → d ≡ d' → e ≡ e'
@@ -123,15 +125,12 @@ column-place : (i column : ℕ) → 1303 + i * 11 + 1 + column * 2 ≡ 1304 + (i
 column-place i column = omega arith
 
 module _ (ws : List ℕ) (ns : List Float) where
-  -- the number and the word that a reader keeps for a column of line k, and how many lines it keeps count of
+  -- the number and the word that a reader keeps for a column of line k
   abbrev pub number_of : ℕ → ℕ → ℕ → Float
-  number_of table k column = get_or ns (place_at table 0 + k * place_at table 1 + (number_place table column - 1)) nan
+  number_of table k column = get_or ns ((number_lines table).first + k * (number_lines table).stride + (number_place table column - 1)) nan
 
   abbrev pub code_of : ℕ → ℕ → ℕ → ℕ
-  code_of table k column = get_or ws (place_at table 2 + k * place_at table 3 + (word_place table column - 1)) 0
-
-  abbrev pub lines_of : ℕ → ℕ
-  lines_of table = get_or ws (count_place table - 1) 0
+  code_of table k column = get_or ws ((word_lines table).first + k * (word_lines table).stride + (word_place table column - 1)) 0
 
   -- five columns from a column on: start a b c d
   abbrev pub cubic_of : ℕ → ℕ → ℕ → Cubic
@@ -149,55 +148,55 @@ module _ (ws : List ℕ) (ns : List Float) where
         length = number_of 1 i 4;
         shape = geom_shape_of (code_of 1 i 5) (number_of 1 i 6) (number_of 1 i 7);
       }
-  unfolding geom_in place_at places number_place numbers word_place words
+  unfolding geom_in number_lines word_lines number_place number_row word_place word_row
   geom-join i =
       rw (span-at ns (1 + i * 7) 7 0 nan (omega arith), span-at ns (1 + i * 7) 7 1 nan (omega arith), span-at ns (1 + i * 7) 7 2 nan (omega arith), span-at ns (1 + i * 7) 7 3 nan (omega arith), span-at ns (1 + i * 7) 7 4 nan (omega arith), span-at ns (1 + i * 7) 7 5 nan (omega arith), span-at ns (1 + i * 7) 7 6 nan (omega arith), kind-place i)
 
   -- the columns that the kind does not use
   pub unused-join : (i : ℕ) → unused_in ws ns i ≡ unused_of (code_of 1 i 5) (number_of 1 i 6) (number_of 1 i 7)
-  unfolding unused_in place_at places number_place numbers word_place words
+  unfolding unused_in number_lines word_lines number_place number_row word_place word_row
   unused-join i = rw (kind-place i)
 
   -- the road's lists: which table, and the word of its count
   pub length-join : (road_of ws ns).length ≡ number_of 0 0 0
-  unfolding road_of place_at places number_place numbers
+  unfolding road_of number_lines word_lines number_place number_row
   length-join = refl
 
-  pub geoms-join : (road_of ws ns).geoms ≡ tabulate (geom_in ws ns) (lines_of 1)
-  unfolding road_of count_place counts
+  pub geoms-join : (road_of ws ns).geoms ≡ tabulate (geom_in ws ns) (get_or ws geom_count_at 0)
+  unfolding road_of
   geoms-join = refl
 
-  pub unused-list-join : (road_of ws ns).unused ≡ tabulate (unused_in ws ns) (lines_of 1)
-  unfolding road_of count_place counts
+  pub unused-list-join : (road_of ws ns).unused ≡ tabulate (unused_in ws ns) (get_or ws geom_count_at 0)
+  unfolding road_of
   unused-list-join = refl
 
-  pub elevations-join : (road_of ws ns).elevations ≡ cubics_in ws ns (place_at 2 0) 0 (lines_of 2)
-  unfolding road_of place_at places count_place counts
+  pub elevations-join : (road_of ws ns).elevations ≡ cubics_in ws ns (number_lines 2).first 0 (get_or ws elev_count_at 0)
+  unfolding road_of number_lines
   elevations-join = refl
 
-  pub superelevations-join : (road_of ws ns).superelevations ≡ cubics_in ws ns (place_at 3 0) 0 (lines_of 3)
-  unfolding road_of place_at places count_place counts
+  pub superelevations-join : (road_of ws ns).superelevations ≡ cubics_in ws ns (number_lines 3).first 0 (get_or ws bank_count_at 0)
+  unfolding road_of number_lines
   superelevations-join = refl
 
-  pub offsets-join : (road_of ws ns).offsets ≡ cubics_in ws ns (place_at 4 0) 0 (lines_of 4)
-  unfolding road_of place_at places count_place counts
+  pub offsets-join : (road_of ws ns).offsets ≡ cubics_in ws ns (number_lines 4).first 0 (get_or ws offset_count_at 0)
+  unfolding road_of number_lines
   offsets-join = refl
 
-  pub tshifts-join : (road_of ws ns).tshifts ≡ cubics_in ws ns (place_at 5 0) 0 (lines_of 5)
-  unfolding road_of place_at places count_place counts
+  pub tshifts-join : (road_of ws ns).tshifts ≡ cubics_in ws ns (number_lines 5).first 0 (get_or ws tshift_count_at 0)
+  unfolding road_of number_lines
   tshifts-join = refl
 
-  pub sections-join : (road_of ws ns).sections ≡ tabulate (section_in ws ns) (lines_of 6)
-  unfolding road_of count_place counts
+  pub sections-join : (road_of ws ns).sections ≡ tabulate (section_in ws ns) (get_or ws section_count_at 0)
+  unfolding road_of
   sections-join = refl
 
-  pub profiles-join : (road_of ws ns).profiles ≡ tabulate (profile_in ws ns) (lines_of 10)
-  unfolding road_of count_place counts
+  pub profiles-join : (road_of ws ns).profiles ≡ tabulate (profile_in ws ns) (get_or ws profile_count_at 0)
+  unfolding road_of
   profiles-join = refl
 
   -- a section: its start, its first lane and how many left and right ones; a lane counts under section_word + 1 or + 2
   pub section_start-join : (i : ℕ) → (section_in ws ns i).start ≡ number_of 6 i 0
-  unfolding section_in place_at places number_place numbers
+  unfolding section_in number_lines word_lines number_place number_row
   section_start-join i = ap (λ (p : ℕ). get_or ns p nan) (one_more_lem 1729 i)
 
   pub left_join : (i : ℕ) → (section_in ws ns i).left ≡ tabulate (λ j. lane_in ws ns (get_or ws (section_word i) 0 + j)) (get_or ws (section_word i + 1) 0)
@@ -209,12 +208,12 @@ module _ (ws : List ℕ) (ns : List Float) where
   unfolding section_in
   right-join i = ap (λ (p : ℕ). tabulate (λ j. lane_in ws ns (get_or ws p 0 + get_or ws (p + 1) 0 + j)) (get_or ws (p + 2) 0)) (sym (section-join i))
 
-  -- the range that a reader counts up for a parent, by rule
-  abbrev pub first_of : ℕ → ℕ → ℕ
-  first_of rule i = get_or ws (base_of rule + i * stride_of rule) 0
+  -- the range that a reader counts up for a parent, by family
+  abbrev pub first_of : Family → ℕ → ℕ
+  first_of family i = get_or ws (base_of family + i * stride_of family) 0
 
-  abbrev pub count_of : ℕ → ℕ → ℕ
-  count_of rule i = get_or ws (base_of rule + i * stride_of rule + 1) 0
+  abbrev pub count_of : Family → ℕ → ℕ
+  count_of family i = get_or ws (base_of family + i * stride_of family + 1) 0
 
   -- a lane by the places of its words
   abbrev lane_from : ℕ → ℕ → ℕ → ℕ → ℕ → ℕ → Lane
@@ -230,35 +229,35 @@ module _ (ws : List ℕ) (ns : List Float) where
       ≡ record {
         border = eqb (code_of 7 j 2) 1;
         level = eqb (code_of 7 j 3) 1;
-        extents = cubics_in ws ns (place_at 8 0) (first_of 2 j) (count_of 2 j);
-        heights = heights_in ws ns (first_of 3 j) (count_of 3 j);
+        extents = cubics_in ws ns (number_lines 8).first (first_of Extent j) (count_of Extent j);
+        heights = heights_in ws ns (first_of Height j) (count_of Height j);
       }
-  unfolding lane_in place_at places word_place words base_of bases stride_of strides
+  unfolding lane_in number_lines word_lines word_place word_row base_of stride_of
   lane-join j = lane-same (119 + j * 6 + 1) (added 119 (j * 6)) (moved 2 119 (j * 6)) (moved2 2 1 119 (j * 6)) (moved 4 119 (j * 6)) (moved2 4 1 119 (j * 6))
 
   -- a section's marks, and a mark: its lane and its kind, its span
-  pub marks-join : (i : ℕ) → (section_in ws ns i).marks ≡ tabulate (λ j. mark_in ws ns (first_of 6 i + j)) (count_of 6 i)
-  unfolding section_in base_of bases stride_of strides
+  pub marks-join : (i : ℕ) → (section_in ws ns i).marks ≡ tabulate (λ j. mark_in ws ns (first_of MarkFamily i + j)) (count_of MarkFamily i)
+  unfolding section_in base_of stride_of
   marks-join i = refl
 
   pub mark-join : (j : ℕ)
       → mark_in ws ns j ≡ record { lane = get_or ws (mark_words + j * mark_stride) 0; kind = get_or ws (mark_words + j * mark_stride + 1) 0; start = number_of 14 j 2; end = number_of 14 j 3 }
-  unfolding mark_in place_at places number_place numbers
+  unfolding mark_in number_lines word_lines number_place number_row
   mark-join j = mark-same refl refl (ap (λ (p : ℕ). get_or ns p nan) (none-added (7937 + j * 2))) refl
 
   -- a profile: its s and its shapes
-  pub profile-join : (i : ℕ) → profile_in ws ns i ≡ record { s = number_of 10 i 0; shapes = cubics_in ws ns (place_at 11 0) (first_of 4 i) (count_of 4 i) }
-  unfolding profile_in place_at places number_place numbers base_of bases stride_of strides
+  pub profile-join : (i : ℕ) → profile_in ws ns i ≡ record { s = number_of 10 i 0; shapes = cubics_in ws ns (number_lines 11).first (first_of Shape i) (count_of Shape i) }
+  unfolding profile_in number_lines word_lines number_place number_row base_of stride_of
   profile-join i = rw (one_more_lem 5841 i)
 
   -- the cubics of a strip's width or of a term: the range that `term_of` counts up
-  pub column-join : (i column : ℕ) → column_in ws ns i column ≡ cubics_in ws ns (place_at 13 0) (first_of 5 (i * 11 + column * 2)) (count_of 5 (i * 11 + column * 2))
-  unfolding column_in place_at places base_of bases stride_of strides
+  pub column-join : (i column : ℕ) → column_in ws ns i column ≡ cubics_in ws ns (number_lines 13).first (first_of CubicFamily (i * 11 + column * 2)) (count_of CubicFamily (i * 11 + column * 2))
+  unfolding column_in number_lines word_lines base_of stride_of
   column-join i column = ap (λ (p : ℕ). cubics_in ws ns 7137 (get_or ws p 0) (get_or ws (p + 1) 0)) (column-place i column)
 
   -- ---- the lines of a list: each number of a line is that of its column
 
-  number_at : (t column base stride first k j : ℕ) → place_at t 0 ≡ base → place_at t 1 ≡ stride → number_place t column ≡ j + 1
+  number_at : (t column base stride first k j : ℕ) → (number_lines t).first ≡ base → (number_lines t).stride ≡ stride → number_place t column ≡ j + 1
       → get_or ns (base + first * stride + (k * stride + j)) nan ≡ number_of t (first + k) column
   number_at t column base stride first k j e f g = ap (λ (p : ℕ). get_or ns p nan) (place ∙ rw (e, f, g))
     where
@@ -283,7 +282,7 @@ module _ (ws : List ℕ) (ns : List Float) where
   -- height: start inner outer
   pub height-join : (first count k : ℕ) → k < length (heights_in ws ns first count)
       → height_def_at (heights_in ws ns first count) k ≡ record { s_offset = number_of 9 (first + k) 2; inner = number_of 9 (first + k) 3; outer = number_of 9 (first + k) 4 }
-  unfolding place_at places number_place numbers
+  unfolding number_lines word_lines number_place number_row
   height-join first count k h =
       let part : List Float = span ns (4305 + first * 3) (count * 3) in
       let l : k < length part / 3 = rw (height-count part) at h in

@@ -2,28 +2,27 @@
 use Prim.Native.Nat.{ℕ, zero, suc, ◌+◌, ◌-◌, ◌*◌, ◌%◌, ◌<◌, ◌≤◌}
 use native.Mathlib.Omega.{arith}
 use mathlib.Core.Path.{◌≡◌, refl, ◌∙◌}
-use mathlib.Core.Bool.{Bool, true, false, ◌||◌, cond}
+use mathlib.Core.Bool.{Bool, true, false, ◌||◌, ◌&&◌, cond}
 use mathlib.Core.List.{List}
 use lib.ListN.{length, get_or, set, length-set}
 use lib.Seq.{get_or-set_other}
-use lib.Dec.{eqb, ltb, leb}
-use borrow.Author.Tests.{ltb-true, leb-true}
-use Rattle.records_lent.specs.Lists.{all_below}
-use Rattle.records_lent.proofs.TestLaws.{all-at}
+use lib.Dec.{eqb, ltb}
+use borrow.Author.Tests.{ltb-true}
+use Rattle.std.specs.Prelude.{Option, Some, None, is_some, option_map, option_and_then, IfSome}
 use Rattle.reader_lines.specs.Columns.{cell_of}
 use Rattle.reader_lines.specs.declared.columns.Cells.{Cells}
-use Rattle.reader_store.specs.Layout.{place_at, word_place, code_of, one_more, word_put, words_below, rules, rule_of, bases, base_of, stride_of}
+use Rattle.reader_store.specs.Layout.{word_lines, word_place, code_of, one_more, put_at, word_put, words_below, rule_of, base_of, stride_of}
 use Rattle.reader_store.specs.Progress.{strip_line}
-use Rattle.reader_store.specs.Parents.{lane_turn, mark_lane, index_of, range_of, parent_of}
-use Rattle.reader_store.specs.Keep.{first_line, added, in_order, under_words, strip_named, strips_kept, mark_kind, mark_put, own_words, ruled_words, kept_words}
-use Rattle.reader_store.specs.Parents.{Parent}
+use Rattle.reader_store.specs.Parents.{first_if, section_at, section_word, side_of, lane_beside, lane_under, lane_turn, index_of, range_of, parent_of}
+use Rattle.reader_store.specs.Keep.{added, in_order, under_words, strip_named, strips_kept, mark_kind, mark_place, mark_put, own_words, ruled_words, kept_words}
+use Rattle.reader_store.specs.declared.layout.Family.{Family}
+use Rattle.reader_store.specs.declared.layout.Family.TheVariants.{Lane, Extent, Height, Shape, Cubic, Mark}
+use Rattle.reader_store.specs.declared.layout.Rule.{Rule}
+use Rattle.reader_store.specs.declared.layout.Rule.TheVariants.{Strip, Child}
+use Rattle.reader_store.specs.declared.parents.Ranked.{Ranked}
+use Rattle.reader_store.specs.declared.parents.Counted.{Counted}
+use Rattle.reader_store.specs.declared.parents.Side.{Side}
 use Rattle.reader_store.specs.declared.progress.Progress.{Progress}
-use Rattle.reader_store.specs.declared.progress.Strips.{Strips}
-
--- the ranges of rules 2 to 6 stand past the sections' words
-rules-test : all_below (λ t. eqb (rule_of t) 0 || (eqb (rule_of t) 7 || (eqb (rule_of t) 1 || leb 71 (base_of (rule_of t))))) 16 ≡ true
-unfolding all_below rule_of rules base_of bases
-rules-test = refl
 
 pub or_else : (a b : Bool) → a || b ≡ true → a ≡ false → b ≡ true
 or_else true b e f = let z : ◌≡◌ {A = ℕ} 0 1 = cc in absurd (omega arith)
@@ -45,13 +44,13 @@ pub low-set : (b : ℕ) (ws : List ℕ) (p v : ℕ) → b ≤ p → Low b (set w
 low-set b ws p v h = (length-set ws p v, λ i l. get_or-set_other ws p i v 0 (λ e. omega arith))
 
 -- words of lines, of ranges, of strips and of sections past the bound: no line of the table touches the words below it
-module _ (b : ℕ) (most : b ≤ 71) (t : ℕ) (small : t < 16) (word-past : (c : ℕ) → 0 < word_place t c → b ≤ place_at t 2) where
+module _ (b : ℕ) (most : b ≤ 71) (t : ℕ) (word-past : (c : ℕ) → 0 < word_place t c → b ≤ (word_lines t).first) where
   put_low : (k c v : ℕ) (ws : List ℕ) → Low b (word_put t k c v ws) ws
   unfolding word_put
   put_low k c v ws = go (ltb 0 (word_place t c)) refl
     where
-      go : (x : Bool) → ltb 0 (word_place t c) ≡ x → Low b (cond x (set ws (place_at t 2 + k * place_at t 3 + (word_place t c - 1)) (code_of v)) ws) ws
-      go true e = low-set b ws (place_at t 2 + k * place_at t 3 + (word_place t c - 1)) (code_of v) (let h = word-past c (ltb-true 0 (word_place t c) e) in omega arith)
+      go : (x : Bool) → ltb 0 (word_place t c) ≡ x → Low b (cond x (set ws ((word_lines t).first + k * (word_lines t).stride + (word_place t c - 1)) (code_of v)) ws) ws
+      go true e = low-set b ws ((word_lines t).first + k * (word_lines t).stride + (word_place t c - 1)) (code_of v) (let h = word-past c (ltb-true 0 (word_place t c) e) in omega arith)
       go false e = low_same b ws
 
   line_low : (k : ℕ) (cells : Cells) (n : ℕ) (ws : List ℕ) → Low b (words_below t k cells n ws) ws
@@ -59,69 +58,89 @@ module _ (b : ℕ) (most : b ≤ 71) (t : ℕ) (small : t < 16) (word-past : (c 
   line_low k cells zero ws = low_same b ws
   line_low k cells (suc n) ws = low-then b (word_put t k n (cell_of cells n) (words_below t k cells n ws)) (words_below t k cells n ws) ws (put_low k n (cell_of cells n) (words_below t k cells n ws)) (line_low k cells n ws)
 
+  -- a parent whose words stand past the bound, if it is there
+  abbrev Past : Option Counted → Type 0
+  Past parent = IfSome parent (λ p. IfSome p.first (λ q. b ≤ q) × (b ≤ p.count))
+
   -- a line counted under a parent whose words stand past the counts
-  under_low : (ws : List ℕ) (k : ℕ) (parent : Parent) (progress : Progress) → b ≤ parent.first → b ≤ parent.count → Low b (under_words ws k parent progress) ws
+  put_at-low : (o : Option ℕ) (v : ℕ) (ws : List ℕ) → IfSome o (λ p. b ≤ p) → Low b (put_at o v ws) ws
+  put_at-low (Some p) v ws h = low-set b ws p v h
+  put_at-low None v ws h = low_same b ws
+
+  under_low : (ws : List ℕ) (k : ℕ) (parent : Option Counted) (progress : Progress) → Past parent → Low b (under_words ws k parent progress) ws
   unfolding under_words added
-  under_low ws k parent progress f g = go (in_order parent progress)
+  under_low ws k None progress past = low_same b ws
+  under_low ws k (Some parent) progress past = go (in_order parent progress)
     where
-      go : (x : Bool) → Low b (cond x (set (set ws parent.first (first_line ws k parent)) parent.count (one_more (get_or ws parent.count 0))) ws) ws
+      go : (x : Bool) → Low b (cond x (set (put_at parent.first k ws) parent.count (one_more (get_or ws parent.count 0))) ws) ws
       go true =
-          low-then b (set (set ws parent.first (first_line ws k parent)) parent.count (one_more (get_or ws parent.count 0))) (set ws parent.first (first_line ws k parent)) ws
-          (low-set b (set ws parent.first (first_line ws k parent)) parent.count (one_more (get_or ws parent.count 0)) g)
-          (low-set b ws parent.first (first_line ws k parent) f)
+          low-then b (set (put_at parent.first k ws) parent.count (one_more (get_or ws parent.count 0))) (put_at parent.first k ws) ws
+          (low-set b (put_at parent.first k ws) parent.count (one_more (get_or ws parent.count 0)) past.1)
+          (put_at-low parent.first k ws past.0)
       go false = low_same b ws
 
   strip-low : (ws : List ℕ) (cells : Cells) (progress : Progress) → Low b (strips_kept ws cells progress) ws
   unfolding strips_kept
-  strip-low ws cells progress = go (eqb (strip_line progress.strips (strip_named cells)) 0)
+  strip-low ws cells progress = go (is_some (strip_line progress.strips (strip_named cells)))
     where
-      go : (x : Bool) → Low b (cond x (set ws (1303 + strip_named cells * 11) (cell_of cells 2 % 2 + 1)) ws) ws
-      go true = low-set b ws (1303 + strip_named cells * 11) (cell_of cells 2 % 2 + 1) (past (strip_named cells * 11))
-        where
-          past : (x : ℕ) → b ≤ 1303 + x
-          past x = let m = most in omega arith
-      go false = low_same b ws
+      past : (x : ℕ) → b ≤ 1303 + x
+      past x = let m = most in omega arith
+
+      go : (x : Bool) → Low b (cond x ws (set ws (1303 + strip_named cells * 11) (cell_of cells 2 % 2 + 1))) ws
+      go true = low_same b ws
+      go false = low-set b ws (1303 + strip_named cells * 11) (cell_of cells 2 % 2 + 1) (past (strip_named cells * 11))
 
   -- a mark's own words stand past all ranges
-  own-low : (ws : List ℕ) (rule k : ℕ) (cells : Cells) → Low b (own_words ws rule k cells) ws
+  own-low : (ws : List ℕ) (family : Family) (k : ℕ) (cells : Cells) → Low b (own_words ws family k cells) ws
   unfolding own_words mark_put
-  own-low ws rule k cells = go (code_of (mark_lane ws (cell_of cells 0) (cell_of cells 1)).index) (mark_kind (cell_of cells 4)) (eqb rule 6)
+  own-low ws Mark k cells =
+      let m = most in
+      let lane = mark_place ws cells in
+      low-then b (set (set ws (1379 + k * 2) lane) (1379 + k * 2 + 1) (mark_kind (cell_of cells 4))) (set ws (1379 + k * 2) lane) ws
+      (low-set b (set ws (1379 + k * 2) lane) (1379 + k * 2 + 1) (mark_kind (cell_of cells 4)) (omega arith))
+      (low-set b ws (1379 + k * 2) lane (omega arith))
+  own-low ws family k cells = low_same b ws
+
+  first-past : (fresh : Bool) (p : ℕ) → b ≤ p → IfSome (first_if fresh p) (λ q. b ≤ q)
+  first-past true p h = h
+  first-past false p h = tt
+
+  -- the ranges of all families but a section's lanes stand past the sections' words
+  range-past : (ws : List ℕ) (base stride : ℕ) → 71 ≤ base → (at : Option Ranked) → Past (option_map (range_of ws base stride) at)
+  unfolding range_of
+  range-past ws base stride h None = tt
+  range-past ws base stride h (Some at) = let m = most in (first-past (eqb (get_or ws (base + at.index * stride + 1) 0) 0) (base + at.index * stride) (omega arith), omega arith)
+
+  lane-past : (ws : List ℕ) (id : ℕ) (section : Option Ranked) → Past (option_and_then (lane_under ws id) section)
+  lane-past ws id None = tt
+  lane-past ws id (Some s) = go (side_of (get_or ws (section_word s.index + 1) 0) (get_or ws (section_word s.index + 2) 0) id)
     where
-      go : (lane kind : ℕ) (x : Bool) → Low b (cond x (set (set ws (1379 + k * 2) lane) (1379 + k * 2 + 1) kind) ws) ws
-      go lane kind true =
+      go : (side : Option Side) → Past (option_map (lane_beside ws s) side)
+      go None = tt
+      go (Some side) =
           let m = most in
-          low-then b (set (set ws (1379 + k * 2) lane) (1379 + k * 2 + 1) kind) (set ws (1379 + k * 2) lane) ws
-          (low-set b (set ws (1379 + k * 2) lane) (1379 + k * 2 + 1) kind (omega arith))
-          (low-set b ws (1379 + k * 2) lane (omega arith))
-      go lane kind false = low_same b ws
+          (first-past (eqb (get_or ws (section_word s.index + 1) 0) 0 && eqb (get_or ws (section_word s.index + 2) 0) 0) (section_word s.index) (omega arith), omega arith)
 
-  parent-past : (ws : List ℕ) (cells : Cells) (strips : Strips) → eqb (rule_of t) 0 ≡ false → eqb (rule_of t) 7 ≡ false → (b ≤ (parent_of ws (rule_of t) cells strips).first) × (b ≤ (parent_of ws (rule_of t) cells strips).count)
-  unfolding parent_of lane_turn range_of
-  parent-past ws cells strips z y = go (eqb (rule_of t) 1) refl
-    where
-      test : eqb (rule_of t) 1 ≡ false → 71 ≤ base_of (rule_of t)
-      test e =
-          let last = leb 71 (base_of (rule_of t)) in
-          let a = all-at (λ t. eqb (rule_of t) 0 || (eqb (rule_of t) 7 || (eqb (rule_of t) 1 || leb 71 (base_of (rule_of t))))) 16 rules-test t small in
-          let r = or_else (eqb (rule_of t) 0) (eqb (rule_of t) 7 || (eqb (rule_of t) 1 || last)) a z in
-          leb-true 71 (base_of (rule_of t)) (or_else (eqb (rule_of t) 1) last (or_else (eqb (rule_of t) 7) (eqb (rule_of t) 1 || last) r y) e)
+  parent-past : (ws : List ℕ) (family : Family) (cells : Cells) (strips : List (Option ℕ)) → Past (parent_of ws family cells strips)
+  unfolding parent_of lane_turn base_of
+  parent-past ws Lane cells strips = lane-past ws (cell_of cells 1) (section_at ws (cell_of cells 0))
+  parent-past ws Extent cells strips = range-past ws (base_of Extent) (stride_of Extent) (omega arith) (index_of ws Extent cells strips)
+  parent-past ws Height cells strips = range-past ws (base_of Height) (stride_of Height) (omega arith) (index_of ws Height cells strips)
+  parent-past ws Shape cells strips = range-past ws (base_of Shape) (stride_of Shape) (omega arith) (index_of ws Shape cells strips)
+  parent-past ws Cubic cells strips = range-past ws (base_of Cubic) (stride_of Cubic) (omega arith) (index_of ws Cubic cells strips)
+  parent-past ws Mark cells strips = range-past ws (base_of Mark) (stride_of Mark) (omega arith) (index_of ws Mark cells strips)
 
-      go : (x : Bool) → eqb (rule_of t) 1 ≡ x
-          → (b ≤ (cond x (lane_turn ws (cell_of cells 0) (cell_of cells 1)) (range_of ws (index_of ws (rule_of t) cells strips) (base_of (rule_of t)) (stride_of (rule_of t)))).first)
-          × (b ≤ (cond x (lane_turn ws (cell_of cells 0) (cell_of cells 1)) (range_of ws (index_of ws (rule_of t) cells strips) (base_of (rule_of t)) (stride_of (rule_of t)))).count)
-      go true e = let m = most in (omega arith, omega arith)
-      go false e = let m = most in let h = test e in (omega arith, omega arith)
+  ruled_low : (rule : Option Rule) (k : ℕ) (cells : Cells) (progress : Progress) (ws : List ℕ) → Low b (ruled_words ws rule k cells progress) ws
+  unfolding ruled_words
+  ruled_low None k cells progress ws = low_same b ws
+  ruled_low (Some Strip) k cells progress ws = strip-low ws cells progress
+  ruled_low (Some (Child family)) k cells progress ws =
+      let parent = parent_of ws family cells progress.strips in
+      low-then b (under_words (own_words ws family k cells) k parent progress) (own_words ws family k cells) ws
+      (under_low (own_words ws family k cells) k parent progress (parent-past ws family cells progress.strips))
+      (own-low ws family k cells)
 
   pub kept_low : (k : ℕ) (cells : Cells) (progress : Progress) (ws : List ℕ) → Low b (kept_words t k cells progress ws) ws
-  unfolding kept_words ruled_words
-  kept_low k cells progress ws = low-then b (kept_words t k cells progress ws) (words_below t k cells 8 ws) ws (go (eqb (rule_of t) 0) (eqb (rule_of t) 7) refl refl) (line_low k cells 8 ws)
-    where
-      go : (x y : Bool) → eqb (rule_of t) 0 ≡ x → eqb (rule_of t) 7 ≡ y
-          → Low b (cond x (words_below t k cells 8 ws) (cond y (strips_kept (words_below t k cells 8 ws) cells progress) (under_words (own_words (words_below t k cells 8 ws) (rule_of t) k cells) k (parent_of (words_below t k cells 8 ws) (rule_of t) cells progress.strips) progress))) (words_below t k cells 8 ws)
-      go true y e f = low_same b (words_below t k cells 8 ws)
-      go false true e f = strip-low (words_below t k cells 8 ws) cells progress
-      go false false e f =
-          let p = parent-past (words_below t k cells 8 ws) cells progress.strips e f in
-          low-then b (under_words (own_words (words_below t k cells 8 ws) (rule_of t) k cells) k (parent_of (words_below t k cells 8 ws) (rule_of t) cells progress.strips) progress) (own_words (words_below t k cells 8 ws) (rule_of t) k cells) (words_below t k cells 8 ws)
-          (under_low (own_words (words_below t k cells 8 ws) (rule_of t) k cells) k (parent_of (words_below t k cells 8 ws) (rule_of t) cells progress.strips) progress p.0 p.1)
-          (own-low (words_below t k cells 8 ws) (rule_of t) k cells)
+  unfolding kept_words
+  kept_low k cells progress ws =
+      low-then b (kept_words t k cells progress ws) (words_below t k cells 8 ws) ws (ruled_low (rule_of t) k cells progress (words_below t k cells 8 ws)) (line_low k cells 8 ws)

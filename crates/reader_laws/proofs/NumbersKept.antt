@@ -14,11 +14,11 @@ use lib.Ieee.{Float, nan, binary64, of_bits}
 use borrow.Author.Tests.{ltb-true, lt-ltb}
 use Rattle.reader_lines.specs.Columns.{cell_of, no_cells}
 use Rattle.reader_lines.specs.declared.columns.Cells.{Cells}
-use Rattle.reader_store.specs.Layout.{place_at, number_place, number_put, numbers_below}
+use Rattle.reader_store.specs.Layout.{number_lines, number_place, number_put, numbers_below}
 
 -- the place of a column of line k
 abbrev pub place_of : ℕ → ℕ → ℕ → ℕ
-place_of t k c = place_at t 0 + k * place_at t 1 + (number_place t c - 1)
+place_of t k c = (number_lines t).first + k * (number_lines t).stride + (number_place t c - 1)
 
 -- the lines of a table kept from line k on
 unfoldable pub rows_put : ℕ → ℕ → List Cells → List Float → List Float
@@ -92,15 +92,15 @@ module _ (t : ℕ) where
       rows_other rs (k + 1) p (numbers_below t k r 8 ns) (λ j c a b. h j c (omega arith) (omega arith))
       ∙ line_other k r 8 p ns (λ c. h k c (omega arith) (omega arith))
 
-  module _ (inside : (c : ℕ) → number_place t c ≤ place_at t 1) (c : ℕ) (small : c < 8) (number : 0 < number_place t c) (own : (d : ℕ) → 0 < number_place t d → number_place t c ≡ number_place t d → c ≡ d) where
+  module _ (inside : (c : ℕ) → number_place t c ≤ (number_lines t).stride) (c : ℕ) (small : c < 8) (number : 0 < number_place t c) (own : (d : ℕ) → 0 < number_place t d → number_place t c ≡ number_place t d → c ≡ d) where
     later : (k j d : ℕ) → k + 1 ≤ j → 0 < number_place t d → place_of t k c ≡ place_of t j d → ⊥
     later k j d h g e =
         let a = inside c in
-        let m : (k + 1) * place_at t 1 ≤ j * place_at t 1 = mul-le-mul_right (place_at t 1) h in
+        let m : (k + 1) * (number_lines t).stride ≤ j * (number_lines t).stride = mul-le-mul_right (number_lines t).stride h in
         let n = number in
         omega arith
 
-    pub rows_same : (rows : List Cells) (k i : ℕ) (ns : List Float) → i < length rows → place_at t 0 + (k + length rows) * place_at t 1 ≤ length ns
+    pub rows_same : (rows : List Cells) (k i : ℕ) (ns : List Float) → i < length rows → (number_lines t).first + (k + length rows) * (number_lines t).stride ≤ length ns
         → get_or (rows_put t k rows ns) (place_of t (k + i) c) nan ≡ of_bits binary64 (cell_of (get_or rows i no_cells) c)
     unfolding rows_put
     rows_same [] k i ns h l = absurd (not-suc-le-zero h)

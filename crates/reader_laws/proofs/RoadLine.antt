@@ -11,15 +11,18 @@ use Rattle.reader_schema.specs.Schema.{name_of, limit_of}
 use Rattle.reader_cells.specs.Cells.{byte_at, name_span}
 use Rattle.reader_lines.specs.NamesLine.{head_at}
 use Rattle.reader_lines.specs.ValuesLine.{values_at}
-use Rattle.std.specs.Prelude.{Option, Some, None}
+use Rattle.std.specs.Prelude.{Option, Some, None, is_some}
 use Rattle.reader_lines.specs.declared.names_line.Head.{Head}
 use Rattle.reader_lines.specs.declared.values_line.Values.{Values}
 use Rattle.reader_lines.specs.declared.columns.Order.{Order}
 use Rattle.reader_lines.specs.declared.columns.Cells.{Cells}
-use Rattle.reader_store.specs.Layout.{one_more, words_below, rule_of, numbers_below, wants_kept, count_kept}
+use Rattle.reader_store.specs.Layout.{words_below, rule_of, numbers_below, wants_kept, count_kept}
 use Rattle.reader_store.specs.Progress.{strip_line, listed_as, start_progress, unsound_progress, ended_progress}
 use Rattle.reader_store.specs.Parents.{parent_of}
 use Rattle.reader_store.specs.Keep.{strip_named, in_order, under_progress, strip_progress, ruled_progress, kept_words, kept_progress}
+use Rattle.reader_store.specs.declared.layout.Rule.{Rule}
+use Rattle.reader_store.specs.declared.layout.Rule.TheVariants.{Strip, Child}
+use Rattle.reader_store.specs.declared.parents.Counted.{Counted}
 use Rattle.reader_store.specs.declared.progress.Progress.{Progress}
 use Rattle.reader_calls.specs.Reading.{Outcome, done, stop, by_outcome, lines_from, table_at, counted_progress, tables_from, zeros, zero_numbers, by_values, by_head}
 use Rattle.reader_laws.specs.Lines.{Lines, lines, broken, by_lines, table_lines, tables_lines, lines_of}
@@ -34,13 +37,22 @@ by_cases false from x y f g = g
 never : (from : Progress) → false ≡ true → from.sound ≡ true
 never from e = let z : ◌≡◌ {A = ℕ} 0 1 = cc in absurd (omega arith)
 
+under-sound : (parent : Option Counted) (progress : Progress) → (under_progress parent progress).sound ≡ true → progress.sound ≡ true
+unfolding under_progress
+under-sound None progress = never progress
+under-sound (Some parent) progress =
+    by_cases (in_order parent progress) progress (record { sound = progress.sound; last = parent.rank; strips = progress.strips }) (unsound_progress progress) (λ e. e) (never progress)
+
+ruled-sound : (rule : Option Rule) (k : ℕ) (cells : Cells) (progress : Progress) (ws : List ℕ) → (ruled_progress ws rule k cells progress).sound ≡ true → progress.sound ≡ true
+unfolding ruled_progress strip_progress
+ruled-sound None k cells progress ws = λ e. e
+ruled-sound (Some Strip) k cells progress ws =
+    by_cases (is_some (strip_line progress.strips (strip_named cells))) progress (unsound_progress progress) (record { sound = progress.sound; last = progress.last; strips = listed_as progress.strips (strip_named cells) k }) (never progress) (λ e. e)
+ruled-sound (Some (Child family)) k cells progress ws = under-sound (parent_of ws family cells progress.strips) progress
+
 pub kept-sound : (t k : ℕ) (cells : Cells) (progress : Progress) (ws : List ℕ) → (kept_progress t k cells progress ws).sound ≡ true → progress.sound ≡ true
-unfolding kept_progress ruled_progress strip_progress under_progress
-kept-sound t k cells progress ws =
-    by_cases (eqb (rule_of t) 0) progress progress (cond (eqb (rule_of t) 7) (strip_progress k cells progress) (under_progress (parent_of (words_below t k cells 8 ws) (rule_of t) cells progress.strips) progress)) (λ e. e)
-    (by_cases (eqb (rule_of t) 7) progress (strip_progress k cells progress) (under_progress (parent_of (words_below t k cells 8 ws) (rule_of t) cells progress.strips) progress)
-    (by_cases (eqb (strip_line progress.strips (strip_named cells)) 0) progress (record { sound = progress.sound; last = progress.last; strips = listed_as progress.strips (strip_named cells) (one_more k) }) (unsound_progress progress) (λ e. e) (never progress))
-    (by_cases (in_order (parent_of (words_below t k cells 8 ws) (rule_of t) cells progress.strips) progress) progress (record { sound = progress.sound; last = (parent_of (words_below t k cells 8 ws) (rule_of t) cells progress.strips).rank; strips = progress.strips }) (unsound_progress progress) (λ e. e) (never progress)))
+unfolding kept_progress
+kept-sound t k cells progress ws = ruled-sound (rule_of t) k cells progress (words_below t k cells 8 ws)
 
 abbrev SoundBy : Progress → Outcome → Type 0
 SoundBy from (stop m) = Unit {0}

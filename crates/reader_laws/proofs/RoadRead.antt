@@ -1,5 +1,5 @@
 -- The road that an accepted text leaves in memory, line by line: what `road_of` decodes is what the text's lines say. Every line of a table's numbers; the lists along the road whole.
-use Prim.Native.Nat.{ℕ, zero, suc, ◌+◌, ◌-◌, ◌*◌, ◌<◌, ◌≤◌, suc-le-suc}
+use Prim.Native.Nat.{ℕ, zero, suc, ◌+◌, ◌*◌, ◌<◌, ◌≤◌, suc-le-suc}
 use native.Mathlib.Omega.{arith}
 use native.Mathlib.Nat.{le_of_suc-le-suc, not-suc-le-zero, zero-add, zero-lt-suc}
 use mathlib.Core.Path.{◌≡◌, refl, sym, ◌∙◌, ap, subst}
@@ -18,7 +18,8 @@ use Rattle.records_lent.specs.Lists.{tabulate}
 use Rattle.records_lent.proofs.TableLaws.{length-table}
 use Rattle.admission_structure.proofs.StructureLaws.{cubics-full}
 use Rattle.reader_lines.specs.Columns.{cell_of, no_cells}
-use Rattle.reader_store.specs.Layout.{places, place_at, numbers, number_place, words, word_place, code_of, counts, count_place}
+use Rattle.std.specs.Prelude.{Some}
+use Rattle.reader_store.specs.Layout.{number_lines, word_lines, number_row, number_place, word_row, word_place, code_of, count_place}
 use Rattle.reader_store.specs.declared.progress.Progress.{Progress}
 use Rattle.reader_calls.specs.Reading.{done}
 use Rattle.reader_laws.proofs.ReadTables.{Stored}
@@ -36,12 +37,12 @@ any (x ∷ xs) zero d e h = refl
 any (x ∷ xs) (suc i) d e h = any xs i d e (le_of_suc-le-suc h)
 
 -- the tables whose lines are counted in a word of their own; and the numbers of road, section, height, profile and mark
-counted : (0 < count_place 2) × (0 < count_place 3) × (0 < count_place 4) × (0 < count_place 5) × (0 < count_place 6) × (0 < count_place 10) × (0 < count_place 1)
-unfolding count_place counts
-counted = (omega arith, omega arith, omega arith, omega arith, omega arith, omega arith, omega arith)
+counted : (count_place 2 ≡ Some 1) × (count_place 3 ≡ Some 2) × (count_place 4 ≡ Some 3) × (count_place 5 ≡ Some 4) × (count_place 6 ≡ Some 5) × (count_place 10 ≡ Some 6) × (count_place 1 ≡ Some 0)
+unfolding count_place
+counted = (refl, refl, refl, refl, refl, refl, refl)
 
 single : (number_place 6 0 ≡ 0 + 1) × (number_place 10 0 ≡ 0 + 1) × (number_place 0 0 ≡ 0 + 1) × (number_place 9 2 ≡ 0 + 1) × (number_place 9 3 ≡ 1 + 1) × (number_place 9 4 ≡ 2 + 1) × (number_place 14 2 ≡ 0 + 1) × (number_place 14 3 ≡ 1 + 1)
-unfolding number_place numbers
+unfolding number_place number_row
 single = (refl, refl, refl, refl, refl, refl, refl, refl)
 
 -- a list of the values of a function is a list of lines, each by itself
@@ -61,7 +62,7 @@ unused-same : (kind kind' : ℕ) (f g f' g' : Float) → kind ≡ kind' → f �
 unused-same kind kind' f g f' g' k p q = cc
 
 geom-columns : (number_place 1 0 ≡ 0 + 1) × (number_place 1 1 ≡ 1 + 1) × (number_place 1 2 ≡ 2 + 1) × (number_place 1 3 ≡ 3 + 1) × (number_place 1 4 ≡ 4 + 1) × (number_place 1 6 ≡ 5 + 1) × (number_place 1 7 ≡ 6 + 1)
-unfolding number_place numbers
+unfolding number_place number_row
 geom-columns = (refl, refl, refl, refl, refl, refl, refl)
 
 module _ (text : List ℕ) (l m n at count : ℕ) (progress : Progress) (ws : List ℕ) (ns : List Float) (vs : List ℕ) (read : Stored text l m n (done at count progress ws ns vs)) where
@@ -75,7 +76,7 @@ module _ (text : List ℕ) (l m n at count : ℕ) (progress : Progress) (ws : Li
       cubic-same (cell-read t k column 0 h i five.start) (cell-read t k (column + 1) 1 h i five.a) (cell-read t k (column + 2) 2 h i five.b) (cell-read t k (column + 3) 3 h i five.c) (cell-read t k (column + 4) 4 h i five.d)
 
   -- a list along the road is the text's lines, in their order
-  module _ (t column base : ℕ) (five : Five t column base) (small : t < 16) (own : 0 < count_place t) where
+  module _ (t column base : ℕ) (five : Five t column base) (small : t < 16) (p : ℕ) (own : count_place t ≡ Some p) where
     cubics-all : cubics_in ws ns base 0 (length (lines_of text t)) ≡ map (cubic_in column) (lines_of text t)
     cubics-all =
         ext_get_or (cubic_in column no_cells) (cubics_in ws ns base 0 (length (lines_of text t))) (map (cubic_in column) (lines_of text t)) (full ∙ sym (length-map (lines_of text t) (cubic_in column)))
@@ -86,55 +87,47 @@ module _ (text : List ℕ) (l m n at count : ℕ) (progress : Progress) (ws : Li
         full =
             let r = rows_inside text l m n at count progress ws ns vs read t small in
             let f = five.first in
-            let s : place_at t 0 + length (lines_of text t) * 5 ≤ length ns = subst (λ (q : ℕ). place_at t 0 + length (lines_of text t) * q ≤ length ns) five.stride r in
+            let s : (number_lines t).first + length (lines_of text t) * 5 ≤ length ns = subst (λ (q : ℕ). (number_lines t).first + length (lines_of text t) * q ≤ length ns) five.stride r in
             cubics-full ws ns base 0 (length (lines_of text t)) (omega arith)
 
-    cubics-read : cubics_in ws ns base 0 (get_or ws (count_place t - 1) 0) ≡ map (cubic_in column) (lines_of text t)
-    cubics-read = ap (cubics_in ws ns base 0) (count_kept_lem text l m n at count progress ws ns vs read t small own) ∙ cubics-all
+    cubics-read : cubics_in ws ns base 0 (get_or ws p 0) ≡ map (cubic_in column) (lines_of text t)
+    cubics-read = ap (cubics_in ws ns base 0) (count_kept_lem text l m n at count progress ws ns vs read t p small own) ∙ cubics-all
 
   pub elevations-read : (road_of ws ns).elevations ≡ map (cubic_in 0) (lines_of text 2)
   elevations-read =
-      elevations-join ws ns ∙ ap (λ (b : ℕ). cubics_in ws ns b 0 (get_or ws (count_place 2 - 1) 0)) elev-five.first ∙ cubics-read 2 0 elev_base elev-five (omega arith) counted.0
+      elevations-join ws ns ∙ ap (λ (b : ℕ). cubics_in ws ns b 0 (get_or ws 1 0)) elev-five.first ∙ cubics-read 2 0 elev_base elev-five (omega arith) 1 counted.0
 
   pub superelevations-read : (road_of ws ns).superelevations ≡ map (cubic_in 0) (lines_of text 3)
   superelevations-read =
-      superelevations-join ws ns ∙ ap (λ (b : ℕ). cubics_in ws ns b 0 (get_or ws (count_place 3 - 1) 0)) bank-five.first ∙ cubics-read 3 0 bank_base bank-five (omega arith) counted.1
+      superelevations-join ws ns ∙ ap (λ (b : ℕ). cubics_in ws ns b 0 (get_or ws 2 0)) bank-five.first ∙ cubics-read 3 0 bank_base bank-five (omega arith) 2 counted.1
 
   pub offsets-read : (road_of ws ns).offsets ≡ map (cubic_in 0) (lines_of text 4)
   offsets-read =
-      offsets-join ws ns ∙ ap (λ (b : ℕ). cubics_in ws ns b 0 (get_or ws (count_place 4 - 1) 0)) offset-five.first ∙ cubics-read 4 0 offset_base offset-five (omega arith) counted.2
+      offsets-join ws ns ∙ ap (λ (b : ℕ). cubics_in ws ns b 0 (get_or ws 3 0)) offset-five.first ∙ cubics-read 4 0 offset_base offset-five (omega arith) 3 counted.2
 
   pub tshifts-read : (road_of ws ns).tshifts ≡ map (cubic_in 0) (lines_of text 5)
   tshifts-read =
-      tshifts-join ws ns ∙ ap (λ (b : ℕ). cubics_in ws ns b 0 (get_or ws (count_place 5 - 1) 0)) tshift-five.first ∙ cubics-read 5 0 tshift_base tshift-five (omega arith) counted.3
-
-  section_words_lem : get_or ws 5 0 ≡ get_or ws (count_place 6 - 1) 0
-  unfolding count_place counts
-  section_words_lem = refl
-
-  profile_words_lem : get_or ws 6 0 ≡ get_or ws (count_place 10 - 1) 0
-  unfolding count_place counts
-  profile_words_lem = refl
+      tshifts-join ws ns ∙ ap (λ (b : ℕ). cubics_in ws ns b 0 (get_or ws 4 0)) tshift-five.first ∙ cubics-read 5 0 tshift_base tshift-five (omega arith) 4 counted.3
 
   -- as many sections and profiles as lines, and where they start
   pub sections-read : length (road_of ws ns).sections ≡ length (lines_of text 6)
-  sections-read = ap (λ (xs : List Section). length xs) (sections-join ws ns) ∙ length-table (section_in ws ns) (get_or ws (count_place 6 - 1) 0) ∙ count_kept_lem text l m n at count progress ws ns vs read 6 (omega arith) counted.4
+  sections-read = ap (λ (xs : List Section). length xs) (sections-join ws ns) ∙ length-table (section_in ws ns) (get_or ws 5 0) ∙ count_kept_lem text l m n at count progress ws ns vs read 6 5 (omega arith) counted.4
 
   pub section_start-read : (i : ℕ) → i < length (lines_of text 6) → (section_of (road_of ws ns) i).start ≡ number_in (get_or (lines_of text 6) i no_cells) 0
   section_start-read i h =
-      ap (λ (x : Section). x.start) (section_in_lem ws ns i (subst (λ (k : ℕ). i < k) (sym (section_words_lem ∙ count_kept_lem text l m n at count progress ws ns vs read 6 (omega arith) counted.4)) h)) ∙ section_start-join ws ns i ∙ cell-read 6 i 0 0 (omega arith) h single.0
+      ap (λ (x : Section). x.start) (section_in_lem ws ns i (subst (λ (k : ℕ). i < k) (sym (count_kept_lem text l m n at count progress ws ns vs read 6 5 (omega arith) counted.4)) h)) ∙ section_start-join ws ns i ∙ cell-read 6 i 0 0 (omega arith) h single.0
 
   pub profiles-read : length (road_of ws ns).profiles ≡ length (lines_of text 10)
-  profiles-read = ap (λ (xs : List Profile). length xs) (profiles-join ws ns) ∙ length-table (profile_in ws ns) (get_or ws (count_place 10 - 1) 0) ∙ count_kept_lem text l m n at count progress ws ns vs read 10 (omega arith) counted.5
+  profiles-read = ap (λ (xs : List Profile). length xs) (profiles-join ws ns) ∙ length-table (profile_in ws ns) (get_or ws 6 0) ∙ count_kept_lem text l m n at count progress ws ns vs read 10 6 (omega arith) counted.5
 
   pub profile_start-read : (i : ℕ) → i < length (lines_of text 10) → (profile_at (road_of ws ns) i).s ≡ number_in (get_or (lines_of text 10) i no_cells) 0
   profile_start-read i h =
-      ap (λ (x : Profile). x.s) (profile_in_lem ws ns i (subst (λ (k : ℕ). i < k) (sym (profile_words_lem ∙ count_kept_lem text l m n at count progress ws ns vs read 10 (omega arith) counted.5)) h) ∙ profile-join ws ns i) ∙ cell-read 10 i 0 0 (omega arith) h single.1
+      ap (λ (x : Profile). x.s) (profile_in_lem ws ns i (subst (λ (k : ℕ). i < k) (sym (count_kept_lem text l m n at count progress ws ns vs read 10 6 (omega arith) counted.5)) h) ∙ profile-join ws ns i) ∙ cell-read 10 i 0 0 (omega arith) h single.1
 
   -- ---- geometries, each with its kind and its columns
 
   kind-read : (i : ℕ) → i < length (lines_of text 1) → code_at ws ns 1 i 5 ≡ code_of (cell_of (get_or (lines_of text 1) i no_cells) 5)
-  unfolding place_at places word_place words
+  unfolding number_lines word_lines word_place word_row
   kind-read i h = ap (λ (p : ℕ). get_or ws p 0) (place i) ∙ kind-kept text l m n at count progress ws ns vs read i h
     where
       place : (i : ℕ) → 7 + i * 1 + 0 ≡ 7 + i
@@ -152,12 +145,12 @@ module _ (text : List ℕ) (l m n at count : ℕ) (progress : Progress) (ws : Li
 
   pub geoms-read : (road_of ws ns).geoms ≡ map geom_said (lines_of text 1)
   geoms-read =
-      geoms-join ws ns ∙ ap (tabulate (records-roads.geom_in ws ns)) (count_kept_lem text l m n at count progress ws ns vs read 1 (omega arith) counted.6)
+      geoms-join ws ns ∙ ap (tabulate (records-roads.geom_in ws ns)) (count_kept_lem text l m n at count progress ws ns vs read 1 0 (omega arith) counted.6)
       ∙ table-map (lines_of text 1) (records-roads.geom_in ws ns) geom_said no_cells geom-read
 
   pub unused-all_read : (road_of ws ns).unused ≡ map unused_said (lines_of text 1)
   unused-all_read =
-      unused-list-join ws ns ∙ ap (tabulate (records-roads.unused_in ws ns)) (count_kept_lem text l m n at count progress ws ns vs read 1 (omega arith) counted.6)
+      unused-list-join ws ns ∙ ap (tabulate (records-roads.unused_in ws ns)) (count_kept_lem text l m n at count progress ws ns vs read 1 0 (omega arith) counted.6)
       ∙ table-map (lines_of text 1) (records-roads.unused_in ws ns) unused_said no_cells unused-read
 
   -- the road's length, of the one line that there is

@@ -15,7 +15,7 @@ use Rattle.records_lent.proofs.TestLaws.{all-at}
 use Rattle.reader_schema.specs.Schema.{limits, limit_of}
 use Rattle.reader_lines.specs.Columns.{cell_of, no_cells}
 use Rattle.reader_lines.specs.declared.columns.Cells.{Cells}
-use Rattle.reader_store.specs.Layout.{places, place_at, numbers, number_place}
+use Rattle.reader_store.specs.Layout.{number_lines, word_lines, number_row, number_place}
 use Rattle.reader_store.specs.Progress.{start_progress}
 use Rattle.reader_store.specs.declared.progress.Progress.{Progress}
 use Rattle.reader_calls.specs.Reading.{Outcome, done, stop, by_outcome, table_at, counted_progress, tables_from, zeros, zero_numbers}
@@ -26,20 +26,20 @@ use Rattle.reader_laws.proofs.LinesKept.{Agree, table-agree}
 
 -- ---- the layout's tests
 
-inside-test : all_below (λ t. all_below (λ c. leb (number_place t c) (place_at t 1)) 8) 16 ≡ true
-unfolding all_below place_at places number_place numbers
+inside-test : all_below (λ t. all_below (λ c. leb (number_place t c) (number_lines t).stride) 8) 16 ≡ true
+unfolding all_below number_lines word_lines number_place number_row
 inside-test = refl
 
 own-test : all_below (λ t. all_below (λ c. all_below (λ d. eqb (number_place t c) 0 || (not (eqb (number_place t c) (number_place t d)) || eqb c d)) 8) 8) 16 ≡ true
-unfolding all_below number_place numbers
+unfolding all_below number_place number_row
 own-test = refl
 
-region-test : all_below (λ t. all_below (λ u. leb u t || (eqb (place_at t 1) 0 || (eqb (place_at u 1) 0 || leb (place_at t 0 + limit_of t * place_at t 1) (place_at u 0)))) 16) 16 ≡ true
-unfolding all_below place_at places limit_of limits
+region-test : all_below (λ t. all_below (λ u. leb u t || (eqb (number_lines t).stride 0 || (eqb (number_lines u).stride 0 || leb ((number_lines t).first + limit_of t * (number_lines t).stride) (number_lines u).first))) 16) 16 ≡ true
+unfolding all_below number_lines word_lines limit_of limits
 region-test = refl
 
-room-test : all_below (λ t. leb (place_at t 0 + limit_of t * place_at t 1) 8449) 16 ≡ true
-unfolding all_below place_at places limit_of limits
+room-test : all_below (λ t. leb ((number_lines t).first + limit_of t * (number_lines t).stride) 8449) 16 ≡ true
+unfolding all_below number_lines word_lines limit_of limits
 room-test = refl
 
 or_else : (a b : Bool) → a || b ≡ true → a ≡ false → b ≡ true
@@ -54,17 +54,17 @@ module _ (t : ℕ) (small : t < 16) where
   unfolding number_place
   column-below c h = go (ltb c 8) refl h
     where
-      go : (b : Bool) → ltb c 8 ≡ b → 0 < cond b (get_or (get_or numbers t []) c 0) 0 → c < 8
+      go : (b : Bool) → ltb c 8 ≡ b → 0 < cond b (get_or (number_row t) c 0) 0 → c < 8
       go true e p = ltb-true c 8 e
       go false e p = absurd (not-suc-le-zero p)
 
-  inside : (c : ℕ) → number_place t c ≤ place_at t 1
+  inside : (c : ℕ) → number_place t c ≤ (number_lines t).stride
   inside c = go (ltb 0 (number_place t c)) refl
     where
-      go : (b : Bool) → ltb 0 (number_place t c) ≡ b → number_place t c ≤ place_at t 1
+      go : (b : Bool) → ltb 0 (number_place t c) ≡ b → number_place t c ≤ (number_lines t).stride
       go true e =
           let l = column-below c (ltb-true 0 (number_place t c) e) in
-          leb-true (number_place t c) (place_at t 1) (all-at (λ c. leb (number_place t c) (place_at t 1)) 8 (all-at (λ t. all_below (λ c. leb (number_place t c) (place_at t 1)) 8) 16 inside-test t small) c l)
+          leb-true (number_place t c) (number_lines t).stride (all-at (λ c. leb (number_place t c) (number_lines t).stride) 8 (all-at (λ t. all_below (λ c. leb (number_place t c) (number_lines t).stride) 8) 16 inside-test t small) c l)
       go false e = let n = ltb-false 0 (number_place t c) e in omega arith
 
   own : (c : ℕ) → 0 < number_place t c → (d : ℕ) → 0 < number_place t d → number_place t c ≡ number_place t d → c ≡ d
@@ -75,24 +75,24 @@ module _ (t : ℕ) (small : t < 16) where
       let f = or_else (eqb (number_place t c) 0) (not (eqb (number_place t c) (number_place t d)) || eqb c d) b (ne_eqb (number_place t c) 0 (λ z. omega arith)) in
       eqb-true c d (or_else (not (eqb (number_place t c) (number_place t d))) (eqb c d) f (ap not (eq-eqb (number_place t c) (number_place t d) e)))
 
-  room : place_at t 0 + limit_of t * place_at t 1 ≤ 8449
-  room = leb-true (place_at t 0 + limit_of t * place_at t 1) 8449 (all-at (λ t. leb (place_at t 0 + limit_of t * place_at t 1) 8449) 16 room-test t small)
+  room : (number_lines t).first + limit_of t * (number_lines t).stride ≤ 8449
+  room = leb-true ((number_lines t).first + limit_of t * (number_lines t).stride) 8449 (all-at (λ t. leb ((number_lines t).first + limit_of t * (number_lines t).stride) 8449) 16 room-test t small)
 
-  region : (u : ℕ) → u < 16 → t < u → 0 < place_at t 1 → 0 < place_at u 1 → place_at t 0 + limit_of t * place_at t 1 ≤ place_at u 0
+  region : (u : ℕ) → u < 16 → t < u → 0 < (number_lines t).stride → 0 < (number_lines u).stride → (number_lines t).first + limit_of t * (number_lines t).stride ≤ (number_lines u).first
   region u l h p q =
-      let last = leb (place_at t 0 + limit_of t * place_at t 1) (place_at u 0) in
-      let a = all-at (λ t. all_below (λ u. leb u t || (eqb (place_at t 1) 0 || (eqb (place_at u 1) 0 || leb (place_at t 0 + limit_of t * place_at t 1) (place_at u 0)))) 16) 16 region-test t small in
-      let b = all-at (λ u. leb u t || (eqb (place_at t 1) 0 || (eqb (place_at u 1) 0 || leb (place_at t 0 + limit_of t * place_at t 1) (place_at u 0)))) 16 a u l in
-      let c = or_else (leb u t) (eqb (place_at t 1) 0 || (eqb (place_at u 1) 0 || last)) b (lt-leb u t h) in
-      let d = or_else (eqb (place_at t 1) 0) (eqb (place_at u 1) 0 || last) c (ne_eqb (place_at t 1) 0 (λ z. omega arith)) in
-      leb-true (place_at t 0 + limit_of t * place_at t 1) (place_at u 0) (or_else (eqb (place_at u 1) 0) last d (ne_eqb (place_at u 1) 0 (λ z. omega arith)))
+      let last = leb ((number_lines t).first + limit_of t * (number_lines t).stride) (number_lines u).first in
+      let a = all-at (λ t. all_below (λ u. leb u t || (eqb (number_lines t).stride 0 || (eqb (number_lines u).stride 0 || leb ((number_lines t).first + limit_of t * (number_lines t).stride) (number_lines u).first))) 16) 16 region-test t small in
+      let b = all-at (λ u. leb u t || (eqb (number_lines t).stride 0 || (eqb (number_lines u).stride 0 || leb ((number_lines t).first + limit_of t * (number_lines t).stride) (number_lines u).first))) 16 a u l in
+      let c = or_else (leb u t) (eqb (number_lines t).stride 0 || (eqb (number_lines u).stride 0 || last)) b (lt-leb u t h) in
+      let d = or_else (eqb (number_lines t).stride 0) (eqb (number_lines u).stride 0 || last) c (ne_eqb (number_lines t).stride 0 (λ z. omega arith)) in
+      leb-true ((number_lines t).first + limit_of t * (number_lines t).stride) (number_lines u).first (or_else (eqb (number_lines u).stride 0) last d (ne_eqb (number_lines u).stride 0 (λ z. omega arith)))
 
 -- ---- tables, one after another
 
 -- n tables from t on, kept in ns as xs: places before them all are as they were, and every cell stands at its own
 pub record Holds (n t : ℕ) (ns xs : List Float) (tables : List (List Cells)) : Type 0 where
   pub same : length xs ≡ length ns
-  pub other : (p : ℕ) → ((u : ℕ) → t ≤ u → u < t + n → 0 < place_at u 1 → p < place_at u 0) → get_or xs p nan ≡ get_or ns p nan
+  pub other : (p : ℕ) → ((u : ℕ) → t ≤ u → u < t + n → 0 < (number_lines u).stride → p < (number_lines u).first) → get_or xs p nan ≡ get_or ns p nan
   pub few : (i u : ℕ) → u ≡ t + i → i < n → length (get_or tables i []) ≤ limit_of u
   pub cell : (i u k c : ℕ) → u ≡ t + i → i < n → k < length (get_or tables i []) → 0 < number_place u c
       → get_or xs (place_of u k c) nan ≡ of_bits binary64 (cell_of (get_or (get_or tables i []) k no_cells) c)
@@ -105,8 +105,8 @@ module _ (n t : ℕ) (most : t + suc n ≤ 16) (ns : List Float) (long : 8449 �
   small : t < 16
   small = omega arith
 
-  end_below : (k : ℕ) → k < length rows → place_at t 0 + k * place_at t 1 + place_at t 1 ≤ place_at t 0 + limit_of t * place_at t 1
-  end_below k l = let m : (k + 1) * place_at t 1 ≤ limit_of t * place_at t 1 = mul-le-mul_right (place_at t 1) (let f = few in omega arith) in omega arith
+  end_below : (k : ℕ) → k < length rows → (number_lines t).first + k * (number_lines t).stride + (number_lines t).stride ≤ (number_lines t).first + limit_of t * (number_lines t).stride
+  end_below k l = let m : (k + 1) * (number_lines t).stride ≤ limit_of t * (number_lines t).stride = mul-le-mul_right (number_lines t).stride (let f = few in omega arith) in omega arith
 
   join : (tables : List (List Cells)) (xs : List Float) (o : Outcome) → xs ≡ rows_put t 0 rows ns → Kept n (t + 1) xs tables o → Kept (suc n) t ns (rows ∷ tables) o
   join tables xs (stop m) e h = tt
@@ -129,7 +129,7 @@ module _ (n t : ℕ) (most : t + suc n ≤ 16) (ns : List Float) (long : 8449 �
           h.other (place_of t k c) (λ u a b g. let r = region t small u (omega arith) (omega arith) (omega arith) g in omega arith)
           ∙ ap (λ (zs : List Float). get_or zs (place_of t k c) nan) e
           ∙ ap (λ (j : ℕ). get_or (rows_put t 0 rows ns) (place_of t j c) nan) (sym (zero-add k))
-          ∙ rows_same t (inside t small) c (column-below t small c p) p (own t small c p) rows 0 k ns l (let r = room t small in let f : length rows * place_at t 1 ≤ limit_of t * place_at t 1 = mul-le-mul_right (place_at t 1) few in omega arith)
+          ∙ rows_same t (inside t small) c (column-below t small c p) p (own t small c p) rows 0 k ns l (let r = room t small in let f : length rows * (number_lines t).stride ≤ limit_of t * (number_lines t).stride = mul-le-mul_right (number_lines t).stride few in omega arith)
 
       cells : (i u k c : ℕ) → u ≡ t + i → i < suc n → k < length (get_or (rows ∷ tables) i []) → 0 < number_place u c
           → get_or ys (place_of u k c) nan ≡ of_bits binary64 (cell_of (get_or (get_or (rows ∷ tables) i []) k no_cells) c)
@@ -186,10 +186,10 @@ module _ (text : List ℕ) (l m n at count : ℕ) (progress : Progress) (ws : Li
   numbers-length = holds.same
 
   -- a table with all the lines that the text has of it ends inside memory
-  pub rows_inside : (t : ℕ) → t < 16 → place_at t 0 + length (lines_of text t) * place_at t 1 ≤ length ns
+  pub rows_inside : (t : ℕ) → t < 16 → (number_lines t).first + length (lines_of text t) * (number_lines t).stride ≤ length ns
   rows_inside t h =
       let a = read.numbers_long in
       let r = room t h in
-      let f : length (lines_of text t) * place_at t 1 ≤ limit_of t * place_at t 1 = mul-le-mul_right (place_at t 1) (rows_few t h) in
+      let f : length (lines_of text t) * (number_lines t).stride ≤ limit_of t * (number_lines t).stride = mul-le-mul_right (number_lines t).stride (rows_few t h) in
       let e = numbers-length in
       omega arith

@@ -1,20 +1,23 @@
 -- One cell more of a line kept.
-use Prim.Native.Nat.{ℕ, ◌+◌, ◌*◌}
+use Prim.Native.Nat.{ℕ, ◌+◌, ◌*◌, ◌<◌}
 use mathlib.Core.Path.{◌≡◌}
 use mathlib.Core.List.{List}
 use native.Mathlib.Numerals.{add-one}
+use borrow.Author.Tests.{lt-ltb}
+use lib.ListN.{get_or}
 use lib.Ieee.{Float, binary64, of_bits}
 use Rattle.reader_lines.specs.Columns.{cell_of}
 use Rattle.reader_lines.specs.declared.columns.Cells.{Cells}
-use Rattle.reader_store.specs.Layout.{place_at, number_place, word_place, code_of, placed, number_put, word_put, numbers_below, words_below}
+use Rattle.reader_store.specs.declared.layout.Lines.{Lines}
+use Rattle.reader_store.specs.Layout.{number_lines, word_lines, number_row, word_row, number_place, word_place, code_of, placed, number_put, word_put, numbers_below, words_below}
 
-module _ (table k : ℕ) (cells : Cells) (n : ℕ) {f s line place : ℕ} where
-  pub numbers_more : (ns : List Float) {xs ys : List Float} {v : Float} → f ≡ place_at table 0 → s ≡ place_at table 1 → line ≡ f + k * s → place ≡ number_place table n
-      → v ≡ of_bits binary64 (cell_of cells n) → xs ≡ numbers_below table k cells n ns → ys ≡ placed line place v xs → ys ≡ numbers_below table k cells (n + 1) ns
-  unfolding numbers_below number_put placed
-  numbers_more ns a b c d e g h = rw (add-one, ← g, h, c, a, b, d, e)
+module _ (table k : ℕ) (cells : Cells) (n : ℕ) {lines : Lines} {row : List ℕ} {line : ℕ} (start : line ≡ lines.first + k * lines.stride) (within : n < 8) where
+  pub numbers_more : (ns : List Float) {xs ys : List Float} {v : Float} → lines ≡ number_lines table → row ≡ number_row table
+      → v ≡ of_bits binary64 (cell_of cells n) → xs ≡ numbers_below table k cells n ns → ys ≡ placed line (get_or row n 0) v xs → ys ≡ numbers_below table k cells (n + 1) ns
+  unfolding numbers_below number_put number_place
+  numbers_more ns a d e g h = rw (add-one, ← g, h, start, a, d, e, lt-ltb n 8 within)
 
-  pub words_more : (ws : List ℕ) {xs ys : List ℕ} {v : ℕ} → f ≡ place_at table 2 → s ≡ place_at table 3 → line ≡ f + k * s → place ≡ word_place table n
-      → v ≡ code_of (cell_of cells n) → xs ≡ words_below table k cells n ws → ys ≡ placed line place v xs → ys ≡ words_below table k cells (n + 1) ws
-  unfolding words_below word_put placed
-  words_more ws a b c d e g h = rw (add-one, ← g, h, c, a, b, d, e)
+  pub words_more : (ws : List ℕ) {xs ys : List ℕ} {v : ℕ} → lines ≡ word_lines table → row ≡ word_row table
+      → v ≡ code_of (cell_of cells n) → xs ≡ words_below table k cells n ws → ys ≡ placed line (get_or row n 0) v xs → ys ≡ words_below table k cells (n + 1) ws
+  unfolding words_below word_put word_place
+  words_more ws a d e g h = rw (add-one, ← g, h, start, a, d, e, lt-ltb n 8 within)

@@ -1,62 +1,37 @@
 -- Document 01, "The job text": the parent of a line. "Lines of a child table follow their parents' order; a parent that does not exist is 3."
 -- A whole number n is held as whole_bias + n, a word of a list as its place there. Read `parent_of` first, at the end.
-use Rattle.std.specs.Prelude.{ℕ, ◌+◌, ◌-◌, ◌*◌, ◌%◌, Bool, true, false, not, ◌&&◌, cond, List, Option, Some, None, get_or, eqb, ltb, leb}
+use Rattle.std.specs.Prelude.{ℕ, ◌+◌, ◌-◌, ◌*◌, ◌%◌, Bool, ◌&&◌, cond, List, Option, Some, None, is_some, unwrap_or, option_map, option_and_then, get_or, eqb, ltb, leb}
 use Rattle.records.specs.Layout.{section_count_at, profile_count_at, section_words, section_stride, strip_stride}
 use Rattle.reader_cells.specs.Cells.{whole_bias}
 use Rattle.reader_lines.specs.Columns.{cell_of}
 use Rattle.reader_lines.specs.declared.columns.Cells.{Cells}
-use Rattle.reader_store.specs.Layout.{lane_rule, shape_rule, cubic_rule, mark_rule, base_of, stride_of}
+use Rattle.reader_store.specs.Layout.{base_of, stride_of}
 use Rattle.reader_store.specs.Progress.{strip_of, strip_line}
+use Rattle.reader_store.specs.declared.layout.Family.{Family}
+use Rattle.reader_store.specs.declared.layout.Family.TheVariants.{Lane, Shape, Cubic, Mark}
 use Rattle.reader_store.specs.declared.parents.Ranked.{Ranked}
 use Rattle.reader_store.specs.declared.parents.Counted.{Counted}
 use Rattle.reader_store.specs.declared.parents.Side.{Side}
 use Rattle.reader_store.specs.declared.parents.Side.TheVariants.{Left, Right}
-use Rattle.reader_store.specs.declared.progress.Strips.{Strips}
 
--- Whether there is such a parent, its rank in the order that children follow, and its index in memory; what is not there has some rank and index all the same.
-pub record Index : Type 0 where
-  pub there : Bool
-  pub rank : ℕ
-  pub index : ℕ
+-- A parent that is there is `Ranked`: its rank in the order that children follow, and its index in memory. Where a line is counted is `Counted`: its parent's
+-- rank, the word for the parent's first line where the parent has none yet, and the word for the count.
 
--- Where a line is counted: whether its parent is there, the parent's rank, the word for the parent's first line, the word for the count, and whether the
--- line is the first.
-pub record Parent : Type 0 where
-  pub there : Bool
-  pub rank : ℕ
-  pub first : ℕ
-  pub count : ℕ
-  pub fresh : Bool
+-- the i-th of parents that are ranked by their indices
+abbrev pub index_at : ℕ → Ranked
+index_at i = record { rank = i; index = i }
 
--- what the code has of one: nothing where it is not there
-abbrev pub index_found : Index → Option Ranked
-index_found i = cond i.there (Some (record { rank = i.rank; index = i.index })) None
-
-abbrev pub index_in : Option Ranked → ℕ
-index_in (Some i) = i.index
-index_in None = 0
-
-abbrev pub parent_found : Parent → Option Counted
-parent_found p = cond p.there (Some (record { rank = p.rank; first = p.first; count = p.count; fresh = p.fresh })) None
-
--- and one that the code has
-abbrev pub index_held : Ranked → Index
-index_held i = record { there = true; rank = i.rank; index = i.index }
-
-abbrev pub parent_held : Option Counted → Parent
-parent_held (Some p) = record { there = true; rank = p.rank; first = p.first; count = p.count; fresh = p.fresh }
-parent_held None = record { there = false; rank = 0; first = 0; count = 0; fresh = false }
-
--- no parent, and the i-th
-abbrev pub no_index : Index
-no_index = record { there = false; rank = 0; index = 0 }
-
-abbrev pub index_at : ℕ → Index
-index_at i = record { there = true; rank = i; index = i }
+-- a place, if a test holds: the word for the first line of a parent that has none yet
+abbrev pub first_if : Bool → ℕ → Option ℕ
+first_if fresh place = cond fresh (Some place) None
 
 -- "section counts from 0", and so do profiles: one of n parents
-unfoldable pub counted : ℕ → ℕ → Index
-counted number n = cond (ltb number whole_bias) no_index (cond (leb n (number - whole_bias)) no_index (index_at (number - whole_bias)))
+unfoldable pub counted : ℕ → ℕ → Option Ranked
+counted number n = cond (ltb number whole_bias) None (cond (leb n (number - whole_bias)) None (Some (index_at (number - whole_bias))))
+
+-- the section that a line names
+abbrev pub section_at : List ℕ → ℕ → Option Ranked
+section_at ws section = counted section (get_or ws section_count_at 0)
 
 -- the ids 1 and -1, the first of each side, as they are held
 abbrev pub first_left : ℕ
@@ -65,66 +40,65 @@ first_left = whole_bias + 1
 abbrev pub first_right : ℕ
 first_right = whole_bias - 1
 
--- "Per section ids 1,2.. left then -1,-2.. right": the side that a lane adds to, where `left` and `right` lanes stand already.
--- 1 left, 2 right, 0 where it is not this id's turn.
-unfoldable pub side_of : ℕ → ℕ → ℕ → ℕ
-side_of left right id = cond (eqb id (left + first_left) && eqb right 0) 1 (cond (ltb id whole_bias) (cond (eqb (id + right + 1) whole_bias) 2 0) 0)
-
-abbrev pub side_number : Option Side → ℕ
-side_number (Some Left) = 1
-side_number (Some Right) = 2
-side_number None = 0
+-- "Per section ids 1,2.. left then -1,-2.. right": the side that a lane adds to, where `left` and `right` lanes stand already; none where it is not this id's turn
+unfoldable pub side_of : ℕ → ℕ → ℕ → Option Side
+side_of left right id = cond (eqb id (left + first_left) && eqb right 0) (Some Left) (cond (eqb (id + right + 1) whole_bias) (Some Right) None)
 
 -- the record of section s: its first lane, how many left, how many right
 abbrev pub section_word : ℕ → ℕ
 section_word s = section_words + section_stride * s
 
--- a lane under its section: the section exists, and it is this id's turn
-abbrev pub lane_under : List ℕ → ℕ → Index → Parent
-lane_under ws id s =
+-- which of its words counts a side
+abbrev pub side_word : Side → ℕ
+side_word Left = 1
+side_word Right = 2
+
+-- a lane of a side under its section
+abbrev pub lane_beside : List ℕ → Ranked → Side → Counted
+lane_beside ws s side =
     record {
-      there = s.there && not (eqb (side_of (get_or ws (section_word s.index + 1) 0) (get_or ws (section_word s.index + 2) 0) id) 0);
       rank = s.rank;
-      first = section_word s.index;
-      count = section_word s.index + side_of (get_or ws (section_word s.index + 1) 0) (get_or ws (section_word s.index + 2) 0) id;
-      fresh = eqb (get_or ws (section_word s.index + 1) 0) 0 && eqb (get_or ws (section_word s.index + 2) 0) 0;
+      first = first_if (eqb (get_or ws (section_word s.index + 1) 0) 0 && eqb (get_or ws (section_word s.index + 2) 0) 0) (section_word s.index);
+      count = section_word s.index + side_word side;
     }
 
+-- a lane under its section, if it is this id's turn
+abbrev pub lane_under : List ℕ → ℕ → Ranked → Option Counted
+lane_under ws id s = option_map (lane_beside ws s) (side_of (get_or ws (section_word s.index + 1) 0) (get_or ws (section_word s.index + 2) 0) id)
+
 -- the same, by the section that the line names
-unfoldable pub lane_turn : List ℕ → ℕ → ℕ → Parent
-lane_turn ws section id = lane_under ws id (counted section (get_or ws section_count_at 0))
+unfoldable pub lane_turn : List ℕ → ℕ → ℕ → Option Counted
+lane_turn ws section id = option_and_then (lane_under ws id) (section_at ws section)
 
 -- The lane with an id, of a section's first lane and its counts of left and right ones: left ones come first. No lane has the id 0.
-unfoldable pub lane_among : ℕ → ℕ → ℕ → ℕ → Index
+unfoldable pub lane_among : ℕ → ℕ → ℕ → ℕ → Option Ranked
 lane_among first left right id =
-    cond (eqb id whole_bias) no_index
+    cond (eqb id whole_bias) None
     (cond (ltb whole_bias id)
-    (cond (ltb (left + whole_bias) id) no_index (index_at (first + (id - first_left))))
-    (cond (ltb (id + right) whole_bias) no_index (index_at (first + left + (first_right - id)))))
+    (cond (ltb (left + whole_bias) id) None (Some (index_at (first + (id - first_left)))))
+    (cond (ltb (id + right) whole_bias) None (Some (index_at (first + left + (first_right - id))))))
 
--- the lane with an id, of a section that exists; then of the section that the line names
-abbrev pub lane_within : List ℕ → ℕ → Index → Index
-lane_within ws id s =
-    cond s.there
-    (lane_among (get_or ws (section_word s.index) 0) (get_or ws (section_word s.index + 1) 0) (get_or ws (section_word s.index + 2) 0) id)
-    no_index
+-- the lane with an id, of a section; then of the section that the line names
+abbrev pub lane_within : List ℕ → ℕ → Ranked → Option Ranked
+lane_within ws id s = lane_among (get_or ws (section_word s.index) 0) (get_or ws (section_word s.index + 1) 0) (get_or ws (section_word s.index + 2) 0) id
 
-unfoldable pub lane_index : List ℕ → ℕ → ℕ → Index
-lane_index ws section id = lane_within ws id (counted section (get_or ws section_count_at 0))
+unfoldable pub lane_index : List ℕ → ℕ → ℕ → Option Ranked
+lane_index ws section id = option_and_then (lane_within ws id) (section_at ws section)
 
--- The place of a mark's lane in its section, counted from 0: `lane_among` with 0 as the first lane. Where the section is not there it means nothing.
-abbrev pub mark_lane_in : List ℕ → ℕ → Index → Index
+-- The place of a mark's lane in its section, counted from 0: `lane_among` with 0 as the first lane.
+abbrev pub mark_lane_in : List ℕ → ℕ → Ranked → Option Ranked
 mark_lane_in ws id s = lane_among 0 (get_or ws (section_word s.index + 1) 0) (get_or ws (section_word s.index + 2) 0) id
 
-unfoldable pub mark_lane : List ℕ → ℕ → ℕ → Index
-mark_lane ws section id = mark_lane_in ws id (counted section (get_or ws section_count_at 0))
+-- The same, by the section that the line names. Where it is not there section 0 stands in for it: a mark has its words all the same, and means nothing.
+unfoldable pub mark_lane : List ℕ → ℕ → ℕ → Option Ranked
+mark_lane ws section id = mark_lane_in ws id (unwrap_or (section_at ws section) (index_at 0))
 
 -- a mark under its section: the section exists, and it has the lane. Document 02, point 2: "any other wrong .. section or lane id is 3"
-abbrev pub mark_within : List ℕ → ℕ → Index → Index
-mark_within ws id s = record { there = s.there && (mark_lane_in ws id s).there; rank = s.rank; index = s.index }
+abbrev pub mark_within : List ℕ → ℕ → Ranked → Option Ranked
+mark_within ws id s = cond (is_some (mark_lane_in ws id s)) (Some s) None
 
-unfoldable pub mark_index : List ℕ → ℕ → ℕ → Index
-mark_index ws section id = mark_within ws id (counted section (get_or ws section_count_at 0))
+unfoldable pub mark_index : List ℕ → ℕ → ℕ → Option Ranked
+mark_index ws section id = option_and_then (mark_within ws id) (section_at ws section)
 
 -- a strip's width and its terms 0 to 3; a cell that names one is its place among them, so the remainder changes no such cell
 abbrev pub term_count : ℕ
@@ -133,35 +107,32 @@ term_count = 5
 abbrev pub term_in : ℕ → ℕ
 term_in cell = cell % term_count
 
+-- a term of a strip that has a line
+abbrev pub term_at : ℕ → ℕ → ℕ → Ranked
+term_at strip term line = record { rank = line * term_count + term; index = strip * strip_stride + term * 2 }
+
 -- A term of a strip: "term width or 0..3, a strip's in that order". The rank goes by the strip's line in its table, so that cubics follow the order
 -- that the text gives the strips; the index goes by the strip's fixed place. A strip without a line has no cubics.
-unfoldable pub term_of : Strips → ℕ → ℕ → ℕ → Index
-term_of strips side place term =
-    record {
-      there = not (eqb (strip_line strips (strip_of side place)) 0);
-      rank = strip_line strips (strip_of side place) * term_count + term_in term;
-      index = strip_of side place * strip_stride + term_in term * 2;
-    }
+unfoldable pub term_of : List (Option ℕ) → ℕ → ℕ → ℕ → Option Ranked
+term_of strips side place term = option_map (term_at (strip_of side place) (term_in term)) (strip_line strips (strip_of side place))
 
 -- the parent that a line's first columns name: of a cubic side, place and term, of a shape the profile, of a mark the section, of extents and heights section and id
-unfoldable pub index_of : List ℕ → ℕ → Cells → Strips → Index
-index_of ws rule cells strips =
-    cond (eqb rule cubic_rule) (term_of strips (cell_of cells 0) (cell_of cells 1) (cell_of cells 2))
-    (cond (eqb rule shape_rule) (counted (cell_of cells 0) (get_or ws profile_count_at 0))
-    (cond (eqb rule mark_rule) (mark_index ws (cell_of cells 0) (cell_of cells 1)) (lane_index ws (cell_of cells 0) (cell_of cells 1))))
+unfoldable pub index_of : List ℕ → Family → Cells → List (Option ℕ) → Option Ranked
+index_of ws Cubic cells strips = term_of strips (cell_of cells 0) (cell_of cells 1) (cell_of cells 2)
+index_of ws Shape cells strips = counted (cell_of cells 0) (get_or ws profile_count_at 0)
+index_of ws Mark cells strips = mark_index ws (cell_of cells 0) (cell_of cells 1)
+index_of ws family cells strips = lane_index ws (cell_of cells 0) (cell_of cells 1)
 
 -- a parent's range (first, count) of lines: a line is the first where the count is 0
-unfoldable pub range_of : List ℕ → Index → ℕ → ℕ → Parent
-range_of ws at base stride =
+unfoldable pub range_of : List ℕ → ℕ → ℕ → Ranked → Counted
+range_of ws base stride at =
     record {
-      there = at.there;
       rank = at.rank;
-      first = base + at.index * stride;
+      first = first_if (eqb (get_or ws (base + at.index * stride + 1) 0) 0) (base + at.index * stride);
       count = base + at.index * stride + 1;
-      fresh = eqb (get_or ws (base + at.index * stride + 1) 0) 0;
     }
 
--- the parent of a line, by the rule of its table
-unfoldable pub parent_of : List ℕ → ℕ → Cells → Strips → Parent
-parent_of ws rule cells strips =
-    cond (eqb rule lane_rule) (lane_turn ws (cell_of cells 0) (cell_of cells 1)) (range_of ws (index_of ws rule cells strips) (base_of rule) (stride_of rule))
+-- the parent of a line, by the family of its table
+unfoldable pub parent_of : List ℕ → Family → Cells → List (Option ℕ) → Option Counted
+parent_of ws Lane cells strips = lane_turn ws (cell_of cells 0) (cell_of cells 1)
+parent_of ws family cells strips = option_map (range_of ws (base_of family) (stride_of family)) (index_of ws family cells strips)

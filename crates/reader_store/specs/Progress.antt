@@ -1,7 +1,6 @@
 -- What is remembered from line to line: whether all was right so far, the parent of the last line, and the strips' own order.
 -- Document 01: "Lines of a child table follow their parents' order", and strips come in any order, each pair (side, place) once.
-use Rattle.std.specs.Prelude.{ℕ, ◌+◌, ◌*◌, ◌%◌, true, false, cond, eqb}
-use Rattle.reader_store.specs.declared.progress.Strips.{Strips}
+use Rattle.std.specs.Prelude.{ℕ, ◌+◌, ◌*◌, ◌%◌, true, false, List, Option, Some, None, get_or, set, replicate}
 use Rattle.reader_store.specs.declared.progress.Progress.{Progress}
 
 -- A cell of a column of two words is 0 or 1, its place in their list. The remainder changes no such cell; it bounds what is said of any other number.
@@ -12,26 +11,17 @@ bit_in cell = cell % 2
 abbrev pub strip_of : ℕ → ℕ → ℕ
 strip_of side place = bit_in side * 2 + bit_in place
 
-abbrev pub strips_of : ℕ → ℕ → ℕ → ℕ → Strips
-strips_of a b c d = record { left_inner = a; left_outer = b; right_inner = c; right_outer = d }
-
--- the line of a strip in the strip table, counted from 1; 0 where it has none
-unfoldable pub strip_line : Strips → ℕ → ℕ
-strip_line strips strip =
-    cond (eqb strip 0) strips.left_inner
-    (cond (eqb strip 1) strips.left_outer (cond (eqb strip 2) strips.right_inner strips.right_outer))
+-- the line of a strip in the strip table, counted from 0, if it has one
+abbrev pub strip_line : List (Option ℕ) → ℕ → Option ℕ
+strip_line strips strip = get_or strips strip None
 
 -- with a line noted for a strip
-unfoldable pub listed_as : Strips → ℕ → ℕ → Strips
-listed_as strips strip line =
-    cond (eqb strip 0) (strips_of line strips.left_outer strips.right_inner strips.right_outer)
-    (cond (eqb strip 1) (strips_of strips.left_inner line strips.right_inner strips.right_outer)
-    (cond (eqb strip 2) (strips_of strips.left_inner strips.left_outer line strips.right_outer)
-    (strips_of strips.left_inner strips.left_outer strips.right_inner line)))
+abbrev pub listed_as : List (Option ℕ) → ℕ → ℕ → List (Option ℕ)
+listed_as strips strip line = set strips strip (Some line)
 
 -- before the first line of a text
 abbrev pub start_progress : Progress
-start_progress = record { sound = true; last = 0; strips = strips_of 0 0 0 0 }
+start_progress = record { sound = true; last = 0; strips = replicate 4 None }
 
 -- after a line that is out of its order or has no parent: 3, once every line's form has been tested
 abbrev pub unsound_progress : Progress → Progress

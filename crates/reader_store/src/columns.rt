@@ -10,7 +10,6 @@ use reader_schema::tables::{COLUMNS_MOST, WANT_TABLE};
 use records::layout::WANT_STRIDE;
 
 // Keeps a value at its place, counted from 1, of the line that begins at `line`; 0 is no place.
-#[tactic(auto, unfolding(crate::specs::Layout::placed))]
 fn put_cell<T: Copy>(list: &mut [T], line: usize, place: u8, value: T)
     requires { line < 1000000000000000 }
     ensures { list.new ≡ placed line place value list.old }

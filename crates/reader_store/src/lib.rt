@@ -8,5 +8,8 @@ mod memory;
 mod parents;
 mod progress;
 
+// The laws above speak of a table's rule and of a line's parent.
+pub use layout::{Family, Rule};
 pub use lines::{end_table, keep_line};
+pub use parents::{Counted, Ranked, Side};
 pub use progress::{Progress, Strips, start_progress};

@@ -1,48 +1,34 @@
 // A line kept: its cells at their places, and the line under its parent.
 ghost use Rattle.std.specs.Prelude.{◌≡◌};
 ghost use Rattle.reader_schema.specs.Tables.{columns_most};
-ghost use Rattle.reader_store.specs.Layout.{rule_number, family_number, numbers_below, wants_kept, count_kept};
-ghost use Rattle.reader_store.specs.Parents.{parent_held};
+ghost use Rattle.reader_store.specs.Layout.{numbers_below, wants_kept, count_kept};
 ghost use Rattle.reader_store.specs.Progress.{ended_progress};
-ghost use Rattle.reader_store.specs.Keep.{first_line, added, under_progress, under_words, strip_progress, strips_kept, mark_kind, mark_put, own_words, ruled_progress, ruled_words, kept_progress, kept_words};
+ghost use Rattle.reader_store.specs.Keep.{added, under_progress, under_words, strip_progress, strips_kept, mark_kind, mark_put, own_words, ruled_progress, ruled_words, kept_progress, kept_words};
 
 use crate::columns::{put_numbers, put_wants, put_words};
 use crate::layout::{Family, Rule, count_place, rule_of};
-use crate::memory::{code, one_more, word};
-use crate::parents::{Counted, index_in, mark_lane, parent_of};
+use crate::memory::{code, one_more, put_at, word};
+use crate::parents::{Counted, mark_lane, parent_of, ranked_at};
 use crate::progress::{Progress, strip_of};
 use reader_cells::WHOLE_BIAS;
 use reader_lines::{Cells, put};
 use records::layout::{MARK_STRIDE, MARK_WORDS, STRIP_STRIDE, STRIP_WORDS};
 
-// A parent's first line, line k being added: k where it is the first.
-#[tactic(auto, unfolding(crate::specs::Keep::first_line))]
-fn first_line(words: &[u16], k: u16, parent: Counted) -> u16
-    ensures { result ≡ first_line words.now k (parent_held (Some parent)) }
-{
-    if parent.fresh {
-        k
-    } else {
-        word(words, parent.first)
-    }
-}
-
 // Counts line k under its parent.
 #[tactic(auto, unfolding(crate::specs::Keep::added))]
 fn add(words: &mut [u16], k: u16, parent: Counted)
-    ensures { words.new ≡ added words.old k (parent_held (Some parent)) }
+    ensures { words.new ≡ added words.old k parent }
 {
-    let first = first_line(words, k, parent);
     let n = one_more(word(words, parent.count));
-    put(words, parent.first, first);
+    put_at(words, parent.first, k);
     put(words, parent.count, n);
 }
 
 // Counts line k under its parent, if it has one that does not come before that of the last line.
 #[tactic(auto, unfolding(crate::specs::Keep::under_progress, crate::specs::Keep::under_words, crate::specs::Keep::in_order))]
 fn keep_under(words: &mut [u16], k: u16, parent: Option<Counted>, progress: Progress) -> Progress
-    ensures value { result ≡ under_progress (parent_held parent) progress }
-    ensures words_after { words.new ≡ under_words words.old k (parent_held parent) progress }
+    ensures value { result ≡ under_progress parent progress }
+    ensures words_after { words.new ≡ under_words words.old k parent progress }
 {
     let Some(parent) = parent else {
         return progress.unsound();
@@ -64,15 +50,14 @@ fn keep_strip(words: &mut [u16], k: u16, cells: Cells, progress: Progress) -> Pr
     ensures words_after { words.new ≡ strips_kept words.old cells progress }
 {
     let strip = strip_of(cells.at(0), cells.at(1));
-    if progress.strips.line(strip) != 0 {
+    if progress.strips[strip].is_some() {
         return progress.unsound();
     }
     let relative = (cells.at(2) % 2) as u16;
     put(words, STRIP_WORDS + strip * STRIP_STRIDE, relative + 1);
-    Progress {
-        strips: progress.strips.listed(strip, one_more(k)),
-        ..progress
-    }
+    let mut strips = progress.strips;
+    strips[strip] = Some(k);
+    Progress { strips, ..progress }
 }
 
 // A mark's kind as a word. One below 0 becomes 0, which is no kind either, and never comes round to one.
@@ -87,16 +72,16 @@ fn mark_kind(cell: u64) -> u16
 fn put_mark(words: &mut [u16], k: u16, cells: Cells)
     ensures { words.new ≡ mark_put words.old k cells }
 {
-    let lane = index_in(mark_lane(words, cells.at(0), cells.at(1)));
+    let lane = mark_lane(words, cells.at(0), cells.at(1)).unwrap_or(ranked_at(0));
     let i = MARK_WORDS + k as usize * MARK_STRIDE;
-    put(words, i, code(lane as u64));
+    put(words, i, code(lane.index as u64));
     put(words, i + 1, mark_kind(cells.at(4)));
 }
 
 // Keeps a mark's own words; other lines under a parent have none.
 #[tactic(auto, unfolding(crate::specs::Keep::own_words))]
 fn put_own(words: &mut [u16], family: Family, k: u16, cells: Cells)
-    ensures { words.new ≡ own_words words.old (family_number family) k cells }
+    ensures { words.new ≡ own_words words.old family k cells }
 {
     if family == Family::Mark {
         put_mark(words, k, cells);
@@ -112,8 +97,8 @@ fn keep_ruled(
     cells: Cells,
     progress: Progress,
 ) -> Progress
-    ensures value { result ≡ ruled_progress words.old (rule_number rule) k cells progress }
-    ensures words_after { words.new ≡ ruled_words words.old (rule_number rule) k cells progress }
+    ensures value { result ≡ ruled_progress words.old rule k cells progress }
+    ensures words_after { words.new ≡ ruled_words words.old rule k cells progress }
 {
     match rule {
         None => progress,
@@ -148,21 +133,12 @@ pub fn keep_line(
     keep_ruled(words, rule_of(table), k, cells, progress)
 }
 
-// Keeps a table's count of lines, where the layout has a word for it.
+// Ends a table of k lines: keeps its count, where the layout has a word for it, and lets the next table's parents begin anew.
 #[tactic(auto, unfolding(crate::specs::Layout::count_kept))]
-fn keep_count(words: &mut [u16], table: usize, k: u16)
-    ensures { words.new ≡ count_kept table k words.old }
-{
-    if let Some(d) = count_place(table) {
-        put(words, d as usize, k);
-    }
-}
-
-// Ends a table of k lines: keeps its count, and lets the next table's parents begin anew.
 pub fn end_table(words: &mut [u16], table: usize, k: u16, progress: Progress) -> Progress
     ensures value { result ≡ ended_progress progress }
     ensures words_after { words.new ≡ count_kept table k words.old }
 {
-    keep_count(words, table, k);
+    put_at(words, count_place(table), k);
     progress.ended()
 }

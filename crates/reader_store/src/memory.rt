@@ -1,6 +1,8 @@
 // Single elements of the road's memory, and numbers as its words. Past the end a read gives 0.
 ghost use Rattle.std.specs.Prelude.{◌≡◌, get_or};
-ghost use Rattle.reader_store.specs.Layout.{code_of, one_more};
+ghost use Rattle.reader_store.specs.Layout.{code_of, one_more, put_at};
+
+use reader_lines::put;
 
 pub(crate) fn word(words: &[u16], i: usize) -> u16
     ensures { result ≡ get_or words.now i 0 }
@@ -22,4 +24,13 @@ pub(crate) fn one_more(n: u16) -> u16
     ensures { result ≡ one_more n }
 {
     n.saturating_add(1)
+}
+
+// Puts a word at a place, if there is one.
+pub(crate) fn put_at(words: &mut [u16], place: Option<usize>, value: u16)
+    ensures { words.new ≡ put_at place value words.old }
+{
+    if let Some(place) = place {
+        put(words, place, value);
+    }
 }

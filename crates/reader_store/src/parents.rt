@@ -1,8 +1,6 @@
 // The parent of a line: a lane's or a mark's section, an extent's or a height's lane, a shape's profile, a cubic's strip and term.
-ghost use Rattle.std.specs.Prelude.{◌≡◌, Some, get_or};
-ghost use Rattle.records.specs.Layout.{section_count_at};
-ghost use Rattle.reader_store.specs.Layout.{family_number};
-ghost use Rattle.reader_store.specs.Parents.{index_at, index_found, index_held, index_in, parent_found, counted, side_number, side_of, lane_turn, lane_among, lane_index, mark_lane, mark_index, term_of, index_of, range_of, parent_of};
+ghost use Rattle.std.specs.Prelude.{◌≡◌};
+ghost use Rattle.reader_store.specs.Parents.{index_at, counted, section_at, side_of, lane_turn, lane_among, lane_index, mark_lane, mark_index, term_of, index_of, range_of, parent_of};
 
 use crate::layout::{Family, Lines};
 use crate::memory::word;
@@ -32,33 +30,25 @@ pub struct Ranked {
     pub index: u32,
 }
 
-// Where a line is counted: the rank of its parent, the word for the parent's first line, the word for the count, and whether the line is the first.
+// Where a line is counted: the rank of its parent, the word for the parent's first line where that has none yet, and the word for the count.
 #[derive(Clone, Copy, Debug, PartialEq, Eq)]
 pub struct Counted {
     pub rank: u32,
-    pub first: usize,
+    pub first: Option<usize>,
     pub count: usize,
-    pub fresh: bool,
 }
 
 // A parent whose rank is its index.
-fn ranked_at(i: u32) -> Ranked
-    ensures { Some result ≡ index_found (index_at i) }
+pub(crate) fn ranked_at(i: u32) -> Ranked
+    ensures { result ≡ index_at i }
 {
     Ranked { rank: i, index: i }
-}
-
-// The index of a parent, 0 where there is none.
-pub(crate) fn index_in(at: Option<Ranked>) -> u32
-    ensures { result ≡ index_in at }
-{
-    at.map_or(0, |at| at.index)
 }
 
 // A whole number, kept with its bias, as one of n parents counted from 0.
 #[tactic(auto, unfolding(crate::specs::Parents::counted))]
 fn counted_of(number: u64, n: u16) -> Option<Ranked>
-    ensures { result ≡ index_found (counted number n) }
+    ensures { result ≡ counted number n }
 {
     if number < WHOLE_BIAS {
         return None;
@@ -72,14 +62,14 @@ fn counted_of(number: u64, n: u16) -> Option<Ranked>
 
 // The section that a line names.
 fn section_of(words: &[u16], section: u64) -> Option<Ranked>
-    ensures { result ≡ index_found (counted section (get_or words.now section_count_at 0)) }
+    ensures { result ≡ section_at words.now section }
 {
     counted_of(section, word(words, SECTION_COUNT_AT))
 }
 
 // The sides that a lane adds to.
 #[derive(Clone, Copy, Debug, PartialEq, Eq)]
-enum Side {
+pub enum Side {
     Left,
     Right,
 }
@@ -87,7 +77,7 @@ enum Side {
 // The side that a lane of this id adds to; none where it is not this id's turn.
 #[tactic(auto, unfolding(crate::specs::Parents::side_of))]
 fn side_of(left: u16, right: u16, id: u64) -> Option<Side>
-    ensures { side_number result ≡ side_of left right id }
+    ensures { result ≡ side_of left right id }
 {
     if (id == left as u64 + FIRST_LEFT) & (right == 0) {
         return Some(Side::Left);
@@ -103,7 +93,7 @@ fn side_of(left: u16, right: u16, id: u64) -> Option<Side>
 // A lane under its section.
 #[tactic(auto, unfolding(crate::specs::Parents::lane_turn))]
 fn lane_turn(words: &[u16], section: u64, id: u64) -> Option<Counted>
-    ensures { result ≡ parent_found (lane_turn words.now section id) }
+    ensures { result ≡ lane_turn words.now section id }
 {
     let s = section_of(words, section)?;
     let first = SECTION_WORDS + SECTION_STRIDE * s.index as usize;
@@ -113,18 +103,18 @@ fn lane_turn(words: &[u16], section: u64, id: u64) -> Option<Counted>
         Side::Left => first + 1,
         Side::Right => first + 2,
     };
+    let fresh = (left == 0) & (right == 0);
     Some(Counted {
         rank: s.rank,
-        first,
+        first: fresh.then_some(first),
         count,
-        fresh: (left == 0) & (right == 0),
     })
 }
 
 // The lane with an id, of a section's first lane and its counts of left and right ones.
 #[tactic(auto, unfolding(crate::specs::Parents::lane_among))]
 fn lane_by(first: u16, left: u16, right: u16, id: u64) -> Option<Ranked>
-    ensures { result ≡ index_found (lane_among first left right id) }
+    ensures { result ≡ lane_among first left right id }
 {
     if id == WHOLE_BIAS {
         return None;
@@ -144,27 +134,27 @@ fn lane_by(first: u16, left: u16, right: u16, id: u64) -> Option<Ranked>
 // The lane of a section with an id.
 #[tactic(auto, unfolding(crate::specs::Parents::lane_index))]
 fn lane_of(words: &[u16], section: u64, id: u64) -> Option<Ranked>
-    ensures { result ≡ index_found (lane_index words.now section id) }
+    ensures { result ≡ lane_index words.now section id }
 {
     let s = section_of(words, section)?;
     let i = SECTION_WORDS + SECTION_STRIDE * s.index as usize;
     lane_by(word(words, i), word(words, i + 1), word(words, i + 2), id)
 }
 
-// The place of a mark's lane in its section, counted from 0, left ones first. Where the section is not there it means nothing.
+// The place of a mark's lane in its section, counted from 0, left ones first. Where the section is not there section 0 stands in for it.
 #[tactic(auto, unfolding(crate::specs::Parents::mark_lane))]
 pub(crate) fn mark_lane(words: &[u16], section: u64, id: u64) -> Option<Ranked>
-    ensures { result ≡ index_found (mark_lane words.now section id) }
+    ensures { result ≡ mark_lane words.now section id }
 {
-    let s = index_in(section_of(words, section));
-    let i = SECTION_WORDS + SECTION_STRIDE * s as usize;
+    let s = section_of(words, section).unwrap_or(ranked_at(0));
+    let i = SECTION_WORDS + SECTION_STRIDE * s.index as usize;
     lane_by(0, word(words, i + 1), word(words, i + 2), id)
 }
 
 // A mark under its section, which must have the mark's lane.
 #[tactic(auto, unfolding(crate::specs::Parents::mark_index, crate::specs::Parents::mark_lane))]
 fn mark_index(words: &[u16], section: u64, id: u64) -> Option<Ranked>
-    ensures { result ≡ index_found (mark_index words.now section id) }
+    ensures { result ≡ mark_index words.now section id }
 {
     let s = section_of(words, section)?;
     mark_lane(words, section, id)?;
@@ -174,13 +164,10 @@ fn mark_index(words: &[u16], section: u64, id: u64) -> Option<Ranked>
 // The term of a strip. Its rank goes by the strip's line, its index by the strip's fixed place.
 #[tactic(auto, unfolding(crate::specs::Parents::term_of))]
 fn term_of(strips: Strips, side: u64, place: u64, term: u64) -> Option<Ranked>
-    ensures { result ≡ index_found (term_of strips side place term) }
+    ensures { result ≡ term_of strips side place term }
 {
     let strip = strip_of(side, place);
-    let line = strips.line(strip);
-    if line == 0 {
-        return None;
-    }
+    let line = strips[strip]?;
     let t = (term % TERM_COUNT) as u32;
     Some(Ranked {
         rank: line as u32 * TERMS_A_STRIP + t,
@@ -191,7 +178,7 @@ fn term_of(strips: Strips, side: u64, place: u64, term: u64) -> Option<Ranked>
 // The parent that a line's first columns name, by the table's family.
 #[tactic(auto, unfolding(crate::specs::Parents::index_of))]
 fn index_of(words: &[u16], family: Family, cells: Cells, strips: Strips) -> Option<Ranked>
-    ensures { result ≡ index_found (index_of words.now (family_number family) cells strips) }
+    ensures { result ≡ index_of words.now family cells strips }
 {
     let a = cells.at(0);
     let b = cells.at(1);
@@ -206,14 +193,15 @@ fn index_of(words: &[u16], family: Family, cells: Cells, strips: Strips) -> Opti
 // A parent's range (first, count) of lines.
 #[tactic(auto, unfolding(crate::specs::Parents::range_of))]
 fn range_of(words: &[u16], at: Ranked, ranges: Lines) -> Counted
-    ensures { Some result ≡ parent_found (range_of words.now (index_held at) ranges.first ranges.stride) }
+    ensures { result ≡ range_of words.now ranges.first ranges.stride at }
 {
     let first = ranges.line(at.index);
+    let count = first + 1;
+    let fresh = word(words, count) == 0;
     Counted {
         rank: at.rank,
-        first,
-        count: first + 1,
-        fresh: word(words, first + 1) == 0,
+        first: fresh.then_some(first),
+        count,
     }
 }
 
@@ -225,7 +213,7 @@ pub(crate) fn parent_of(
     cells: Cells,
     strips: Strips,
 ) -> Option<Counted>
-    ensures { result ≡ parent_found (parent_of words.now (family_number family) cells strips) }
+    ensures { result ≡ parent_of words.now family cells strips }
 {
     if family == Family::Lane {
         return lane_turn(words, cells.at(0), cells.at(1));

@@ -1,15 +1,11 @@
 // What is remembered from line to line, beside the road's memory.
 ghost use Rattle.std.specs.Prelude.{◌≡◌, ◌<◌};
-ghost use Rattle.reader_store.specs.Progress.{strip_of, strip_line, listed_as, start_progress, unsound_progress, ended_progress};
+ghost use Rattle.reader_store.specs.Progress.{strip_of, start_progress, unsound_progress, ended_progress};
 
-// Of each strip, its line in the strip table, counted from 1; 0 where it has none.
-#[derive(Clone, Copy, Debug, PartialEq, Eq)]
-pub struct Strips {
-    pub left_inner: u16,
-    pub left_outer: u16,
-    pub right_inner: u16,
-    pub right_outer: u16,
-}
+const STRIP_COUNT: usize = 4;
+
+// Of each strip, its line in the strip table, counted from 0, if it has one.
+pub type Strips = [Option<u16>; STRIP_COUNT];
 
 #[derive(Clone, Copy, Debug, PartialEq, Eq)]
 pub struct Progress {
@@ -24,16 +20,10 @@ pub struct Progress {
 pub fn start_progress() -> Progress
     ensures { result ≡ start_progress }
 {
-    let strips = Strips {
-        left_inner: 0,
-        left_outer: 0,
-        right_inner: 0,
-        right_outer: 0,
-    };
     Progress {
         sound: true,
         last: 0,
-        strips,
+        strips: [None; STRIP_COUNT],
     }
 }
 
@@ -61,44 +51,4 @@ pub(crate) fn strip_of(side: u64, place: u64) -> usize
     ensures { (result ≡ strip_of side place) × (result < 4) }
 {
     (side % 2 * 2 + place % 2) as usize
-}
-
-impl Strips {
-    // The line of a strip.
-    #[tactic(auto, unfolding(crate::specs::Progress::strip_line))]
-    pub(crate) fn line(self, strip: usize) -> u16
-        ensures { result ≡ strip_line self strip }
-    {
-        match strip {
-            0 => self.left_inner,
-            1 => self.left_outer,
-            2 => self.right_inner,
-            _ => self.right_outer,
-        }
-    }
-
-    // The same with a strip at a line.
-    #[tactic(auto, unfolding(crate::specs::Progress::listed_as))]
-    pub(crate) fn listed(self, strip: usize, line: u16) -> Strips
-        ensures { result ≡ listed_as self strip line }
-    {
-        match strip {
-            0 => Strips {
-                left_inner: line,
-                ..self
-            },
-            1 => Strips {
-                left_outer: line,
-                ..self
-            },
-            2 => Strips {
-                right_inner: line,
-                ..self
-            },
-            _ => Strips {
-                right_outer: line,
-                ..self
-            },
-        }
-    }
 }

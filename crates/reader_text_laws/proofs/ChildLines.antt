@@ -2,33 +2,34 @@
 use Prim.Native.Nat.{ℕ, suc, ◌+◌, ◌-◌, ◌*◌, ◌<◌, ◌≤◌}
 use native.Mathlib.Omega.{arith}
 use mathlib.Core.Path.{◌≡◌, refl, sym, ◌∙◌, ap, subst}
-use mathlib.Core.Bool.{Bool, true, false, cond}
+use mathlib.Core.Bool.{Bool, true}
 use mathlib.Core.List.{List}
-use lib.ListN.{length, get_or}
-use lib.Dec.{eqb}
+use lib.ListN.{length, get_or, replicate}
 use borrow.Author.Tests.{eqb-true, eq-eqb}
+use Rattle.std.specs.Prelude.{Option, Some, None, option_and_then}
 use Rattle.reader_schema.specs.Schema.{limits, limit_of}
 use Rattle.reader_lines.specs.Columns.{cell_of, no_cells}
 use Rattle.reader_lines.specs.declared.columns.Cells.{Cells}
-use Rattle.reader_store.specs.Parents.{no_index, counted, lane_among, lane_within, lane_index, index_of}
-use Rattle.reader_store.specs.Progress.{strips_of}
-use Rattle.reader_store.specs.Parents.{Index}
+use Rattle.reader_store.specs.Parents.{index_at, section_at, counted, lane_among, lane_within, lane_index, index_of}
+use Rattle.reader_store.specs.declared.layout.Family.{Family}
+use Rattle.reader_store.specs.declared.layout.Family.TheVariants.{Extent, Height, Shape}
+use Rattle.reader_store.specs.declared.parents.Ranked.{Ranked}
 use Rattle.reader_store.specs.declared.progress.Progress.{Progress}
-use Rattle.reader_store.specs.declared.progress.Strips.{Strips}
 use Rattle.reader_laws.specs.Lines.{lines_of}
 use Rattle.reader_text_laws.specs.Said.{under, of_lane}
 use Rattle.reader_text_laws.specs.Family.{Follow}
-use Rattle.reader_text_laws.proofs.Those.{Part, part_same}
+use Rattle.reader_text_laws.proofs.ParentCases.{found, There, there, counted-there}
+use Rattle.reader_text_laws.proofs.Those.{pair-tells, pair-holds, Part, part_same}
 use Rattle.reader_text_laws.proofs.Folds.{track_after, words_after, State, Step}
 use Rattle.reader_text_laws.proofs.States.{Reading, state-long, blank, blank-strips, still-10}
 use Rattle.reader_text_laws.proofs.Ranges.{NoWord, no_own, none_owned, Outside, Parents, Kept, extent-ranged, height-ranged, shape-ranged, ranges-kept}
-use Rattle.reader_text_laws.proofs.Lanes.{counted-there, Lanes, lanes-kept}
-use Rattle.reader_text_laws.proofs.LaneLines.{and_both, both, LaneRows, lane_rows_lem, lane-one, Named, of_lane_named, lane-found}
+use Rattle.reader_text_laws.proofs.Lanes.{Lanes, lanes-kept}
+use Rattle.reader_text_laws.proofs.LaneLines.{LaneRows, lane_rows_lem, lane-one, Named, of_lane_named, lane-found}
 
 -- a parent's range is the lines that a test picks, where the test picks the lines that name it
-pub kept-part : (base stride : ℕ) (Good Mine : ℕ → Type 0) (all : List Cells) (strips : Strips) (ws : List ℕ) (I : Cells → Index) (progress : Progress) (us : List ℕ) → Kept base stride Good Mine all strips ws I (length all) progress us
+pub kept-part : (base stride : ℕ) (Good Mine : ℕ → Type 0) (all : List Cells) (strips : List (Option ℕ)) (ws : List ℕ) (I : Cells → Option Ranked) (progress : Progress) (us : List ℕ) → Kept base stride Good Mine all strips ws I (length all) progress us
     → (i : ℕ) → Good i → (p : Cells → Bool)
-    → ((k : ℕ) → k < length all → p (get_or all k no_cells) ≡ true → (I (get_or all k no_cells)).index ≡ i) → ((k : ℕ) → k < length all → (I (get_or all k no_cells)).index ≡ i → p (get_or all k no_cells) ≡ true)
+    → ((k : ℕ) → k < length all → p (get_or all k no_cells) ≡ true → (found (I (get_or all k no_cells))).index ≡ i) → ((k : ℕ) → k < length all → (found (I (get_or all k no_cells))).index ≡ i → p (get_or all k no_cells) ≡ true)
     → Part p all (get_or us (base + i * stride) 0) (get_or us (base + i * stride + 1) 0)
 kept-part base stride Good Mine all strips ws I progress us kept i g p to from =
     record {
@@ -39,41 +40,41 @@ kept-part base stride Good Mine all strips ws I progress us kept i g p to from =
 
 -- ---- the lane that a line names depends on the sections' words alone
 
-index-lane : (us : List ℕ) (cells : Cells) (strips : Strips) → (index_of us 2 cells strips ≡ lane_index us (cell_of cells 0) (cell_of cells 1)) × (index_of us 3 cells strips ≡ lane_index us (cell_of cells 0) (cell_of cells 1)) × (index_of us 4 cells strips ≡ counted (cell_of cells 0) (get_or us 6 0))
+index-lane : (us : List ℕ) (cells : Cells) (strips : List (Option ℕ))
+    → (index_of us Extent cells strips ≡ lane_index us (cell_of cells 0) (cell_of cells 1)) × (index_of us Height cells strips ≡ lane_index us (cell_of cells 0) (cell_of cells 1)) × (index_of us Shape cells strips ≡ counted (cell_of cells 0) (get_or us 6 0))
 unfolding index_of
 index-lane us cells strips = (refl, refl, refl)
 
 pub by-same : {a b c a' b' c' : ℕ} (id : ℕ) → a ≡ a' → b ≡ b' → c ≡ c' → lane_among a b c id ≡ lane_among a' b' c' id
 by-same id p q r = cc
 
+-- what depends on the sections' words alone, of the section that a line names
+module _ {A : Type 0} (us zs : List ℕ) (section : ℕ) (e : get_or us 5 0 ≡ get_or zs 5 0) (small : get_or zs 5 0 ≤ 16) (f g : Ranked → Option A) where
+  pub section-same : ((s : ℕ) → s < 16 → f (index_at s) ≡ g (index_at s)) → option_and_then f (section_at us section) ≡ option_and_then g (section_at zs section)
+  section-same same = ap (λ (n : ℕ). option_and_then f (counted section n)) e ∙ go (counted section (get_or zs 5 0)) refl
+    where
+      go : (o : Option Ranked) → counted section (get_or zs 5 0) ≡ o → option_and_then f o ≡ option_and_then g o
+      go None t = refl
+      go (Some x) t = let c = counted-there section (get_or zs 5 0) x t in let d = c.1 in subst (λ (x : Ranked). f x ≡ g x) (sym c.2) (same (section - 10000) (omega arith))
+
 lane_of-same : (us zs : List ℕ) (section id : ℕ) → get_or us 5 0 ≡ get_or zs 5 0 → get_or zs 5 0 ≤ 16 → ((p : ℕ) → 71 ≤ p → p < 119 → get_or us p 0 ≡ get_or zs p 0) → lane_index us section id ≡ lane_index zs section id
 unfolding lane_index
-lane_of-same us zs section id e small same = ap (λ (n : ℕ). lane_within us id (counted section n)) e ∙ go (counted section (get_or zs 5 0)).there refl
-  where
-    x : Index
-    x = counted section (get_or zs 5 0)
-
-    inside : x.there ≡ true → x.index < 16
-    inside t = let c = counted-there section (get_or zs 5 0) t in let d = c.1 in subst (λ (i : Index). i.index < 16) (sym c.2) (omega arith)
-
-    go : (b : Bool) → x.there ≡ b
-        → cond b (lane_among (get_or us (71 + 3 * x.index) 0) (get_or us (71 + 3 * x.index + 1) 0) (get_or us (71 + 3 * x.index + 2) 0) id) no_index
-        ≡ cond b (lane_among (get_or zs (71 + 3 * x.index) 0) (get_or zs (71 + 3 * x.index + 1) 0) (get_or zs (71 + 3 * x.index + 2) 0) id) no_index
-    go true t = let h = inside t in by-same id (same (71 + 3 * x.index) (omega arith) (omega arith)) (same (71 + 3 * x.index + 1) (omega arith) (omega arith)) (same (71 + 3 * x.index + 2) (omega arith) (omega arith))
-    go false t = refl
+lane_of-same us zs section id e small same =
+    section-same us zs section e small (lane_within us id) (lane_within zs id)
+    (λ s h. by-same id (same (71 + 3 * s) (omega arith) (omega arith)) (same (71 + 3 * s + 1) (omega arith) (omega arith)) (same (71 + 3 * s + 2) (omega arith) (omega arith)))
 
 -- ---- a table under the lanes
 
 module _ (lanes : List Cells) (S : ℕ) (zs : List ℕ) (rows : LaneRows lanes S zs) (counts : get_or zs 5 0 ≡ S) (most : length lanes ≤ 192) where
-  abbrev pub lane_as : Cells → Index
+  abbrev pub lane_as : Cells → Option Ranked
   lane_as cells = lane_index zs (cell_of cells 0) (cell_of cells 1)
 
-  named : (cells : Cells) → (lane_as cells).there ≡ true → Named lanes S zs rows (cell_of cells 0) (cell_of cells 1) (lane_as cells)
-  named cells t = of_lane_named lanes S zs rows (cell_of cells 0) (cell_of cells 1) counts t
+  named : (cells : Cells) → There (lane_as cells) → Named lanes S zs rows (cell_of cells 0) (cell_of cells 1) (found (lane_as cells))
+  named cells t = of_lane_named lanes S zs rows (cell_of cells 0) (cell_of cells 1) (found (lane_as cells)) counts t
 
-  pub lane-parents : (rule base : ℕ) (all : List Cells) (strips : Strips) → 121 ≤ base → base ≤ 123 → length all < 65535 → 1891 ≤ length zs → ((us : List ℕ) (cells : Cells) → index_of us rule cells strips ≡ lane_index us (cell_of cells 0) (cell_of cells 1))
-      → ((i : ℕ) → i < length lanes → (get_or zs (base + i * 6) 0 ≡ 0) × (get_or zs (base + i * 6 + 1) 0 ≡ 0)) → Parents rule base 6 (λ i. i < length lanes) NoWord all strips zs lane_as
-  lane-parents rule base all strips from to few long is blanks =
+  pub lane-parents : (family : Family) (base : ℕ) (all : List Cells) (strips : List (Option ℕ)) → 121 ≤ base → base ≤ 123 → length all < 65535 → 1891 ≤ length zs → ((us : List ℕ) (cells : Cells) → index_of us family cells strips ≡ lane_index us (cell_of cells 0) (cell_of cells 1))
+      → ((i : ℕ) → i < length lanes → (get_or zs (base + i * 6) 0 ≡ 0) × (get_or zs (base + i * 6 + 1) 0 ≡ 0)) → Parents family base 6 (λ i. i < length lanes) NoWord all strips zs lane_as
+  lane-parents family base all strips from to few long is blanks =
       record {
         few = few;
         blank = blanks;
@@ -86,72 +87,50 @@ module _ (lanes : List Cells) (S : ℕ) (zs : List ℕ) (rows : LaneRows lanes S
       }
 
   -- the lines of a lane: those with its section and id
-  pub lane-part : (base : ℕ) (all : List Cells) (strips : Strips) (progress : Progress) (us : List ℕ) → Kept base 6 (λ i. i < length lanes) NoWord all strips zs lane_as (length all) progress us
+  pub lane-part : (base : ℕ) (all : List Cells) (strips : List (Option ℕ)) (progress : Progress) (us : List ℕ) → Kept base 6 (λ i. i < length lanes) NoWord all strips zs lane_as (length all) progress us
       → (i : ℕ) → i < length lanes → Part (of_lane (get_or lanes i no_cells)) all (get_or us (base + i * 6) 0) (get_or us (base + i * 6 + 1) 0)
   lane-part base all strips progress us kept i h =
       kept-part base 6 (λ i. i < length lanes) NoWord all strips zs lane_as progress us kept i h (of_lane (get_or lanes i no_cells))
       (λ k l e.
-      let p = and_both (eqb (cell_of (get_or all k no_cells) 0) (cell_of (get_or lanes i no_cells) 0)) (eqb (cell_of (get_or all k no_cells) 1) (cell_of (get_or lanes i no_cells) 1)) e in
+      let p = pair-tells (cell_of (get_or lanes i no_cells) 0) (cell_of (get_or lanes i no_cells) 1) (get_or all k no_cells) e in
       let n = named (get_or all k no_cells) (kept.there k l) in
-      lane-one lanes S zs rows (lane_as (get_or all k no_cells)).index i n.inside h (n.same_section ∙ eqb-true (cell_of (get_or all k no_cells) 0) (cell_of (get_or lanes i no_cells) 0) p.0) (n.same_id ∙ eqb-true (cell_of (get_or all k no_cells) 1) (cell_of (get_or lanes i no_cells) 1) p.1))
+      lane-one lanes S zs rows (found (lane_as (get_or all k no_cells))).index i n.inside h (n.same_section ∙ p.0) (n.same_id ∙ p.1))
       (λ k l e.
       let n = named (get_or all k no_cells) (kept.there k l) in
-      both (eqb (cell_of (get_or all k no_cells) 0) (cell_of (get_or lanes i no_cells) 0)) (eqb (cell_of (get_or all k no_cells) 1) (cell_of (get_or lanes i no_cells) 1))
-      (eq-eqb (cell_of (get_or all k no_cells) 0) (cell_of (get_or lanes i no_cells) 0) (sym n.same_section ∙ ap (λ (j : ℕ). cell_of (get_or lanes j no_cells) 0) e))
-      (eq-eqb (cell_of (get_or all k no_cells) 1) (cell_of (get_or lanes i no_cells) 1) (sym n.same_id ∙ ap (λ (j : ℕ). cell_of (get_or lanes j no_cells) 1) e)))
+      pair-holds (cell_of (get_or lanes i no_cells) 0) (cell_of (get_or lanes i no_cells) 1) (get_or all k no_cells) (sym n.same_section ∙ ap (λ (j : ℕ). cell_of (get_or lanes j no_cells) 0) e) (sym n.same_id ∙ ap (λ (j : ℕ). cell_of (get_or lanes j no_cells) 1) e))
 
-  -- a line that names a lane of the table, and the lines of a table that follow the lanes
-  lane-is : (cells : Cells) (k : ℕ) → (lane_as cells).there ≡ true → k < length lanes → of_lane (get_or lanes k no_cells) cells ≡ true → (lane_as cells).index ≡ k
-  lane-is cells k t g e =
-      let n = named cells t in
-      let p = and_both (eqb (cell_of cells 0) (cell_of (get_or lanes k no_cells) 0)) (eqb (cell_of cells 1) (cell_of (get_or lanes k no_cells) 1)) e in
-      lane-one lanes S zs rows (lane_as cells).index k n.inside g (n.same_section ∙ eqb-true (cell_of cells 0) (cell_of (get_or lanes k no_cells) 0) p.0) (n.same_id ∙ eqb-true (cell_of cells 1) (cell_of (get_or lanes k no_cells) 1) p.1)
+  -- the lane that a line names, where the table has it
+  pub lane-is : (cells : Cells) (k : ℕ) → k < length lanes → of_lane (get_or lanes k no_cells) cells ≡ true → lane_as cells ≡ Some (index_at k)
+  lane-is cells k g e =
+      let p = pair-tells (cell_of (get_or lanes k no_cells) 0) (cell_of (get_or lanes k no_cells) 1) cells e in
+      ap (λ (a : ℕ). lane_index zs a (cell_of cells 1)) p.0 ∙ ap (lane_index zs (cell_of (get_or lanes k no_cells) 0)) p.1 ∙ lane-found lanes S zs rows counts k g
 
-  pub lane_there_lem : (cells : Cells) (k : ℕ) → k < length lanes → of_lane (get_or lanes k no_cells) cells ≡ true → (lane_as cells).there ≡ true
-  lane_there_lem cells k g e =
-      let p = and_both (eqb (cell_of cells 0) (cell_of (get_or lanes k no_cells) 0)) (eqb (cell_of cells 1) (cell_of (get_or lanes k no_cells) 1)) e in
-      subst (λ (a : ℕ). (lane_index zs a (cell_of cells 1)).there ≡ true) (sym (eqb-true (cell_of cells 0) (cell_of (get_or lanes k no_cells) 0) p.0))
-      (subst (λ (b : ℕ). (lane_index zs (cell_of (get_or lanes k no_cells) 0) b).there ≡ true) (sym (eqb-true (cell_of cells 1) (cell_of (get_or lanes k no_cells) 1) p.1)) (lane-found lanes S zs rows counts k g))
-
-  pub lane-names : (cells : Cells) → (lane_as cells).there ≡ true → (k : ℕ) × (k < length lanes) × (of_lane (get_or lanes k no_cells) cells ≡ true)
+  pub lane-names : (cells : Cells) → There (lane_as cells) → (k : ℕ) × (k < length lanes) × (of_lane (get_or lanes k no_cells) cells ≡ true)
   lane-names cells t =
-      let q = named cells t in (
-        (lane_as cells).index,
-        q.inside,
-        both (eqb (cell_of cells 0) (cell_of (get_or lanes (lane_as cells).index no_cells) 0)) (eqb (cell_of cells 1) (cell_of (get_or lanes (lane_as cells).index no_cells) 1))
-            (eq-eqb (cell_of cells 0) (cell_of (get_or lanes (lane_as cells).index no_cells) 0) (sym q.same_section)) (eq-eqb (cell_of cells 1) (cell_of (get_or lanes (lane_as cells).index no_cells) 1) (sym q.same_id)),
-      )
+      let q = named cells t in
+      let k : ℕ = (found (lane_as cells)).index in
+      (k, q.inside, pair-holds (cell_of (get_or lanes k no_cells) 0) (cell_of (get_or lanes k no_cells) 1) cells (sym q.same_section) (sym q.same_id))
+
+  lane-rank : (cells : Cells) (k : ℕ) → k < length lanes → of_lane (get_or lanes k no_cells) cells ≡ true → (found (lane_as cells)).rank ≡ k
+  lane-rank cells k g e = ap (λ (o : Option Ranked). (found o).rank) (lane-is cells k g e)
 
   -- each line has its lane, and the lanes never go back
-  pub lane-follow : (base : ℕ) (all : List Cells) (strips : Strips) (progress : Progress) (us : List ℕ) → Kept base 6 (λ i. i < length lanes) NoWord all strips zs lane_as (length all) progress us → Follow lanes all of_lane
+  pub lane-follow : (base : ℕ) (all : List Cells) (strips : List (Option ℕ)) (progress : Progress) (us : List ℕ) → Kept base 6 (λ i. i < length lanes) NoWord all strips zs lane_as (length all) progress us → Follow lanes all of_lane
   lane-follow base all strips progress us kept = (
     λ j h. lane-names (get_or all j no_cells) (kept.there j h),
-    λ i j k m h g a b e f.
-        let p = is i k (omega arith) a e in
-        let q = is j m g b f in
-        let r = kept.spans.rising i j h g in
-        let x = (named (get_or all i no_cells) (kept.there i (omega arith))).ranked in
-        let y = (named (get_or all j no_cells) (kept.there j g)).ranked in
-        omega arith,
+    λ i j k m h g a b e f. let p = lane-rank (get_or all i no_cells) k a e in let q = lane-rank (get_or all j no_cells) m b f in let r = kept.spans.rising i j h g in omega arith,
   )
-    where
-      is : (j k : ℕ) → j < length all → k < length lanes → of_lane (get_or lanes k no_cells) (get_or all j no_cells) ≡ true → (lane_as (get_or all j no_cells)).index ≡ k
-      is j k h g e = lane-is (get_or all j no_cells) k (kept.there j h) g e
 
-  pub follow-there : (all : List Cells) → Follow lanes all of_lane → (k : ℕ) → k < length all → (lane_as (get_or all k no_cells)).there ≡ true
-  follow-there all f k h = let q = f.0 k h in lane_there_lem (get_or all k no_cells) q.0 q.1 q.2
+  pub follow-there : (all : List Cells) → Follow lanes all of_lane → (k : ℕ) → k < length all → There (lane_as (get_or all k no_cells))
+  follow-there all f k h = let q = f.0 k h in there (lane-is (get_or all k no_cells) q.0 q.1 q.2)
 
-  pub follow-order : (all : List Cells) → Follow lanes all of_lane → (k : ℕ) → suc k < length all → (lane_as (get_or all k no_cells)).rank ≤ (lane_as (get_or all (suc k) no_cells)).rank
+  pub follow-order : (all : List Cells) → Follow lanes all of_lane → (k : ℕ) → suc k < length all → (found (lane_as (get_or all k no_cells))).rank ≤ (found (lane_as (get_or all (suc k) no_cells))).rank
   follow-order all f k h =
       let a = f.0 k (omega arith) in
       let b = f.0 (suc k) h in
-      let s = follow-there all f k (omega arith) in
-      let t = follow-there all f (suc k) h in
       let o = f.1 k (suc k) a.0 b.0 (omega arith) h a.1 b.1 a.2 b.2 in
-      let x = lane-is (get_or all k no_cells) a.0 s a.1 a.2 in
-      let y = lane-is (get_or all (suc k) no_cells) b.0 t b.1 b.2 in
-      let v = (named (get_or all k no_cells) s).ranked in
-      let w = (named (get_or all (suc k) no_cells) t).ranked in
+      let x = lane-rank (get_or all k no_cells) a.0 a.1 a.2 in
+      let y = lane-rank (get_or all (suc k) no_cells) b.0 b.1 b.2 in
       omega arith
 
 limits-are : (limit_of 6 ≡ 16) × (limit_of 7 ≡ 192) × (limit_of 8 ≡ 512) × (limit_of 9 ≡ 512) × (limit_of 10 ≡ 16) × (limit_of 11 ≡ 256)
@@ -203,16 +182,16 @@ module _ (text : List ℕ) (l n u : ℕ) (state : ℕ → State) (reading : Read
     pub counts-8 : get_or (st 8).words 5 0 ≡ length (lines_of text 6)
     counts-8 = reading.sections 8 (omega arith) (omega arith)
 
-    pub extent-parents : Parents 2 121 6 (λ i. i < length (lines_of text 7)) NoWord (lines_of text 8) (st 8).progress.strips (st 8).words (lane_as (lines_of text 7) (length (lines_of text 6)) (st 8).words rows-8 counts-8 lanes-few)
+    pub extent-parents : Parents Extent 121 6 (λ i. i < length (lines_of text 7)) NoWord (lines_of text 8) (st 8).progress.strips (st 8).words (lane_as (lines_of text 7) (length (lines_of text 6)) (st 8).words rows-8 counts-8 lanes-few)
     extent-parents =
-        lane-parents (lines_of text 7) (length (lines_of text 6)) (st 8).words rows-8 counts-8 lanes-few 2 121 (lines_of text 8) (st 8).progress.strips (omega arith) (omega arith) (let f = few 8 (omega arith) in let e = limits-are.2 in omega arith) (long 8 (omega arith))
+        lane-parents (lines_of text 7) (length (lines_of text 6)) (st 8).words rows-8 counts-8 lanes-few Extent 121 (lines_of text 8) (st 8).progress.strips (omega arith) (omega arith) (let f = few 8 (omega arith) in let e = limits-are.2 in omega arith) (long 8 (omega arith))
         (λ us cells. (index-lane us cells (st 8).progress.strips).0)
         (λ i h. let f = lanes-few in (blank-8 (121 + i * 6) (omega arith) (λ j g. (λ e. omega arith, λ e. omega arith)), blank-8 (121 + i * 6 + 1) (omega arith) (λ j g. (λ e. omega arith, λ e. omega arith))))
 
     module _ (s8 : 8 < u) where
       pub extents : Kept 121 6 (λ i. i < length (lines_of text 7)) NoWord (lines_of text 8) (st 8).progress.strips (st 8).words (lane_as (lines_of text 7) (length (lines_of text 6)) (st 8).words rows-8 counts-8 lanes-few) (length (lines_of text 8)) (track_after 8 0 (lines_of text 8) (st 8).progress (st 8).words) (words_after 8 0 (lines_of text 8) (st 8).progress (st 8).words)
       extents =
-          ranges-kept 121 6 (λ i. i < length (lines_of text 7)) NoWord (lines_of text 8) (st 8).progress.strips (st 8).words (lane_as (lines_of text 7) (length (lines_of text 6)) (st 8).words rows-8 counts-8 lanes-few) 2
+          ranges-kept 121 6 (λ i. i < length (lines_of text 7)) NoWord (lines_of text 8) (st 8).progress.strips (st 8).words (lane_as (lines_of text 7) (length (lines_of text 6)) (st 8).words rows-8 counts-8 lanes-few) Extent
           extent-parents
           8 no_own (none_owned 121 6 (λ i. i < length (lines_of text 7)) (lines_of text 8)) extent-ranged (st 8).progress refl (reading.sound 8 (omega arith))
 
@@ -235,16 +214,16 @@ module _ (text : List ℕ) (l n u : ℕ) (state : ℕ → State) (reading : Read
       pub blank-9 : (p : ℕ) → 119 ≤ p → ((j : ℕ) → j < 192 → (p ≡ 119 + j * 6 → ⊥) × (p ≡ 119 + j * 6 + 1 → ⊥)) → ((j : ℕ) → j < 192 → (p ≡ 121 + j * 6 → ⊥) × (p ≡ 121 + j * 6 + 1 → ⊥)) → get_or (st 9).words p 0 ≡ 0
       blank-9 p h f g = let k = lanes-few in frame-8 p (omega arith) (λ i q. g i (omega arith)) ∙ blank-8 p h f
 
-      pub height-parents : Parents 3 123 6 (λ i. i < length (lines_of text 7)) NoWord (lines_of text 9) (st 9).progress.strips (st 9).words (lane_as (lines_of text 7) (length (lines_of text 6)) (st 9).words rows-9 counts-9 lanes-few)
+      pub height-parents : Parents Height 123 6 (λ i. i < length (lines_of text 7)) NoWord (lines_of text 9) (st 9).progress.strips (st 9).words (lane_as (lines_of text 7) (length (lines_of text 6)) (st 9).words rows-9 counts-9 lanes-few)
       height-parents =
-          lane-parents (lines_of text 7) (length (lines_of text 6)) (st 9).words rows-9 counts-9 lanes-few 3 123 (lines_of text 9) (st 9).progress.strips (omega arith) (omega arith) (let f = few 9 (omega arith) in let e = limits-are.3 in omega arith) (long 9 (omega arith))
+          lane-parents (lines_of text 7) (length (lines_of text 6)) (st 9).words rows-9 counts-9 lanes-few Height 123 (lines_of text 9) (st 9).progress.strips (omega arith) (omega arith) (let f = few 9 (omega arith) in let e = limits-are.3 in omega arith) (long 9 (omega arith))
           (λ us cells. (index-lane us cells (st 9).progress.strips).1)
           (λ i h. let f = lanes-few in (blank-9 (123 + i * 6) (omega arith) (λ j g. (λ e. omega arith, λ e. omega arith)) (λ j g. (λ e. omega arith, λ e. omega arith)), blank-9 (123 + i * 6 + 1) (omega arith) (λ j g. (λ e. omega arith, λ e. omega arith)) (λ j g. (λ e. omega arith, λ e. omega arith))))
 
       module _ (s9 : 9 < u) where
         pub heights : Kept 123 6 (λ i. i < length (lines_of text 7)) NoWord (lines_of text 9) (st 9).progress.strips (st 9).words (lane_as (lines_of text 7) (length (lines_of text 6)) (st 9).words rows-9 counts-9 lanes-few) (length (lines_of text 9)) (track_after 9 0 (lines_of text 9) (st 9).progress (st 9).words) (words_after 9 0 (lines_of text 9) (st 9).progress (st 9).words)
         heights =
-            ranges-kept 123 6 (λ i. i < length (lines_of text 7)) NoWord (lines_of text 9) (st 9).progress.strips (st 9).words (lane_as (lines_of text 7) (length (lines_of text 6)) (st 9).words rows-9 counts-9 lanes-few) 3
+            ranges-kept 123 6 (λ i. i < length (lines_of text 7)) NoWord (lines_of text 9) (st 9).progress.strips (st 9).words (lane_as (lines_of text 7) (length (lines_of text 6)) (st 9).words rows-9 counts-9 lanes-few) Height
             height-parents
             9 no_own (none_owned 123 6 (λ i. i < length (lines_of text 7)) (lines_of text 9)) height-ranged (st 9).progress refl (reading.sound 9 (omega arith))
 
@@ -264,17 +243,18 @@ module _ (text : List ℕ) (l n u : ℕ) (state : ℕ → State) (reading : Read
         pub blank-11 : (p : ℕ) → 1271 ≤ p → get_or (st 11).words p 0 ≡ 0
         blank-11 p h = let k = lanes-few in frame-10 p (omega arith) ∙ frame-9 p (omega arith) (λ i g. (λ e. omega arith, λ e. omega arith)) ∙ blank-9 p (omega arith) (λ j g. (λ e. omega arith, λ e. omega arith)) (λ j g. (λ e. omega arith, λ e. omega arith))
 
-        abbrev pub profile_as : Cells → Index
+        abbrev pub profile_as : Cells → Option Ranked
         profile_as cells = counted (cell_of cells 0) (get_or (st 11).words 6 0)
 
-        pub profile-named : (cells : Cells) → (profile_as cells).there ≡ true → (10000 ≤ cell_of cells 0) × ((profile_as cells).index < length (lines_of text 10)) × ((profile_as cells).rank ≡ (profile_as cells).index) × ((profile_as cells).index ≡ cell_of cells 0 - 10000)
+        -- the profile that a line names is one of the table, by its number
+        pub profile-named : (cells : Cells) → There (profile_as cells) → (10000 ≤ cell_of cells 0) × ((found (profile_as cells)).index < length (lines_of text 10)) × ((found (profile_as cells)).rank ≡ (found (profile_as cells)).index) × ((found (profile_as cells)).index ≡ cell_of cells 0 - 10000)
         profile-named cells t =
-            let c = counted-there (cell_of cells 0) (get_or (st 11).words 6 0) t in
+            let c = counted-there (cell_of cells 0) (get_or (st 11).words 6 0) (found (profile_as cells)) t in
             let d = c.1 in
             let w = reading.profiles 11 (omega arith) (omega arith) in
-            subst (λ (x : Index). (10000 ≤ cell_of cells 0) × (x.index < length (lines_of text 10)) × (x.rank ≡ x.index) × (x.index ≡ cell_of cells 0 - 10000)) (sym c.2) (c.0, omega arith, refl, refl)
+            subst (λ (x : Ranked). (10000 ≤ cell_of cells 0) × (x.index < length (lines_of text 10)) × (x.rank ≡ x.index) × (x.index ≡ cell_of cells 0 - 10000)) (sym c.2) (c.0, omega arith, refl, refl)
 
-        pub shape-parents : Parents 4 1271 2 (λ i. i < length (lines_of text 10)) NoWord (lines_of text 11) (st 11).progress.strips (st 11).words profile_as
+        pub shape-parents : Parents Shape 1271 2 (λ i. i < length (lines_of text 10)) NoWord (lines_of text 11) (st 11).progress.strips (st 11).words profile_as
         shape-parents =
             record {
               few = let f = few 11 (omega arith) in let e = limits-are.5 in omega arith;
@@ -290,7 +270,7 @@ module _ (text : List ℕ) (l n u : ℕ) (state : ℕ → State) (reading : Read
         module _ (s11 : 11 < u) where
           pub shapes : Kept 1271 2 (λ i. i < length (lines_of text 10)) NoWord (lines_of text 11) (st 11).progress.strips (st 11).words profile_as (length (lines_of text 11)) (track_after 11 0 (lines_of text 11) (st 11).progress (st 11).words) (words_after 11 0 (lines_of text 11) (st 11).progress (st 11).words)
           shapes =
-              ranges-kept 1271 2 (λ i. i < length (lines_of text 10)) NoWord (lines_of text 11) (st 11).progress.strips (st 11).words profile_as 4
+              ranges-kept 1271 2 (λ i. i < length (lines_of text 10)) NoWord (lines_of text 11) (st 11).progress.strips (st 11).words profile_as Shape
               shape-parents
               11 no_own (none_owned 1271 2 (λ i. i < length (lines_of text 10)) (lines_of text 11)) shape-ranged (st 11).progress refl (reading.sound 11 (omega arith))
 
@@ -307,6 +287,6 @@ module _ (text : List ℕ) (l n u : ℕ) (state : ℕ → State) (reading : Read
               part_same (under i) (lines_of text 11) (sym ((step 11 (omega arith)).high (1271 + i * 2) (omega arith))) (sym ((step 11 (omega arith)).high (1271 + i * 2 + 1) (omega arith))) p
 
           -- the strips of the progress, before the table strip
-          pub strips-12 : (st 12).progress.strips ≡ strips_of 0 0 0 0
+          pub strips-12 : (st 12).progress.strips ≡ replicate 4 None
           strips-12 =
               (step 11 (omega arith)).strips ∙ shapes.noted ∙ (still-10 text l n u state reading).0 ∙ (step 9 (omega arith)).strips ∙ heights.noted ∙ (step 8 (omega arith)).strips ∙ extents.noted ∙ (step 7 (omega arith)).strips ∙ lanes.noted ∙ blank-strips text l n u state reading (omega arith)

@@ -1,6 +1,6 @@
 -- The words of a stored text pass the tests on words (`structured`) exactly where the lists of the road that it says have right lengths (`structured-says`), test by test.
 -- Slices, codes and kinds always pass. A range is a part of its table (`Part`), so it lies inside the table, the table inside its limit, and its count is how many lines the part has: what is left of its test is the test on that count.
-use Prim.Native.Nat.{ℕ, ◌+◌, ◌-◌, ◌*◌, ◌/◌, ◌%◌, ◌<◌, ◌≤◌}
+use Prim.Native.Nat.{ℕ, ◌+◌, ◌*◌, ◌/◌, ◌%◌, ◌<◌, ◌≤◌}
 use native.Mathlib.Omega.{arith}
 use mathlib.Core.Path.{◌≡◌, refl, sym, ◌∙◌, ap}
 use mathlib.Core.Bool.{Bool, true, false, ◌&&◌, ◌||◌, and-true, and-false}
@@ -21,7 +21,8 @@ use Rattle.admission.specs.Admission.{admit_call}
 use Rattle.reader_schema.specs.Schema.{limits, limit_of}
 use Rattle.reader_lines.specs.Columns.{cell_of, no_cells}
 use Rattle.reader_lines.specs.declared.columns.Cells.{Cells}
-use Rattle.reader_store.specs.Layout.{code_of, counts, count_place}
+use Rattle.std.specs.Prelude.{Some}
+use Rattle.reader_store.specs.Layout.{code_of, count_place}
 use Rattle.reader_store.specs.declared.progress.Progress.{Progress}
 use Rattle.reader_calls.specs.Reading.{done}
 use Rattle.reader_laws.specs.Lines.{lines_of, cubic_in, height_in, geom_said}
@@ -229,10 +230,10 @@ module _ (text : List ℕ) (l m n at count : ℕ) (progress : Progress) (ws : Li
 
   -- the words of the counts
   counts-held : (get_or ws 0 0 ≡ length (T 1)) × (get_or ws 1 0 ≡ length (T 2)) × (get_or ws 2 0 ≡ length (T 3)) × (get_or ws 3 0 ≡ length (T 4)) × (get_or ws 4 0 ≡ length (T 5)) × (get_or ws 5 0 ≡ length (T 6)) × (get_or ws 6 0 ≡ length (T 10))
-  unfolding count_place counts
-  counts-held = (held 1 (omega arith) (omega arith), held 2 (omega arith) (omega arith), held 3 (omega arith) (omega arith), held 4 (omega arith) (omega arith), held 5 (omega arith) (omega arith), held 6 (omega arith) (omega arith), held 10 (omega arith) (omega arith))
+  unfolding count_place
+  counts-held = (held 1 0 (omega arith) refl, held 2 1 (omega arith) refl, held 3 2 (omega arith) refl, held 4 3 (omega arith) refl, held 5 4 (omega arith) refl, held 6 5 (omega arith) refl, held 10 6 (omega arith) refl)
     where
-      held : (t : ℕ) → t < 16 → 0 < count_place t → get_or ws (count_place t - 1) 0 ≡ length (T t)
+      held : (t p : ℕ) → t < 16 → count_place t ≡ Some p → get_or ws p 0 ≡ length (T t)
       held = count_kept_lem text l m n at count progress ws ns vs read
 
   kinds-say : kinds_ok ws ns ≡ true

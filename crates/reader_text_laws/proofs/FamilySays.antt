@@ -1,24 +1,25 @@
 -- A text of right form is sound to the reader exactly where its lines' references and order are right (`sound-is-family`).
-use Prim.Native.Nat.{ℕ, zero, suc, ◌+◌, ◌-◌, ◌*◌, ◌%◌, ◌<◌, ◌≤◌}
+use Prim.Native.Nat.{ℕ, suc, ◌+◌, ◌-◌, ◌*◌, ◌%◌, ◌<◌, ◌≤◌}
 use native.Mathlib.Omega.{arith}
-use native.Mathlib.Nat.{eq-or-lt_of_le, le_of_suc-le-suc}
+use native.Mathlib.Nat.{eq-or-lt_of_le, le_of_suc-le-suc, mod-eq_of_lt}
 use mathlib.Core.Path.{◌≡◌, refl, sym, ◌∙◌, ap, subst}
-use mathlib.Core.Bool.{true, not}
+use mathlib.Core.Bool.{true}
 use mathlib.Core.List.{List}
 use mathlib.Core.Logic.{⊎_elim}
 use lib.ListN.{length, get_or}
-use lib.Dec.{eqb}
 use lib.Ieee.{Float}
-use borrow.Author.Tests.{eqb-true, eq-eqb, ne_eqb}
+use Rattle.std.specs.Prelude.{Option, Some, is_some}
+use Rattle.std.proofs.lemmas.Option.{same_Some}
 use Rattle.reader_lines.specs.Columns.{cell_of, no_cells}
 use Rattle.reader_lines.specs.declared.columns.Cells.{Cells}
-use Rattle.reader_store.specs.Layout.{rules, rule_of}
+use Rattle.reader_store.specs.Layout.{rule_of}
 use Rattle.reader_store.specs.Progress.{strip_line, start_progress}
-use Rattle.reader_store.specs.Parents.{counted, term_of}
+use Rattle.reader_store.specs.Parents.{index_at, counted}
 use Rattle.reader_store.specs.Keep.{strip_named, mark_put, ruled_progress, kept_progress}
-use Rattle.reader_store.specs.Parents.{Index}
+use Rattle.reader_store.specs.declared.layout.Family.TheVariants as families
+use Rattle.reader_store.specs.declared.parents.Ranked.{Ranked}
 use Rattle.reader_store.specs.declared.progress.Progress.{Progress}
-use Rattle.reader_text_laws.proofs.ParentCases.{counted-in}
+use Rattle.reader_text_laws.proofs.ParentCases.{found, There, there, there_if, counted-in}
 use Rattle.reader_calls.specs.Reading.{done, tables_from, zeros, zero_numbers}
 use Rattle.reader_laws.specs.Lines.{lines_of}
 use Rattle.reader_text_laws.specs.Said.{of_lane}
@@ -27,21 +28,17 @@ use Rattle.reader_text_laws.proofs.Folds.{track_after, after-sound, plain-track,
 use Rattle.reader_text_laws.proofs.States.{Reading, state, state-step, state-first, state-end, reading, sound-reading, state-last, state-long, blank}
 use Rattle.reader_text_laws.proofs.Ranges.{NoWord, no_own, none_owned, extent-ranged, height-ranged, shape-ranged, cubic-ranged, ranges-right}
 use Rattle.reader_text_laws.proofs.Lanes.{section_in, lanes-right}
-use Rattle.reader_text_laws.proofs.LaneLines.{and_both, both}
+use Rattle.reader_text_laws.proofs.Those.{pair-tells, pair-holds}
 use Rattle.reader_text_laws.proofs.LaneIds.{ids-kept, id-turn}
 use Rattle.reader_text_laws.proofs.Listed.{strip-cells, cubic-cells}
-use Rattle.reader_text_laws.proofs.ChildLines.{sections-few, lanes-few, profiles-few, lanes, rows-8, counts-8, rows-9, counts-9, extents, heights, shapes, lane_as, extent-parents, height-parents, shape-parents, profile-named, lane-names, lane_there_lem, lane-follow, follow-there, follow-order, strips-12}
-use Rattle.reader_text_laws.proofs.StripLines.{strip_at, strips-few, blank-12, seen-13, noted-13, I, cubics, cubic-parents, Term, term_as, term-rank, term-there, two-bits, mods, compared, strips-right}
+use Rattle.reader_text_laws.proofs.ChildLines.{sections-few, lanes-few, profiles-few, lanes, rows-8, counts-8, rows-9, counts-9, extents, heights, shapes, lane_as, extent-parents, height-parents, shape-parents, profile-named, lane-names, lane-is, lane-follow, follow-there, follow-order, strips-12}
+use Rattle.reader_text_laws.proofs.StripLines.{strip_at, strips-few, blank-12, seen-13, noted-13, I, cubics, cubic-parents, Term, term_as, term-is, term-there, two-bits, mods, strips-right}
 use Rattle.reader_text_laws.proofs.MarkLines.{mark-ranged, MarkWord, mark-there, Marked, rows-14, counts-14, most-14, mark_named, marked-in, parents-14, owned-14, mark-there-14, mark-rising}
 
 -- ---- strips by their pairs
 
 pair_same : (strip r : Cells) → of_pair strip r ≡ true → strip_named r ≡ strip_named strip
-pair_same strip r e =
-    let p = and_both (eqb (cell_of r 0) (cell_of strip 0)) (eqb (cell_of r 1) (cell_of strip 1)) e in
-    let a = eqb-true (cell_of r 0) (cell_of strip 0) p.0 in
-    let b = eqb-true (cell_of r 1) (cell_of strip 1) p.1 in
-    joined (cell_of r 0) (cell_of r 1) (cell_of strip 0) (cell_of strip 1) a b
+pair_same strip r e = let p = pair-tells (cell_of strip 0) (cell_of strip 1) r e in joined (cell_of r 0) (cell_of r 1) (cell_of strip 0) (cell_of strip 1) p.0 p.1
   where
     joined : (x y a b : ℕ) → x ≡ a → y ≡ b → x % 2 * 2 + y % 2 ≡ a % 2 * 2 + b % 2
     joined x y a b p q = omega arith
@@ -49,22 +46,23 @@ pair_same strip r e =
 pair_of : (strip r : Cells) → cell_of strip 0 < 2 → cell_of strip 1 < 2 → cell_of r 0 < 2 → cell_of r 1 < 2 → strip_named r ≡ strip_named strip → of_pair strip r ≡ true
 pair_of strip r a b c d e =
     let t = two-bits (cell_of r 0) (cell_of r 1) (cell_of strip 0) (cell_of strip 1) c d a b (e ∙ bits (cell_of strip 0) (cell_of strip 1) a b) in
-    both (eqb (cell_of r 0) (cell_of strip 0)) (eqb (cell_of r 1) (cell_of strip 1)) (eq-eqb (cell_of r 0) (cell_of strip 0) t.0) (eq-eqb (cell_of r 1) (cell_of strip 1) t.1)
+    pair-holds (cell_of strip 0) (cell_of strip 1) r t.0 t.1
   where
     bits : (x y : ℕ) → x < 2 → y < 2 → x % 2 * 2 + y % 2 ≡ x * 2 + y
     bits x y h g = omega arith
 
-rank-strip : (k m a b : ℕ) → a < 5 → b < 5 → suc k * 5 + a ≤ suc m * 5 + b → k ≤ m
-rank-strip k m a b h g e = compared k m (λ l. omega arith) (λ l. omega arith) (λ l. absurd (omega arith))
+-- one with the pair of another that has a third's
+pair_then : (a b c : Cells) → of_pair a b ≡ true → of_pair b c ≡ true → of_pair a c ≡ true
+pair_then a b c e f =
+    let p = pair-tells (cell_of a 0) (cell_of a 1) b e in
+    let q = pair-tells (cell_of b 0) (cell_of b 1) c f in
+    pair-holds (cell_of a 0) (cell_of a 1) c (q.0 ∙ p.0) (q.1 ∙ p.1)
 
-rank-term : (x y a b : ℕ) → x ≡ y → x * 5 + a ≤ y * 5 + b → a ≤ b
-rank-term x y a b e h = omega arith
+rank-strip : (k m a b : ℕ) → a < 5 → b < 5 → k * 5 + a ≤ m * 5 + b → k ≤ m
+rank-strip k m a b h g e = omega arith
 
 rank-later : (x y a b : ℕ) → a < 5 → b < 5 → x < y → x * 5 + a ≤ y * 5 + b
 rank-later x y a b h g l = omega arith
-
-mod-five : (z : ℕ) → z < 5 → z % 5 ≡ z
-mod-five z h = omega arith
 
 -- ---- a sound text
 
@@ -104,50 +102,51 @@ module _ (text : List ℕ) (l n : ℕ) (st : ℕ → State) (rd : Reading text l
         omega arith,
   )
     where
-      at : (j : ℕ) → j < length (T 11) → (10000 ≤ cell_of (get_or (T 11) j no_cells) 0) × ((counted (cell_of (get_or (T 11) j no_cells) 0) (get_or (st 11).words 6 0)).index < length (T 10)) × ((counted (cell_of (get_or (T 11) j no_cells) 0) (get_or (st 11).words 6 0)).rank ≡ (counted (cell_of (get_or (T 11) j no_cells) 0) (get_or (st 11).words 6 0)).index) × ((counted (cell_of (get_or (T 11) j no_cells) 0) (get_or (st 11).words 6 0)).index ≡ cell_of (get_or (T 11) j no_cells) 0 - 10000)
+      at : (j : ℕ) → j < length (T 11) → (10000 ≤ cell_of (get_or (T 11) j no_cells) 0) × ((found (counted (cell_of (get_or (T 11) j no_cells) 0) (get_or (st 11).words 6 0))).index < length (T 10)) × ((found (counted (cell_of (get_or (T 11) j no_cells) 0) (get_or (st 11).words 6 0))).rank ≡ (found (counted (cell_of (get_or (T 11) j no_cells) 0) (get_or (st 11).words 6 0))).index) × ((found (counted (cell_of (get_or (T 11) j no_cells) 0) (get_or (st 11).words 6 0))).index ≡ cell_of (get_or (T 11) j no_cells) 0 - 10000)
       at j h = profile-named text l n 16 st rd (omega arith) (omega arith) (omega arith) (get_or (T 11) j no_cells) ((shapes text l n 16 st rd (omega arith) (omega arith) (omega arith) (omega arith)).there j h)
 
-  line_of : (j : ℕ) → j < length (T 12) → strip_line (st 13).progress.strips (strip_at (T 12) j) ≡ suc j
+  line_of : (j : ℕ) → j < length (T 12) → strip_line (st 13).progress.strips (strip_at (T 12) j) ≡ Some j
   line_of j h = noted-13 text l n 16 st rd (omega arith) few j h
 
   family-strips : (i j : ℕ) → i < length (T 12) → j < length (T 12) → of_pair (line_at (T 12) i) (line_at (T 12) j) ≡ true → i ≡ j
-  family-strips i j h g e = let z : suc i ≡ suc j = sym (line_of i h) ∙ ap (strip_line (st 13).progress.strips) (sym (pair_same (get_or (T 12) i no_cells) (get_or (T 12) j no_cells) e)) ∙ line_of j g in omega arith
+  family-strips i j h g e = same_Some i j (sym (line_of i h) ∙ ap (strip_line (st 13).progress.strips) (sym (pair_same (get_or (T 12) i no_cells) (get_or (T 12) j no_cells) e)) ∙ line_of j g)
 
   -- a cubic's rank, by its strip's line
-  ranked : (i k : ℕ) → k < length (T 12) → of_pair (get_or (T 12) k no_cells) (get_or (T 13) i no_cells) ≡ true → (term_as (st 13).progress.strips (get_or (T 13) i no_cells)).rank ≡ suc k * 5 + cell_of (get_or (T 13) i no_cells) 2 % 5
-  ranked i k h e = term-rank (st 13).progress.strips (get_or (T 13) i no_cells) ∙ ap (λ (q : ℕ). q * 5 + cell_of (get_or (T 13) i no_cells) 2 % 5) (ap (strip_line (st 13).progress.strips) (pair_same (get_or (T 12) k no_cells) (get_or (T 13) i no_cells) e) ∙ line_of k h)
+  ranked : (i k : ℕ) → k < length (T 12) → of_pair (get_or (T 12) k no_cells) (get_or (T 13) i no_cells) ≡ true → (found (term_as (st 13).progress.strips (get_or (T 13) i no_cells))).rank ≡ k * 5 + cell_of (get_or (T 13) i no_cells) 2 % 5
+  ranked i k h e = ap (λ (o : Option Ranked). (found o).rank) (term-is (st 13).progress.strips (get_or (T 13) i no_cells) k (ap (strip_line (st 13).progress.strips) (pair_same (get_or (T 12) k no_cells) (get_or (T 13) i no_cells) e) ∙ line_of k h))
 
-  rising : (i j : ℕ) → i ≤ j → j < length (T 13) → (term_as (st 13).progress.strips (get_or (T 13) i no_cells)).rank ≤ (term_as (st 13).progress.strips (get_or (T 13) j no_cells)).rank
+  rising : (i j : ℕ) → i ≤ j → j < length (T 13) → (found (term_as (st 13).progress.strips (get_or (T 13) i no_cells))).rank ≤ (found (term_as (st 13).progress.strips (get_or (T 13) j no_cells))).rank
   rising i j g h = (cubics text l n 16 st rd (omega arith) few (omega arith)).spans.rising i j g h
 
   five : (i : ℕ) → cell_of (get_or (T 13) i no_cells) 2 % 5 < 5
   five i = (mods (cell_of (get_or (T 13) i no_cells) 0) (cell_of (get_or (T 13) i no_cells) 1) (cell_of (get_or (T 13) i no_cells) 2)).1
 
+  -- the strip of a cubic
+  strip_found : (j : ℕ) → j < length (T 13) → (k : ℕ) × (k < length (T 12)) × (of_pair (get_or (T 12) k no_cells) (get_or (T 13) j no_cells) ≡ true)
+  strip_found j h =
+      let t = term-there (st 13).progress.strips (get_or (T 13) j no_cells) ((cubics text l n 16 st rd (omega arith) few (omega arith)).there j h) in
+      let s = seen-13 text l n 16 st rd (omega arith) few (strip_at (T 13) j) t.0 (mods (cell_of (get_or (T 13) j no_cells) 0) (cell_of (get_or (T 13) j no_cells) 1) 0).0 t.1 in
+      let a = strip-cells text t.0 in
+      let b = cubic-cells text j in
+      (t.0, s.0, pair_of (get_or (T 12) t.0 no_cells) (get_or (T 13) j no_cells) a.0 a.1 b.0 b.1 (sym s.1))
+
   family-cubics : Follow (T 12) (T 13) of_pair
   family-cubics = (
-    λ j h. found j (strip_line (st 13).progress.strips (strip_at (T 13) j)) refl (term-there (st 13).progress.strips (get_or (T 13) j no_cells) ((cubics text l n 16 st rd (omega arith) few (omega arith)).there j h)),
+    strip_found,
     λ i j k m g h a b e f.
         rank-strip k m (cell_of (get_or (T 13) i no_cells) 2 % 5) (cell_of (get_or (T 13) j no_cells) 2 % 5) (five i) (five j)
-        (subst (λ (q : ℕ). q ≤ suc m * 5 + cell_of (get_or (T 13) j no_cells) 2 % 5) (ranked i k a e) (subst (λ (q : ℕ). (term_as (st 13).progress.strips (get_or (T 13) i no_cells)).rank ≤ q) (ranked j m b f) (rising i j g h))),
+        (subst (λ (q : ℕ). q ≤ m * 5 + cell_of (get_or (T 13) j no_cells) 2 % 5) (ranked i k a e) (subst (λ (q : ℕ). (found (term_as (st 13).progress.strips (get_or (T 13) i no_cells))).rank ≤ q) (ranked j m b f) (rising i j g h))),
   )
-    where
-      found : (j k : ℕ) → strip_line (st 13).progress.strips (strip_at (T 13) j) ≡ k → (strip_line (st 13).progress.strips (strip_at (T 13) j) ≡ 0 → ⊥) → (k : ℕ) × (k < length (T 12)) × (of_pair (get_or (T 12) k no_cells) (get_or (T 13) j no_cells) ≡ true)
-      found j zero e f = absurd (f e)
-      found j (suc k) e f =
-          let s = seen-13 text l n 16 st rd (omega arith) few (strip_at (T 13) j) k (mods (cell_of (get_or (T 13) j no_cells) 0) (cell_of (get_or (T 13) j no_cells) 1) 0).0 e in
-          let a = strip-cells text k in
-          let b = cubic-cells text j in
-          (k, s.0, pair_of (get_or (T 12) k no_cells) (get_or (T 13) j no_cells) a.0 a.1 b.0 b.1 (sym s.1))
 
   family-terms : (i j : ℕ) → i ≤ j → j < length (T 13) → of_pair (line_at (T 13) i) (line_at (T 13) j) ≡ true → cell_of (line_at (T 13) i) 2 ≤ cell_of (line_at (T 13) j) 2
   family-terms i j g h e =
-      let p = term-rank (st 13).progress.strips (get_or (T 13) i no_cells) in
-      let q = term-rank (st 13).progress.strips (get_or (T 13) j no_cells) in
+      let s = strip_found i (omega arith) in
+      let p = ranked i s.0 s.1 s.2 in
+      let q = ranked j s.0 s.1 (pair_then (get_or (T 12) s.0 no_cells) (get_or (T 13) i no_cells) (get_or (T 13) j no_cells) s.2 e) in
       let r = rising i j g h in
-      let a = mod-five (cell_of (get_or (T 13) i no_cells) 2) (cubic-cells text i).2 in
-      let b = mod-five (cell_of (get_or (T 13) j no_cells) 2) (cubic-cells text j).2 in
-      let c = rank-term (strip_line (st 13).progress.strips (strip_at (T 13) i)) (strip_line (st 13).progress.strips (strip_at (T 13) j)) (cell_of (get_or (T 13) i no_cells) 2 % 5) (cell_of (get_or (T 13) j no_cells) 2 % 5) (ap (strip_line (st 13).progress.strips) (sym (pair_same (get_or (T 13) i no_cells) (get_or (T 13) j no_cells) e))) (subst (λ (x : ℕ). x ≤ strip_line (st 13).progress.strips (strip_at (T 13) j) * 5 + cell_of (get_or (T 13) j no_cells) 2 % 5) p (subst (λ (x : ℕ). (term_as (st 13).progress.strips (get_or (T 13) i no_cells)).rank ≤ x) q r)) in
-      subst (λ (x : ℕ). x ≤ cell_of (get_or (T 13) j no_cells) 2) a (subst (λ (x : ℕ). cell_of (get_or (T 13) i no_cells) 2 % 5 ≤ x) b c)
+      let a = mod-eq_of_lt (cubic-cells text i).2 in
+      let b = mod-eq_of_lt (cubic-cells text j).2 in
+      omega arith
 
   mark_at_lem : (j : ℕ) → j < length (T 14) → Marked (length (T 6)) (st 14).words (get_or (T 14) j no_cells)
   mark_at_lem j h = marked-in text l n 16 st rd (omega arith) (get_or (T 14) j no_cells) (mark-there-14 text l n 16 st rd (omega arith) (omega arith) j h)
@@ -171,7 +170,8 @@ module _ (text : List ℕ) (l n : ℕ) (st : ℕ → State) (rd : Reading text l
       let z = rows-14 text l n 16 st rd (omega arith) in
       let c = counts-14 text l n 16 st rd (omega arith) in
       let w = most-14 text l n 16 st rd (omega arith) in
-      lane-names (T 7) (length (T 6)) (st 14).words z c w (get_or (T 14) j no_cells) (sym (mark-there (T 7) (length (T 6)) (st 14).words z c w (get_or (T 14) j no_cells)) ∙ mark-there-14 text l n 16 st rd (omega arith) (omega arith) j h)
+      lane-names (T 7) (length (T 6)) (st 14).words z c w (get_or (T 14) j no_cells)
+      (there_if (lane_as (T 7) (length (T 6)) (st 14).words z c w (get_or (T 14) j no_cells)) (sym (mark-there (T 7) (length (T 6)) (st 14).words z c w (get_or (T 14) j no_cells)) ∙ ap (λ (o : Option Ranked). is_some o) (mark-there-14 text l n 16 st rd (omega arith) (omega arith) j h)))
 
   pub sound-family : 0 < length (T 0) → Family T
   sound-family road =
@@ -192,7 +192,7 @@ module _ (text : List ℕ) (l n : ℕ) (st : ℕ → State) (rd : Reading text l
 -- ---- a right family
 
 plain : ((k : ℕ) (cells : Cells) (progress : Progress) (ws : List ℕ) → (kept_progress 0 k cells progress ws ≡ progress) × (kept_progress 1 k cells progress ws ≡ progress) × (kept_progress 2 k cells progress ws ≡ progress) × (kept_progress 3 k cells progress ws ≡ progress) × (kept_progress 4 k cells progress ws ≡ progress) × (kept_progress 5 k cells progress ws ≡ progress) × (kept_progress 6 k cells progress ws ≡ progress) × (kept_progress 10 k cells progress ws ≡ progress) × (kept_progress 15 k cells progress ws ≡ progress))
-unfolding kept_progress ruled_progress rule_of rules
+unfolding kept_progress ruled_progress rule_of
 plain k cells progress ws = (refl, refl, refl, refl, refl, refl, refl, refl, refl)
 
 module _ (text : List ℕ) (l m n at count : ℕ) (progress : Progress) (ws : List ℕ) (ns : List Float) (vs : List ℕ) (form : tables_from 16 0 text 0 0 start_progress (zeros l) (zero_numbers m) (zeros n) ≡ done at count progress ws ns vs) (words_long : 1891 ≤ length (zeros l)) (numbers_long : 8449 ≤ length (zero_numbers m)) where
@@ -243,7 +243,7 @@ module _ (text : List ℕ) (l m n at count : ℕ) (progress : Progress) (ws : Li
         let z = rows-8 text l n 8 st' r (omega arith) in
         let c = counts-8 text l n 8 st' r (omega arith) in
         let w = lanes-few text l n 8 st' r in
-        ranges-right 121 6 (λ i. i < length (T' 7)) NoWord (T' 8) (st' 8).progress.strips (st' 8).words (lane_as (T' 7) (length (T' 6)) (st' 8).words z c w) 2 (extent-parents text l n 8 st' r (omega arith)) 8 no_own (none_owned 121 6 (λ i. i < length (T' 7)) (T' 8)) extent-ranged
+        ranges-right 121 6 (λ i. i < length (T' 7)) NoWord (T' 8) (st' 8).progress.strips (st' 8).words (lane_as (T' 7) (length (T' 6)) (st' 8).words z c w) families.Extent (extent-parents text l n 8 st' r (omega arith)) 8 no_own (none_owned 121 6 (λ i. i < length (T' 7)) (T' 8)) extent-ranged
         (follow-there (T' 7) (length (T' 6)) (st' 8).words z c w (T' 8) family.extents) (follow-order (T' 7) (length (T' 6)) (st' 8).words z c w (T' 8) family.extents)
         (st' 8).progress refl s (last' 8 (omega arith))
 
@@ -253,18 +253,18 @@ module _ (text : List ℕ) (l m n at count : ℕ) (progress : Progress) (ws : Li
         let z = rows-9 text l n 9 st' r (omega arith) (omega arith) in
         let c = counts-9 text l n 9 st' r (omega arith) (omega arith) in
         let w = lanes-few text l n 9 st' r in
-        ranges-right 123 6 (λ i. i < length (T' 7)) NoWord (T' 9) (st' 9).progress.strips (st' 9).words (lane_as (T' 7) (length (T' 6)) (st' 9).words z c w) 3 (height-parents text l n 9 st' r (omega arith) (omega arith)) 9 no_own (none_owned 123 6 (λ i. i < length (T' 7)) (T' 9)) height-ranged
+        ranges-right 123 6 (λ i. i < length (T' 7)) NoWord (T' 9) (st' 9).progress.strips (st' 9).words (lane_as (T' 7) (length (T' 6)) (st' 9).words z c w) families.Height (height-parents text l n 9 st' r (omega arith) (omega arith)) 9 no_own (none_owned 123 6 (λ i. i < length (T' 7)) (T' 9)) height-ranged
         (follow-there (T' 7) (length (T' 6)) (st' 9).words z c w (T' 9) family.heights) (follow-order (T' 7) (length (T' 6)) (st' 9).words z c w (T' 9) family.heights)
         (st' 9).progress refl s (last' 9 (omega arith))
 
     sound-11 : ((t : ℕ) → t < 11 → Sound t) → (st' 11).progress.sound ≡ true → Sound 11
     sound-11 f s =
-        ranges-right 1271 2 (λ i. i < length (T' 10)) NoWord (T' 11) (st' 11).progress.strips (st' 11).words (λ cells. counted (cell_of cells 0) (get_or (st' 11).words 6 0)) 4 (shape-parents text l n 11 st' (rd' 11 f) (omega arith) (omega arith) (omega arith)) 11 no_own (none_owned 1271 2 (λ i. i < length (T' 10)) (T' 11)) shape-ranged
-        (λ k h. sym (ap (λ (i : Index). i.there) (here k h)))
-        (λ k h. let q = family.shapes.1 k (suc k) (omega arith) h in subst (λ (i : Index). i.rank ≤ (counted (cell_of (get_or (T' 11) (suc k) no_cells) 0) (get_or (st' 11).words 6 0)).rank) (here k (omega arith)) (subst (λ (i : Index). cell_of (get_or (T' 11) k no_cells) 0 - 10000 ≤ i.rank) (here (suc k) h) (omega arith)))
+        ranges-right 1271 2 (λ i. i < length (T' 10)) NoWord (T' 11) (st' 11).progress.strips (st' 11).words (λ cells. counted (cell_of cells 0) (get_or (st' 11).words 6 0)) families.Shape (shape-parents text l n 11 st' (rd' 11 f) (omega arith) (omega arith) (omega arith)) 11 no_own (none_owned 1271 2 (λ i. i < length (T' 10)) (T' 11)) shape-ranged
+        (λ k h. there (here k h))
+        (λ k h. let q = family.shapes.1 k (suc k) (omega arith) h in let a = ap (λ (o : Option Ranked). (found o).rank) (here k (omega arith)) in let b = ap (λ (o : Option Ranked). (found o).rank) (here (suc k) h) in omega arith)
         (st' 11).progress refl s (last' 11 (omega arith))
       where
-        here : (k : ℕ) → k < length (T' 11) → record { there = true; rank = cell_of (get_or (T' 11) k no_cells) 0 - 10000; index = cell_of (get_or (T' 11) k no_cells) 0 - 10000 } ≡ counted (cell_of (get_or (T' 11) k no_cells) 0) (get_or (st' 11).words 6 0)
+        here : (k : ℕ) → k < length (T' 11) → counted (cell_of (get_or (T' 11) k no_cells) 0) (get_or (st' 11).words 6 0) ≡ Some (index_at (cell_of (get_or (T' 11) k no_cells) 0 - 10000))
         here k h = let q = family.shapes.0 k h in let a = q.0 in let b = q.1 in let w = (rd' 11 f).profiles 11 (omega arith) (omega arith) in counted-in (cell_of (get_or (T' 11) k no_cells) 0) (get_or (st' 11).words 6 0) a (omega arith)
 
     few' : (u : ℕ) → Reading text l n u st' → length (T' 10) ≤ 16
@@ -278,36 +278,35 @@ module _ (text : List ℕ) (l m n at count : ℕ) (progress : Progress) (ws : Li
         (st' 12).progress (strips-12 text l n 12 st' r (omega arith) (omega arith) (omega arith) (omega arith)) (λ p h. blank-12 text l n 12 st' r (omega arith) p h (few' 12 r)) s
 
     module _ (f : (t : ℕ) → t < 13 → Sound t) where
-      line_of' : (j : ℕ) → j < length (T' 12) → strip_line (st' 13).progress.strips (strip_at (T' 12) j) ≡ suc j
-      line_of' j h = noted-13 text l n 13 st' (rd' 13 f) (omega arith) (few' 13 (rd' 13 f)) j h
+      -- a cubic's term, by the line of its strip
+      term' : (i k : ℕ) → k < length (T' 12) → of_pair (get_or (T' 12) k no_cells) (get_or (T' 13) i no_cells) ≡ true
+          → term_as (st' 13).progress.strips (get_or (T' 13) i no_cells) ≡ Some (record { rank = k * 5 + cell_of (get_or (T' 13) i no_cells) 2 % 5; index = strip_at (T' 13) i * 11 + cell_of (get_or (T' 13) i no_cells) 2 % 5 * 2 })
+      term' i k h e =
+          term-is (st' 13).progress.strips (get_or (T' 13) i no_cells) k (ap (strip_line (st' 13).progress.strips) (pair_same (get_or (T' 12) k no_cells) (get_or (T' 13) i no_cells) e) ∙ noted-13 text l n 13 st' (rd' 13 f) (omega arith) (few' 13 (rd' 13 f)) k h)
 
-      strip_line_lem : (i k : ℕ) → k < length (T' 12) → of_pair (get_or (T' 12) k no_cells) (get_or (T' 13) i no_cells) ≡ true → strip_line (st' 13).progress.strips (strip_at (T' 13) i) ≡ suc k
-      strip_line_lem i k h e = ap (strip_line (st' 13).progress.strips) (pair_same (get_or (T' 12) k no_cells) (get_or (T' 13) i no_cells) e) ∙ line_of' k h
+      term-here : (k : ℕ) → k < length (T' 13) → There (term_as (st' 13).progress.strips (get_or (T' 13) k no_cells))
+      term-here k h = let q = family.cubics.0 k h in there (term' k q.0 q.1 q.2)
 
-      term-here : (k : ℕ) → k < length (T' 13) → (term_as (st' 13).progress.strips (get_or (T' 13) k no_cells)).there ≡ true
-      unfolding term_of
-      term-here k h = let q = family.cubics.0 k h in let e = strip_line_lem k q.0 q.1 q.2 in ap not (ne_eqb (strip_line (st' 13).progress.strips (strip_at (T' 13) k)) 0 (λ z. omega arith))
-
-      term-order : (k : ℕ) → suc k < length (T' 13) → (term_as (st' 13).progress.strips (get_or (T' 13) k no_cells)).rank ≤ (term_as (st' 13).progress.strips (get_or (T' 13) (suc k) no_cells)).rank
+      term-order : (k : ℕ) → suc k < length (T' 13) → (found (term_as (st' 13).progress.strips (get_or (T' 13) k no_cells))).rank ≤ (found (term_as (st' 13).progress.strips (get_or (T' 13) (suc k) no_cells))).rank
       term-order k h =
           let a = family.cubics.0 k (omega arith) in
           let b = family.cubics.0 (suc k) h in
           let o = family.cubics.1 k (suc k) a.0 b.0 (omega arith) h a.1 b.1 a.2 b.2 in
-          subst (λ (x : ℕ). x ≤ (term_as (st' 13).progress.strips (get_or (T' 13) (suc k) no_cells)).rank) (sym (rank-of k a.0 a.1 a.2))
-          (subst (λ (x : ℕ). suc a.0 * 5 + cell_of (get_or (T' 13) k no_cells) 2 % 5 ≤ x) (sym (rank-of (suc k) b.0 b.1 b.2))
-          (⊎_elim (same a.0 b.0 a.2 b.2) (λ l. rank-later (suc a.0) (suc b.0) (cell_of (get_or (T' 13) k no_cells) 2 % 5) (cell_of (get_or (T' 13) (suc k) no_cells) 2 % 5) (five' k) (five' (suc k)) (omega arith)) (eq-or-lt_of_le o)))
+          subst (λ (x : ℕ). x ≤ (found (term_as (st' 13).progress.strips (get_or (T' 13) (suc k) no_cells))).rank) (sym (rank-of k a.0 a.1 a.2))
+          (subst (λ (x : ℕ). a.0 * 5 + cell_of (get_or (T' 13) k no_cells) 2 % 5 ≤ x) (sym (rank-of (suc k) b.0 b.1 b.2))
+          (⊎_elim (same a.0 b.0 a.2 b.2) (λ l. rank-later a.0 b.0 (cell_of (get_or (T' 13) k no_cells) 2 % 5) (cell_of (get_or (T' 13) (suc k) no_cells) 2 % 5) (five' k) (five' (suc k)) l) (eq-or-lt_of_le o)))
         where
-          rank-of : (i m : ℕ) → m < length (T' 12) → of_pair (get_or (T' 12) m no_cells) (get_or (T' 13) i no_cells) ≡ true → (term_as (st' 13).progress.strips (get_or (T' 13) i no_cells)).rank ≡ suc m * 5 + cell_of (get_or (T' 13) i no_cells) 2 % 5
-          rank-of i m g e = term-rank (st' 13).progress.strips (get_or (T' 13) i no_cells) ∙ ap (λ (q : ℕ). q * 5 + cell_of (get_or (T' 13) i no_cells) 2 % 5) (strip_line_lem i m g e)
+          rank-of : (i m : ℕ) → m < length (T' 12) → of_pair (get_or (T' 12) m no_cells) (get_or (T' 13) i no_cells) ≡ true → (found (term_as (st' 13).progress.strips (get_or (T' 13) i no_cells))).rank ≡ m * 5 + cell_of (get_or (T' 13) i no_cells) 2 % 5
+          rank-of i m g e = ap (λ (o : Option Ranked). (found o).rank) (term' i m g e)
 
           five' : (i : ℕ) → cell_of (get_or (T' 13) i no_cells) 2 % 5 < 5
           five' i = (mods (cell_of (get_or (T' 13) i no_cells) 0) (cell_of (get_or (T' 13) i no_cells) 1) (cell_of (get_or (T' 13) i no_cells) 2)).1
 
-          later : (a b c d : ℕ) → a ≡ b → c < 5 → d < 5 → c ≤ d → suc a * 5 + c % 5 ≤ suc b * 5 + d % 5
-          later a b c d e h g l = let x = mod-five c h in let y = mod-five d g in omega arith
+          later : (a b c d : ℕ) → a ≡ b → c < 5 → d < 5 → c ≤ d → a * 5 + c % 5 ≤ b * 5 + d % 5
+          later a b c d e h g l = let x = mod-eq_of_lt h in let y = mod-eq_of_lt g in omega arith
 
           same : (a b : ℕ) → of_pair (get_or (T' 12) a no_cells) (get_or (T' 13) k no_cells) ≡ true → of_pair (get_or (T' 12) b no_cells) (get_or (T' 13) (suc k) no_cells) ≡ true → a ≡ b
-              → suc a * 5 + cell_of (get_or (T' 13) k no_cells) 2 % 5 ≤ suc b * 5 + cell_of (get_or (T' 13) (suc k) no_cells) 2 % 5
+              → a * 5 + cell_of (get_or (T' 13) k no_cells) 2 % 5 ≤ b * 5 + cell_of (get_or (T' 13) (suc k) no_cells) 2 % 5
           same a b p q e =
               let x = cubic-cells text k in
               let y = cubic-cells text (suc k) in
@@ -318,26 +317,27 @@ module _ (text : List ℕ) (l m n at count : ℕ) (progress : Progress) (ws : Li
 
       sound-13 : (st' 13).progress.sound ≡ true → Sound 13
       sound-13 s =
-          ranges-right 1304 1 Term NoWord (T' 13) (st' 13).progress.strips (st' 13).words (I text l n 13 st' (rd' 13 f) (omega arith) (few' 13 (rd' 13 f))) 5 (cubic-parents text l n 13 st' (rd' 13 f) (omega arith) (few' 13 (rd' 13 f))) 13 no_own (none_owned 1304 1 Term (T' 13)) cubic-ranged
+          ranges-right 1304 1 Term NoWord (T' 13) (st' 13).progress.strips (st' 13).words (I text l n 13 st' (rd' 13 f) (omega arith) (few' 13 (rd' 13 f))) families.Cubic (cubic-parents text l n 13 st' (rd' 13 f) (omega arith) (few' 13 (rd' 13 f))) 13 no_own (none_owned 1304 1 Term (T' 13)) cubic-ranged
           term-here term-order (st' 13).progress refl s (last' 13 (omega arith))
 
     sound-14 : ((t : ℕ) → t < 14 → Sound t) → (st' 14).progress.sound ≡ true → Sound 14
     sound-14 f s =
-        ranges-right 1347 2 (λ i. i < length (T' 6)) MarkWord (T' 14) (st' 14).progress.strips (st' 14).words (mark_named text l n 14 st' r (omega arith)) 6 (parents-14 text l n 14 st' r (omega arith)) 14 mark_put (owned-14 text l n 14 st' r (omega arith)) mark-ranged
-        there
-        (λ k h. let q = family.marks.1 k (suc k) (omega arith) h in let a = (marked-in text l n 14 st' r (omega arith) (get_or (T' 14) k no_cells) (there k (omega arith))).rank in let b = (marked-in text l n 14 st' r (omega arith) (get_or (T' 14) (suc k) no_cells) (there (suc k) h)).rank in omega arith)
+        ranges-right 1347 2 (λ i. i < length (T' 6)) MarkWord (T' 14) (st' 14).progress.strips (st' 14).words (mark_named text l n 14 st' r (omega arith)) families.Mark (parents-14 text l n 14 st' r (omega arith)) 14 mark_put (owned-14 text l n 14 st' r (omega arith)) mark-ranged
+        here
+        (λ k h. let q = family.marks.1 k (suc k) (omega arith) h in let a = (marked-in text l n 14 st' r (omega arith) (get_or (T' 14) k no_cells) (here k (omega arith))).rank in let b = (marked-in text l n 14 st' r (omega arith) (get_or (T' 14) (suc k) no_cells) (here (suc k) h)).rank in omega arith)
         (st' 14).progress refl s (last' 14 (omega arith))
       where
         r : Reading text l n 14 st'
         r = rd' 14 f
 
-        there : (k : ℕ) → k < length (T' 14) → (mark_named text l n 14 st' (rd' 14 f) (omega arith) (get_or (T' 14) k no_cells)).there ≡ true
-        there k h =
+        here : (k : ℕ) → k < length (T' 14) → There (mark_named text l n 14 st' (rd' 14 f) (omega arith) (get_or (T' 14) k no_cells))
+        here k h =
             let z = rows-14 text l n 14 st' (rd' 14 f) (omega arith) in
             let c = counts-14 text l n 14 st' (rd' 14 f) (omega arith) in
             let w = most-14 text l n 14 st' (rd' 14 f) (omega arith) in
             let q = family.mark_lanes k h in
-            mark-there (T' 7) (length (T' 6)) (st' 14).words z c w (get_or (T' 14) k no_cells) ∙ lane_there_lem (T' 7) (length (T' 6)) (st' 14).words z c w (get_or (T' 14) k no_cells) q.0 q.1 q.2
+            there_if (mark_named text l n 14 st' (rd' 14 f) (omega arith) (get_or (T' 14) k no_cells))
+            (mark-there (T' 7) (length (T' 6)) (st' 14).words z c w (get_or (T' 14) k no_cells) ∙ ap (λ (o : Option Ranked). is_some o) (lane-is (T' 7) (length (T' 6)) (st' 14).words z c w (get_or (T' 14) k no_cells) q.0 q.1 q.2))
 
     upto-0 : (t : ℕ) → t < 0 → Sound t
     upto-0 t h = absurd (omega arith)

@@ -1,16 +1,16 @@
 -- A text's tables as they are kept: a state before each table and after it, the words, wants and progress of its lines kept one after another (`Chain`, `chain`).
 -- What holds before a table and is kept by each of its lines holds after it (`after-lines`).
-use Prim.Native.Nat.{ℕ, zero, suc, ◌+◌, ◌-◌, ◌<◌, ◌≤◌}
+use Prim.Native.Nat.{ℕ, zero, suc, ◌+◌, ◌<◌, ◌≤◌}
 use native.Mathlib.Omega.{arith}
 use native.Mathlib.Nat.{le_of_suc-le-suc, not-suc-le-zero, zero-add, add-zero}
 use mathlib.Core.Path.{◌≡◌, refl, sym, ◌∙◌, ap, subst}
 use mathlib.Core.Bool.{Bool, true, false, ◌&&◌, cond}
 use mathlib.Core.List.{List, [], ◌∷◌}
-use lib.ListN.{length, get_or, set, length-set}
+use lib.ListN.{length, get_or, length-set}
 use lib.Seq.{get_or-set_other}
 use lib.Dec.{eqb, ltb}
 use lib.Ieee.{Float}
-use borrow.Author.Tests.{ltb-true, eqb-true, eq-eqb}
+use borrow.Author.Tests.{eqb-true, eq-eqb}
 use Rattle.reader_schema.specs.Schema.{name_of, limit_of}
 use Rattle.reader_cells.specs.Cells.{byte_at, name_span}
 use Rattle.reader_lines.specs.Columns.{no_cells}
@@ -21,7 +21,7 @@ use Rattle.reader_lines.specs.declared.names_line.Head.{Head}
 use Rattle.reader_lines.specs.declared.values_line.Values.{Values}
 use Rattle.reader_lines.specs.declared.columns.Order.{Order}
 use Rattle.reader_lines.specs.declared.columns.Cells.{Cells}
-use Rattle.reader_store.specs.Layout.{count_place, count_kept, numbers_below, wants_kept}
+use Rattle.reader_store.specs.Layout.{count_place, put_at, count_kept, numbers_below, wants_kept}
 use Rattle.reader_store.specs.Progress.{start_progress, unsound_progress, ended_progress}
 use Rattle.reader_store.specs.Keep.{kept_words, kept_progress}
 use Rattle.reader_store.specs.declared.progress.Progress.{Progress}
@@ -101,7 +101,7 @@ words-low : (t : ℕ) → t < 16 → (rows : List Cells) (k : ℕ) (progress : P
 unfolding words_after
 words-low t h [] k progress ws = low_same 7 ws
 words-low t h (r ∷ rs) k progress ws =
-    low-then 7 (words_after t (k + 1) rs (kept_progress t k r progress ws) (kept_words t k r progress ws)) (kept_words t k r progress ws) ws (words-low t h rs (k + 1) (kept_progress t k r progress ws) (kept_words t k r progress ws)) (kept_low 7 (omega arith) t h (word-past t h) k r progress ws)
+    low-then 7 (words_after t (k + 1) rs (kept_progress t k r progress ws) (kept_words t k r progress ws)) (kept_words t k r progress ws) ws (words-low t h rs (k + 1) (kept_progress t k r progress ws) (kept_words t k r progress ws)) (kept_low 7 (omega arith) t (word-past t h) k r progress ws)
 
 -- ---- a table
 
@@ -118,7 +118,7 @@ pub record Step (t : ℕ) (rows : List Cells) (s s' : State) : Type 0 where
   pub strips : s'.progress.strips ≡ (track_after t 0 rows s.progress s.words).strips
   pub last : s.progress.last ≡ 0 → s'.progress.last ≡ 0
   pub size : length s'.words ≡ length s.words
-  pub low : (p : ℕ) → p < 7 → (0 < count_place t → p ≡ count_place t - 1 → ⊥) → get_or s'.words p 0 ≡ get_or s.words p 0
+  pub low : (p : ℕ) → p < 7 → (count_place t ≡ Some p → ⊥) → get_or s'.words p 0 ≡ get_or s.words p 0
   pub high : (p : ℕ) → 7 ≤ p → get_or s'.words p 0 ≡ get_or (words_after t 0 rows s.progress s.words) p 0
   pub wants : s'.wants ≡ wants_after t 0 rows s.wants
 
@@ -152,29 +152,24 @@ lines-by (suc fuel) t order text at k progress ws ns vs = go (eqb (byte_at text 
     go false None ih = tt
 
 module _ (t : ℕ) (small : t < 16) where
-  count-high : (n p : ℕ) (ws : List ℕ) → 7 ≤ p → get_or (count_kept t n ws) p 0 ≡ get_or ws p 0
+  count_other : (n p : ℕ) (ws : List ℕ) → (count_place t ≡ Some p → ⊥) → get_or (count_kept t n ws) p 0 ≡ get_or ws p 0
   unfolding count_kept
-  count-high n p ws h = go (ltb 0 (count_place t)) refl
+  count_other n p ws h = go (count_place t) refl
     where
-      go : (b : Bool) → ltb 0 (count_place t) ≡ b → get_or (cond b (set ws (count_place t - 1) n) ws) p 0 ≡ get_or ws p 0
-      go true e = let f = count-few t small in let g = ltb-true 0 (count_place t) e in get_or-set_other ws (count_place t - 1) p n 0 (λ q. omega arith)
-      go false e = refl
+      go : (o : Option ℕ) → count_place t ≡ o → get_or (put_at o n ws) p 0 ≡ get_or ws p 0
+      go (Some q) e = get_or-set_other ws q p n 0 (λ z. h (e ∙ ap (λ (k : ℕ). Some k) (sym z)))
+      go None e = refl
 
-  count_low : (n p : ℕ) (ws : List ℕ) → (0 < count_place t → p ≡ count_place t - 1 → ⊥) → get_or (count_kept t n ws) p 0 ≡ get_or ws p 0
-  unfolding count_kept
-  count_low n p ws h = go (ltb 0 (count_place t)) refl
-    where
-      go : (b : Bool) → ltb 0 (count_place t) ≡ b → get_or (cond b (set ws (count_place t - 1) n) ws) p 0 ≡ get_or ws p 0
-      go true e = get_or-set_other ws (count_place t - 1) p n 0 (h (ltb-true 0 (count_place t) e))
-      go false e = refl
+  count-high : (n p : ℕ) (ws : List ℕ) → 7 ≤ p → get_or (count_kept t n ws) p 0 ≡ get_or ws p 0
+  count-high n p ws h = count_other n p ws (λ e. let f = count-few t small p e in omega arith)
 
   count-size : (n : ℕ) (ws : List ℕ) → length (count_kept t n ws) ≡ length ws
   unfolding count_kept
-  count-size n ws = go (ltb 0 (count_place t))
+  count-size n ws = go (count_place t)
     where
-      go : (b : Bool) → length (cond b (set ws (count_place t - 1) n) ws) ≡ length ws
-      go true = length-set ws (count_place t - 1) n
-      go false = refl
+      go : (o : Option ℕ) → length (put_at o n ws) ≡ length ws
+      go (Some q) = length-set ws q n
+      go None = refl
 
   counted-strips : (n : ℕ) (progress : Progress) → ((counted_progress t n progress).strips ≡ progress.strips) × ((counted_progress t n progress).last ≡ progress.last)
   unfolding counted_progress
@@ -219,7 +214,7 @@ module _ (t : ℕ) (small : t < 16) where
           strips = c.0 ∙ ap (λ (x : Progress). x.strips) a.2;
           last = λ e. c.1 ∙ ap (λ (x : Progress). x.last) a.2;
           size = ap (λ (zs : List ℕ). length zs) a.3 ∙ count-size n (words_after t 0 rows progress ws) ∙ w.0;
-          low = λ p h f. ap (λ (zs : List ℕ). get_or zs p 0) a.3 ∙ count_low n p (words_after t 0 rows progress ws) f ∙ w.1 p h;
+          low = λ p h f. ap (λ (zs : List ℕ). get_or zs p 0) a.3 ∙ count_other n p (words_after t 0 rows progress ws) f ∙ w.1 p h;
           high = λ p h. ap (λ (zs : List ℕ). get_or zs p 0) a.3 ∙ count-high n p (words_after t 0 rows progress ws) h;
           wants = a.4;
         },

@@ -1,10 +1,10 @@
 -- A section's ids: in a sound text they are 1 to n, then -1 to -m (`ids-kept`); and where they are, it is the turn of each line's id (`id-turn`).
 use Prim.Native.Nat.{ℕ, zero, suc, ◌+◌, ◌-◌, ◌<◌, ◌≤◌, suc-le-suc}
 use native.Mathlib.Omega.{arith}
-use native.Mathlib.Nat.{le_of_suc-le-suc, not-suc-le-zero, eq-or-lt_of_le, zero-lt-suc}
+use native.Mathlib.Nat.{eq-or-lt_of_le, zero-lt-suc}
 use mathlib.Core.Path.{◌≡◌, refl, sym, ◌∙◌, ap, subst}
-use mathlib.Core.Bool.{Bool, true, false, not, ◌&&◌}
-use mathlib.Core.List.{List, [], ◌∷◌, ◌++◌, map}
+use mathlib.Core.Bool.{Bool, true, false, ◌&&◌}
+use mathlib.Core.List.{List, [], ◌∷◌, map}
 use mathlib.Core.Logic.{⊎_elim}
 use lib.ListN.{length, get_or, length-map, length-append, get_or-map}
 use lib.Seq.{ext_get_or}
@@ -15,33 +15,27 @@ use Rattle.records_lent.proofs.TableLaws.{length-table, table_at, span-at}
 use Rattle.reader_lines.specs.Columns.{cell_of, no_cells}
 use Rattle.reader_lines.specs.declared.columns.Cells.{Cells}
 use Rattle.reader_store.specs.Parents.{side_of}
+use Rattle.std.specs.Prelude.{Option, Some}
+use Rattle.std.specs.Cmp.Derive.{both_true}
+use Rattle.std.proofs.lemmas.List.{get_or_append_left, get_or-append-add}
+use Rattle.reader_store.specs.declared.parents.Side.{Side}
+use Rattle.reader_store.specs.declared.parents.Side.TheVariants.{Left, Right}
 use Rattle.reader_store.specs.declared.progress.Progress.{Progress}
-use Rattle.reader_store.specs.declared.progress.Strips.{Strips}
 use Rattle.reader_text_laws.proofs.ParentCases.{side_left, side_right}
 use Rattle.reader_text_laws.specs.Said.{those, under, left_under, right_under}
 use Rattle.reader_text_laws.specs.Family.{ids_of, id_said}
 use Rattle.reader_text_laws.proofs.Those.{Part, those-part, part_length}
 use Rattle.reader_text_laws.proofs.Lanes.{first_at, lefts_at, rights_at, section_in, id_in, Lanes}
-use Rattle.reader_text_laws.proofs.LaneLines.{both, LaneRows, left-part, right-part}
+use Rattle.reader_text_laws.proofs.LaneLines.{LaneRows, left-part, right-part}
 
 -- ---- lists
 
-append-low : {A : Type 0} (xs ys : List A) (q : ℕ) (d : A) → q < length xs → get_or (xs ++ ys) q d ≡ get_or xs q d
-append-low [] ys q d h = absurd (not-suc-le-zero h)
-append-low (x ∷ xs) ys zero d h = refl
-append-low (x ∷ xs) ys (suc q) d h = append-low xs ys q d (le_of_suc-le-suc h)
-
-append-high : {A : Type 0} (xs ys : List A) (q r : ℕ) (d : A) → q ≡ length xs + r → get_or (xs ++ ys) q d ≡ get_or ys r d
-append-high [] ys q r d e = ap (λ (k : ℕ). get_or ys k d) (omega arith)
-append-high (x ∷ xs) ys zero r d e = absurd (omega arith)
-append-high (x ∷ xs) ys (suc q) r d e = append-high xs ys q r d (omega arith)
-
 module _ (n m : ℕ) where
   ids-left : (q : ℕ) → q < n → get_or (ids_of n m) q 0 ≡ 10001 + q
-  ids-left q h = append-low (tabulate (λ k. 10001 + k) n) (tabulate (λ k. 9999 - k) m) q 0 (let l = length-table (λ k. 10001 + k) n in omega arith) ∙ table_at (λ k. 10001 + k) n q 0 h
+  ids-left q h = get_or_append_left (tabulate (λ k. 10001 + k) n) (tabulate (λ k. 9999 - k) m) 0 q (let l = length-table (λ k. 10001 + k) n in omega arith) ∙ table_at (λ k. 10001 + k) n q 0 h
 
   ids-right : (r : ℕ) → r < m → get_or (ids_of n m) (n + r) 0 ≡ 9999 - r
-  ids-right r h = append-high (tabulate (λ k. 10001 + k) n) (tabulate (λ k. 9999 - k) m) (n + r) r 0 (ap (λ (q : ℕ). q + r) (sym (length-table (λ k. 10001 + k) n))) ∙ table_at (λ k. 9999 - k) m r 0 h
+  ids-right r h = ap (λ (q : ℕ). get_or (ids_of n m) (q + r) 0) (sym (length-table (λ k. 10001 + k) n)) ∙ get_or-append-add (tabulate (λ k. 10001 + k) n) (tabulate (λ k. 9999 - k) m) r 0 ∙ table_at (λ k. 9999 - k) m r 0 h
 
   ids-length : length (ids_of n m) ≡ n + m
   ids-length = let a = length-append (tabulate (λ k. 10001 + k) n) (tabulate (λ k. 9999 - k) m) in let b = length-table (λ k. 10001 + k) n in let c = length-table (λ k. 9999 - k) m in omega arith
@@ -130,10 +124,7 @@ module _ (all : List Cells) (S : ℕ) (us : List ℕ) (rows : LaneRows all S us)
 
 -- ---- the turn of an id
 
-side-there : (left right id : ℕ) → (k : ℕ) → suc k ≡ side_of left right id → not (eqb (side_of left right id) 0) ≡ true
-side-there left right id k e = ap not (ne_eqb (side_of left right id) 0 (λ z. let y : suc k ≡ 0 = e ∙ z in omega arith))
-
-module _ (all : List Cells) (S : ℕ) (strips : Strips) (ws : List ℕ) (few : length all ≤ 192)
+module _ (all : List Cells) (S : ℕ) (strips : List (Option ℕ)) (ws : List ℕ) (few : length all ≤ 192)
     (there : (k : ℕ) → k < length all → (10000 ≤ cell_of (get_or all k no_cells) 0) × (section_in all k < S)) (rising : (k : ℕ) → suc k < length all → section_in all k ≤ section_in all (suc k))
     (ids : (i : ℕ) → i < S → map id_said (those (under i) all) ≡ ids_of (length (those (left_under i) all)) (length (those (right_under i) all)))
     (k : ℕ) (progress : Progress) (us : List ℕ) (h : k < length all) (inv : Lanes all S strips ws k progress us) where
@@ -232,7 +223,7 @@ module _ (all : List Cells) (S : ℕ) (strips : Strips) (ws : List ℕ) (few : l
   here : id_in all k ≡ get_or (ids_of n m) c 0
   here = ap (id_in all) (sym begun.sum) ∙ (id-at c (omega arith)).1
 
-  pub id-turn : not (eqb (side_of L R (id_in all k)) 0) ≡ true
+  pub id-turn : (side : Side) × (side_of L R (id_in all k) ≡ Some side)
   id-turn = go (ltb c n) refl
     where
       room : c < n + m
@@ -263,13 +254,13 @@ module _ (all : List Cells) (S : ℕ) (strips : Strips) (ws : List ℕ) (few : l
               plain n = omega arith
           by false false p q = let x = ltb-false L n p in let y = ltb-false n L q in omega arith
 
-      go : (b : Bool) → ltb c n ≡ b → not (eqb (side_of L R (id_in all k)) 0) ≡ true
+      go : (b : Bool) → ltb c n ≡ b → (side : Side) × (side_of L R (id_in all k) ≡ Some side)
       go true e =
           let l = ltb-true c n e in
           let r = none_right l in
           let i = here in
           let d = ids-left n m c l in
-          side-there L R (id_in all k) 0 (side_left L R (id_in all k) (both (eqb (id_in all k) (L + 10001)) (eqb R 0) (eq-eqb (id_in all k) (L + 10001) (omega arith)) (eq-eqb R 0 r)))
+          (Left, side_left L R (id_in all k) (both_true (eq-eqb (id_in all k) (L + 10001) (omega arith)) (eq-eqb R 0 r)))
       go false e =
           let g = ltb-false c n e in
           let l = all_left g in
@@ -279,7 +270,7 @@ module _ (all : List Cells) (S : ℕ) (strips : Strips) (ws : List ℕ) (few : l
           let w : get_or (ids_of n m) c 0 ≡ 9999 - R = ap (λ (q : ℕ). get_or (ids_of n m) q 0) (ap (λ (q : ℕ). q + R) l) ∙ d in
           let b = inv.spans.below s known in
           let low : id_in all k < 10000 = omega arith in
-          side-there L R (id_in all k) 1 (side_right L R (id_in all k) (not_left low (eqb R 0)) low (omega arith))
+          (Right, side_right L R (id_in all k) (not_left low (eqb R 0)) (omega arith))
         where
           not_left : id_in all k < 10000 → (b : Bool) → eqb (id_in all k) (L + 10001) && b ≡ false
           not_left low b = ap (λ (x : Bool). x && b) (ne_eqb (id_in all k) (L + 10001) (λ z. omega arith))

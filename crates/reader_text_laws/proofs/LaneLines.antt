@@ -1,57 +1,39 @@
--- What the words of sections say of the lines of lane: a section's left and right lanes are parts of the table (`left-part`, `right-part`), and the lane that a section and an id name is the one line that has both (`of_lane_named`).
+-- What the words of sections say of the lines of lane: a section's left and right lanes are parts of the table (`left-part`, `right-part`), and the lane that a section and an id name is the one line that has both_true
 use Prim.Native.Nat.{ℕ, ◌+◌, ◌-◌, ◌*◌, ◌<◌, ◌≤◌}
 use native.Mathlib.Omega.{arith}
-use native.Mathlib.Nat.{eq-or-lt_of_le}
 use mathlib.Core.Path.{◌≡◌, refl, sym, ◌∙◌, ap, subst}
-use mathlib.Core.Bool.{Bool, true, false, ◌&&◌, cond}
+use mathlib.Core.Bool.{Bool, true, false, cond}
 use mathlib.Core.List.{List}
-use mathlib.Core.Logic.{⊎_elim}
 use lib.ListN.{length, get_or}
 use lib.Dec.{eqb, ltb}
+use Rattle.std.specs.Prelude.{Option, Some, None, option_and_then}
+use Rattle.std.specs.Cmp.Derive.{both_true}
+use Rattle.std.proofs.lemmas.Bool.{and_parts}
+use Rattle.std.proofs.lemmas.Option.{none-some, same_Some, option_and_then_some}
 use borrow.Author.Tests.{ltb-true, ltb-false, eqb-true, eqb-false, eq-eqb, lt-ltb}
 use Rattle.reader_lines.specs.Columns.{cell_of, no_cells}
 use Rattle.reader_lines.specs.declared.columns.Cells.{Cells}
-use Rattle.reader_store.specs.Parents.{no_index, index_at, counted, lane_among, lane_within, lane_index}
-use Rattle.reader_store.specs.Parents.{Index}
+use Rattle.reader_store.specs.Parents.{index_at, section_at, lane_among, lane_within, lane_index}
+use Rattle.reader_store.specs.declared.parents.Ranked.{Ranked}
 use Rattle.reader_store.specs.declared.progress.Progress.{Progress}
-use Rattle.reader_store.specs.declared.progress.Strips.{Strips}
-use Rattle.reader_text_laws.proofs.ParentCases.{counted-in, by_left, by_right}
+use Rattle.reader_text_laws.proofs.ParentCases.{counted-in, counted-there, by_left, by_right}
 use Rattle.reader_text_laws.specs.Said.{under, left_under, right_under}
 use Rattle.reader_text_laws.proofs.Those.{Part}
-use Rattle.reader_text_laws.proofs.Lanes.{counted-there, first_at, lefts_at, rights_at, section_in, id_in, Lanes}
-
-never : {A : Type 0} → false ≡ true → A
-never e = let z : ◌≡◌ {A = ℕ} 0 1 = cc in absurd (omega arith)
-
-pub and_both : (a b : Bool) → a && b ≡ true → (a ≡ true) × (b ≡ true)
-and_both true true e = (refl, refl)
-and_both true false e = never e
-and_both false b e = never e
-
-pub both : (a b : Bool) → a ≡ true → b ≡ true → a && b ≡ true
-both true true e f = refl
-both true false e f = f
-both false b e f = e
+use Rattle.reader_text_laws.proofs.Lanes.{first_at, lefts_at, rights_at, section_in, id_in, Lanes}
 
 -- a lane that is there is a left one or a right one, and its place is that of its id
-pub among_cases : {A : Type 0} (first left right id : ℕ) → (lane_among first left right id).there ≡ true
-    → (10000 < id → id ≤ left + 10000 → lane_among first left right id ≡ index_at (first + (id - 10001)) → A) → (id < 10000 → 10000 ≤ id + right → lane_among first left right id ≡ index_at (first + left + (9999 - id)) → A) → A
+pub among_cases : {A : Type 0} (first left right id : ℕ) (x : Ranked) → lane_among first left right id ≡ Some x
+    → (10000 < id → id ≤ left + 10000 → x ≡ index_at (first + (id - 10001)) → A) → (id < 10000 → 10000 ≤ id + right → x ≡ index_at (first + left + (9999 - id)) → A) → A
 unfolding lane_among
-among_cases {A} first left right id t l r = go (eqb id 10000) (ltb 10000 id) (ltb (left + 10000) id) (ltb (id + right) 10000) refl refl refl refl t l r
+among_cases {A} first left right id x t l r = go (eqb id 10000) (ltb 10000 id) (ltb (left + 10000) id) (ltb (id + right) 10000) refl refl refl refl t
   where
-    lane : Bool → Bool → Bool → Bool → Index
-    lane a b c d = cond a no_index (cond b (cond c no_index (index_at (first + (id - 10001)))) (cond d no_index (index_at (first + left + (9999 - id)))))
-
-    below : (n : ℕ) → n ≤ 10000 → (n ≡ 10000 → ⊥) → n < 10000
-    below n h f = ⊎_elim (λ e. absurd (f e)) (λ l. l) (eq-or-lt_of_le h)
-
-    go : (a b c d : Bool) → eqb id 10000 ≡ a → ltb 10000 id ≡ b → ltb (left + 10000) id ≡ c → ltb (id + right) 10000 ≡ d → (lane a b c d).there ≡ true
-        → (10000 < id → id ≤ left + 10000 → lane a b c d ≡ index_at (first + (id - 10001)) → A) → (id < 10000 → 10000 ≤ id + right → lane a b c d ≡ index_at (first + left + (9999 - id)) → A) → A
-    go true b c d p q u v e l r = never e
-    go false true true d p q u v e l r = never e
-    go false true false d p q u v e l r = l (ltb-true 10000 id q) (ltb-false (left + 10000) id u) refl
-    go false false c true p q u v e l r = never e
-    go false false c false p q u v e l r = r (below id (ltb-false 10000 id q) (eqb-false id 10000 p)) (ltb-false (id + right) 10000 v) refl
+    go : (a b c d : Bool) → eqb id 10000 ≡ a → ltb 10000 id ≡ b → ltb (left + 10000) id ≡ c → ltb (id + right) 10000 ≡ d
+        → cond a None (cond b (cond c None (Some (index_at (first + (id - 10001))))) (cond d None (Some (index_at (first + left + (9999 - id)))))) ≡ Some x → A
+    go true b c d p q u v e = absurd (none-some x e)
+    go false true true d p q u v e = absurd (none-some x e)
+    go false true false d p q u v e = l (ltb-true 10000 id q) (ltb-false (left + 10000) id u) (sym (same_Some (index_at (first + (id - 10001))) x e))
+    go false false c true p q u v e = absurd (none-some x e)
+    go false false c false p q u v e = r (let m = ltb-false 10000 id q in let n = eqb-false id 10000 p in omega arith) (ltb-false (id + right) 10000 v) (sym (same_Some (index_at (first + left + (9999 - id))) x e))
 
 -- the sections' words and the lines, in words that may have changed elsewhere
 pub record LaneRows (all : List Cells) (S : ℕ) (us : List ℕ) : Type 0 where
@@ -64,7 +46,7 @@ pub record LaneRows (all : List Cells) (S : ℕ) (us : List ℕ) : Type 0 where
   pub lefts : (i j : ℕ) → i < S → first_at us i ≤ j → j < first_at us i + lefts_at us i → id_in all j + first_at us i ≡ 10001 + j
   pub rights : (i j : ℕ) → i < S → first_at us i + lefts_at us i ≤ j → j < first_at us i + lefts_at us i + rights_at us i → id_in all j + j + 1 ≡ 10000 + (first_at us i + lefts_at us i)
 
-pub lane_rows_lem : (all : List Cells) (S : ℕ) (strips : Strips) (ws : List ℕ) (progress : Progress) (us zs : List ℕ) → S ≤ 16 → ((p : ℕ) → 71 ≤ p → p < 119 → get_or zs p 0 ≡ get_or us p 0) → Lanes all S strips ws (length all) progress us → LaneRows all S zs
+pub lane_rows_lem : (all : List Cells) (S : ℕ) (strips : List (Option ℕ)) (ws : List ℕ) (progress : Progress) (us zs : List ℕ) → S ≤ 16 → ((p : ℕ) → 71 ≤ p → p < 119 → get_or zs p 0 ≡ get_or us p 0) → Lanes all S strips ws (length all) progress us → LaneRows all S zs
 lane_rows_lem all S strips ws progress us zs small same inv =
     record {
       sections = small;
@@ -93,7 +75,7 @@ module _ (all : List Cells) (S : ℕ) (us : List ℕ) (rows : LaneRows all S us)
       record {
         fits = let b = rows.below i h in omega arith;
         within = λ j l e.
-            let p = and_both (under i (get_or all j no_cells)) (ltb 10000 (id_in all j)) e in
+            let p = and_parts (under i (get_or all j no_cells)) (ltb 10000 (id_in all j)) e in
             let a = eqb-true (cell_of (get_or all j no_cells) 0) (10000 + i) p.0 in
             let b = ltb-true 10000 (id_in all j) p.1 in
             let s : section_in all j ≡ i = omega arith in
@@ -104,7 +86,7 @@ module _ (all : List Cells) (S : ℕ) (us : List ℕ) (rows : LaneRows all S us)
             let f = rows.below i h in
             let s = rows.section j (omega arith) in
             let d = rows.lefts i j h a b in
-            both (under i (get_or all j no_cells)) (ltb 10000 (id_in all j)) (eq-eqb (cell_of (get_or all j no_cells) 0) (10000 + i) (omega arith)) (lt-ltb 10000 (id_in all j) (omega arith));
+            both_true (eq-eqb (cell_of (get_or all j no_cells) 0) (10000 + i) (omega arith)) (lt-ltb 10000 (id_in all j) (omega arith));
       }
     where
       side : (j : ℕ) → first_at us i ≤ j → j < first_at us i + lefts_at us i + rights_at us i → 10000 < id_in all j → (b : Bool) → ltb j (first_at us i + lefts_at us i) ≡ b → j < first_at us i + lefts_at us i
@@ -116,7 +98,7 @@ module _ (all : List Cells) (S : ℕ) (us : List ℕ) (rows : LaneRows all S us)
       record {
         fits = rows.below i h;
         within = λ j l e.
-            let p = and_both (under i (get_or all j no_cells)) (ltb (id_in all j) 10000) e in
+            let p = and_parts (under i (get_or all j no_cells)) (ltb (id_in all j) 10000) e in
             let a = eqb-true (cell_of (get_or all j no_cells) 0) (10000 + i) p.0 in
             let b = ltb-true (id_in all j) 10000 p.1 in
             let s : section_in all j ≡ i = omega arith in
@@ -127,7 +109,7 @@ module _ (all : List Cells) (S : ℕ) (us : List ℕ) (rows : LaneRows all S us)
             let f = rows.below i h in
             let s = rows.section j (omega arith) in
             let d = rows.rights i j h a b in
-            both (under i (get_or all j no_cells)) (ltb (id_in all j) 10000) (eq-eqb (cell_of (get_or all j no_cells) 0) (10000 + i) (omega arith)) (lt-ltb (id_in all j) 10000 (omega arith));
+            both_true (eq-eqb (cell_of (get_or all j no_cells) 0) (10000 + i) (omega arith)) (lt-ltb (id_in all j) 10000 (omega arith));
       }
     where
       side : (j : ℕ) → first_at us i ≤ j → id_in all j < 10000 → (b : Bool) → ltb j (first_at us i + lefts_at us i) ≡ b → first_at us i + lefts_at us i ≤ j
@@ -156,11 +138,11 @@ module _ (all : List Cells) (S : ℕ) (us : List ℕ) (rows : LaneRows all S us)
       go a b c d false false u v = let w = rows.rights q i l (ltb-false i (first_at us q + lefts_at us q) u) b in let z = rows.rights q j l (ltb-false j (first_at us q + lefts_at us q) v) d in omega arith
 
   -- the lane that a section and an id name
-  pub record Named (section id : ℕ) (index : Index) : Type 0 where
-    pub inside : index.index < length all
-    pub ranked : index.rank ≡ index.index
-    pub same_section : cell_of (get_or all index.index no_cells) 0 ≡ section
-    pub same_id : id_in all index.index ≡ id
+  pub record Named (section id : ℕ) (x : Ranked) : Type 0 where
+    pub inside : x.index < length all
+    pub ranked : x.rank ≡ x.index
+    pub same_section : cell_of (get_or all x.index no_cells) 0 ≡ section
+    pub same_id : id_in all x.index ≡ id
 
   module _ (section id : ℕ) (from : 10000 ≤ section) (known : section - 10000 < S) where
     abbrev s : ℕ
@@ -173,50 +155,44 @@ module _ (all : List Cells) (S : ℕ) (us : List ℕ) (rows : LaneRows all S us)
         let t = rows.section j (omega arith) in
         record { inside = omega arith; ranked = refl; same_section = omega arith; same_id = e }
 
-    named_by : (lane_among (first_at us s) (lefts_at us s) (rights_at us s) id).there ≡ true → Named section id (lane_among (first_at us s) (lefts_at us s) (rights_at us s) id)
-    named_by t =
-        among_cases (first_at us s) (lefts_at us s) (rights_at us s) id t
-        (λ x y e.
+    named_by : (x : Ranked) → lane_within us id (index_at s) ≡ Some x → Named section id x
+    named_by x t =
+        among_cases (first_at us s) (lefts_at us s) (rights_at us s) id x t
+        (λ a b e.
         let w = rows.lefts s (first_at us s + (id - 10001)) known (omega arith) (omega arith) in
         subst (Named section id) (sym e) (named-at (first_at us s + (id - 10001)) (omega arith) (omega arith) (omega arith)))
-        (λ x y e.
+        (λ a b e.
         let w = rows.rights s (first_at us s + lefts_at us s + (9999 - id)) known (omega arith) (omega arith) in
         subst (Named section id) (sym e) (named-at (first_at us s + lefts_at us s + (9999 - id)) (omega arith) (omega arith) (omega arith)))
 
-  pub of_lane_named : (section id : ℕ) → get_or us 5 0 ≡ S → (lane_index us section id).there ≡ true → Named section id (lane_index us section id)
+  pub of_lane_named : (section id : ℕ) (x : Ranked) → get_or us 5 0 ≡ S → lane_index us section id ≡ Some x → Named section id x
   unfolding lane_index
-  of_lane_named section id e t =
-      let c = counted-there section (get_or us 5 0) (first-there (counted section (get_or us 5 0)) t) in
-      let i : lane_within us id (counted section (get_or us 5 0)) ≡ lane_among (first_at us (section - 10000)) (lefts_at us (section - 10000)) (rights_at us (section - 10000)) id = ap (lane_within us id) c.2 in
-      subst (Named section id) (sym i) (named_by section id c.0 (let k = c.1 in omega arith) (ap (λ (x : Index). x.there) (sym i) ∙ t))
-    where
-      first-there : (x : Index) → (lane_within us id x).there ≡ true → x.there ≡ true
-      first-there x = go x.there
-        where
-          go : (b : Bool) → (cond b (lane_among (get_or us (71 + 3 * x.index) 0) (get_or us (71 + 3 * x.index + 1) 0) (get_or us (71 + 3 * x.index + 2) 0) id) no_index).there ≡ true → b ≡ true
-          go true e = refl
-          go false e = e
+  of_lane_named section id x e t =
+      option_and_then_some (lane_within us id) (section_at us section) x t
+      (λ r f g. let c = counted-there section (get_or us 5 0) r f in named_by section id c.0 (let k = c.1 in omega arith) x (subst (λ (r : Ranked). lane_within us id r ≡ Some x) c.2 g))
 
   -- every line of lane is named by its section and id
-  pub lane-found : get_or us 5 0 ≡ S → (j : ℕ) → j < length all → (lane_index us (cell_of (get_or all j no_cells) 0) (id_in all j)).there ≡ true
+  pub lane-found : get_or us 5 0 ≡ S → (j : ℕ) → j < length all → lane_index us (cell_of (get_or all j no_cells) 0) (id_in all j) ≡ Some (index_at j)
   unfolding lane_index
   lane-found e j h =
       let t = rows.section j h in
       let k = rows.known j h in
-      let c = counted-in (cell_of (get_or all j no_cells) 0) (get_or us 5 0) t (omega arith) in
-      ap (λ (i : Index). (lane_within us (id_in all j) i).there) (sym c) ∙ go (ltb j (first_at us (section_in all j) + lefts_at us (section_in all j))) refl
+      ap (option_and_then (lane_within us (id_in all j))) (counted-in (cell_of (get_or all j no_cells) 0) (get_or us 5 0) t (omega arith)) ∙ go (ltb j (first_at us (section_in all j) + lefts_at us (section_in all j))) refl
     where
       q : ℕ
       q = section_in all j
 
-      go : (b : Bool) → ltb j (first_at us q + lefts_at us q) ≡ b → (lane_among (first_at us q) (lefts_at us q) (rights_at us q) (id_in all j)).there ≡ true
+      here : (i : ℕ) → i ≡ j → Some (index_at i) ≡ Some (index_at j)
+      here i f = ap (λ (i : ℕ). Some (index_at i)) f
+
+      go : (b : Bool) → ltb j (first_at us q + lefts_at us q) ≡ b → lane_within us (id_in all j) (index_at q) ≡ Some (index_at j)
       go true f =
           let a = (rows.into j h).0 in
           let d = ltb-true j (first_at us q + lefts_at us q) f in
           let w = rows.lefts q j (rows.known j h) a d in
-          ap (λ (i : Index). i.there) (sym (by_left (first_at us q) (lefts_at us q) (rights_at us q) (id_in all j) (λ z. omega arith) (omega arith) (omega arith)))
+          by_left (first_at us q) (lefts_at us q) (rights_at us q) (id_in all j) (omega arith) (omega arith) ∙ here (first_at us q + (id_in all j - 10001)) (omega arith)
       go false f =
           let a = (rows.into j h).1 in
           let d = ltb-false j (first_at us q + lefts_at us q) f in
           let w = rows.rights q j (rows.known j h) d a in
-          ap (λ (i : Index). i.there) (sym (by_right (first_at us q) (lefts_at us q) (rights_at us q) (id_in all j) (λ z. omega arith) (omega arith) (omega arith)))
+          by_right (first_at us q) (lefts_at us q) (rights_at us q) (id_in all j) (omega arith) (omega arith) ∙ here (first_at us q + lefts_at us q + (9999 - id_in all j)) (omega arith)

@@ -4,51 +4,50 @@ use native.Mathlib.Omega.{arith}
 use native.Mathlib.Nat.{le_of_suc-le-suc, eq-or-lt_of_le}
 use native.Mathlib.Numerals.{add-one}
 use mathlib.Core.Path.{◌≡◌, refl, sym, ◌∙◌, ap, subst}
-use mathlib.Core.Bool.{Bool, true, false, not, ◌&&◌, cond}
+use mathlib.Core.Bool.{Bool, true, false, ◌&&◌, cond}
 use mathlib.Core.List.{List}
 use mathlib.Core.Logic.{⊎_elim}
 use lib.ListN.{length, get_or, set, length-set}
 use lib.Seq.{get_or-set_same, get_or-set_other}
-use lib.Dec.{eqb, ltb, leb}
-use borrow.Author.Tests.{ltb-false, leb-false, eqb-true, eqb-false, eq-eqb}
+use lib.Dec.{eqb}
+use borrow.Author.Tests.{eqb-true, eq-eqb}
+use Rattle.std.specs.Prelude.{Option, Some, option_map, option_and_then}
+use Rattle.std.proofs.lemmas.Bool.{cases_eq}
+use Rattle.std.proofs.lemmas.Option.{option_and_then_some}
 use Rattle.reader_lines.specs.Columns.{cell_of, no_cells}
 use Rattle.reader_lines.specs.declared.columns.Cells.{Cells}
-use Rattle.reader_store.specs.Layout.{places, place_at, one_more, code_of, words, word_place, word_put, words_below, rules, rule_of}
-use Rattle.reader_store.specs.Parents.{no_index, index_at, counted, side_of, lane_under, lane_turn, parent_of}
-use Rattle.reader_store.specs.Keep.{first_line, added, under_words, under_progress, own_words, ruled_words, ruled_progress, kept_words, kept_progress}
-use Rattle.reader_store.specs.Parents.{Index}
-use Rattle.reader_store.specs.Parents.{Parent}
+use Rattle.reader_store.specs.Layout.{word_lines, one_more, code_of, word_row, word_place, word_put, words_below, rule_of}
+use Rattle.reader_store.specs.Parents.{index_at, section_at, side_of, side_word, lane_beside, lane_under, lane_turn, parent_of}
+use Rattle.reader_store.specs.Keep.{added, under_words, under_progress, own_words, ruled_words, ruled_progress, kept_words, kept_progress}
+use Rattle.reader_store.specs.declared.parents.Ranked.{Ranked}
+use Rattle.reader_store.specs.declared.parents.Counted.{Counted}
+use Rattle.reader_store.specs.declared.parents.Side.{Side}
 use Rattle.reader_store.specs.declared.progress.Progress.{Progress}
-use Rattle.reader_store.specs.declared.progress.Strips.{Strips}
-use Rattle.reader_text_laws.proofs.ParentCases.{counted-in}
+use Rattle.reader_text_laws.proofs.ParentCases.{map_some, counted-in, counted-there}
 use Rattle.reader_store.proofs.SideLaw.{side-cases}
 use Rattle.reader_text_laws.proofs.Spans.{Spans, spans-start, spans-next, whole}
 use Rattle.reader_text_laws.proofs.Folds.{track_after, words_after, after-lines, right-lines}
-use Rattle.reader_text_laws.proofs.Ranges.{held_by, Under, under-sound, under-right, one_more_lem}
-
-never : {A : Type 0} → false ≡ true → A
-never e = let z : ◌≡◌ {A = ℕ} 0 1 = cc in absurd (omega arith)
+use Rattle.reader_text_laws.proofs.Ranges.{held_by, Under, under-there, under-sound, under-right, first-put, one_more_lem}
 
 -- ---- the rules that a line of lane meets
 
-pub counted-there : (number n : ℕ) → (counted number n).there ≡ true → (10000 ≤ number) × (number - 10000 < n) × (counted number n ≡ index_at (number - 10000))
-unfolding counted
-counted-there number n e = go (ltb number 10000) (leb n (number - 10000)) refl refl e
+-- a lane whose turn it is: its section is there, and it has a side
+turn_there : {P : Type 0} (ws : List ℕ) (section id : ℕ) (parent : Counted) → lane_turn ws section id ≡ Some parent
+    → ((side : Side) → (10000 ≤ section) × (section - 10000 < get_or ws 5 0) → side_of (get_or ws (71 + 3 * (section - 10000) + 1) 0) (get_or ws (71 + 3 * (section - 10000) + 2) 0) id ≡ Some side → lane_beside ws (index_at (section - 10000)) side ≡ parent → P) → P
+unfolding lane_turn
+turn_there {P} ws section id parent e go = option_and_then_some (lane_under ws id) (section_at ws section) parent e (λ s f g. let c = counted-there section (get_or ws 5 0) s f in at (c.0, c.1) (subst (λ (s : Ranked). lane_under ws id s ≡ Some parent) c.2 g))
   where
-    go : (a b : Bool) → ltb number 10000 ≡ a → leb n (number - 10000) ≡ b → (cond a no_index (cond b no_index (index_at (number - 10000)))).there ≡ true
-        → (10000 ≤ number) × (number - 10000 < n) × (cond a no_index (cond b no_index (index_at (number - 10000))) ≡ index_at (number - 10000))
-    go true b p q s = never s
-    go false true p q s = never s
-    go false false p q s = (ltb-false number 10000 p, leb-false n (number - 10000) q, refl)
+    at : (10000 ≤ section) × (section - 10000 < get_or ws 5 0) → lane_under ws id (index_at (section - 10000)) ≡ Some parent → P
+    at h f = map_some (lane_beside ws (index_at (section - 10000))) (side_of (get_or ws (71 + 3 * (section - 10000) + 1) 0) (get_or ws (71 + 3 * (section - 10000) + 2) 0) id) parent f (λ side g i. go side h g i)
 
 lane_words_lem : (k : ℕ) (cells : Cells) (us : List ℕ) → words_below 7 k cells 8 us ≡ set (set us (119 + k * 6 + 0) (code_of (cell_of cells 2))) (119 + k * 6 + 1) (code_of (cell_of cells 3))
-unfolding words_below word_put word_place words place_at places
+unfolding words_below word_put word_place word_row word_lines
 lane_words_lem k cells us = refl
 
 lane_line_lem : (k : ℕ) (cells : Cells) (progress : Progress) (us : List ℕ)
     → (kept_words 7 k cells progress us ≡ under_words (words_below 7 k cells 8 us) k (lane_turn (words_below 7 k cells 8 us) (cell_of cells 0) (cell_of cells 1)) progress)
     × (kept_progress 7 k cells progress us ≡ under_progress (lane_turn (words_below 7 k cells 8 us) (cell_of cells 0) (cell_of cells 1)) progress)
-unfolding kept_words ruled_words own_words kept_progress ruled_progress rule_of rules parent_of
+unfolding kept_words ruled_words own_words kept_progress ruled_progress rule_of parent_of
 lane_line_lem k cells progress us = (refl, refl)
 
 -- the first line of a section without lanes, and of one that has some
@@ -81,7 +80,7 @@ section_in all j = cell_of (get_or all j no_cells) 0 - 10000
 abbrev pub id_in : List Cells → ℕ → ℕ
 id_in all j = cell_of (get_or all j no_cells) 1
 
-pub record Lanes (all : List Cells) (S : ℕ) (strips : Strips) (ws : List ℕ) (k : ℕ) (progress : Progress) (us : List ℕ) : Type 0 where
+pub record Lanes (all : List Cells) (S : ℕ) (strips : List (Option ℕ)) (ws : List ℕ) (k : ℕ) (progress : Progress) (us : List ℕ) : Type 0 where
   pub noted : progress.strips ≡ strips
   pub size : length us ≡ length ws
   pub low : (p : ℕ) → p < 71 → get_or us p 0 ≡ get_or ws p 0
@@ -93,7 +92,7 @@ pub record Lanes (all : List Cells) (S : ℕ) (strips : Strips) (ws : List ℕ) 
   pub lefts : (i j : ℕ) → i < S → first_at us i ≤ j → j < first_at us i + lefts_at us i → id_in all j + first_at us i ≡ 10001 + j
   pub rights : (i j : ℕ) → i < S → first_at us i + lefts_at us i ≤ j → j < first_at us i + lefts_at us i + rights_at us i → id_in all j + j + 1 ≡ 10000 + (first_at us i + lefts_at us i)
 
-module _ (all : List Cells) (S : ℕ) (strips : Strips) (ws : List ℕ) (sections : S ≤ 16) (few : length all ≤ 192) (long : 1891 ≤ length ws) (counts : get_or ws 5 0 ≡ S) where
+module _ (all : List Cells) (S : ℕ) (strips : List (Option ℕ)) (ws : List ℕ) (sections : S ≤ 16) (few : length all ≤ 192) (long : 1891 ≤ length ws) (counts : get_or ws 5 0 ≡ S) where
   module _ (k : ℕ) (progress : Progress) (us : List ℕ) (small : k < length all) (inv : Lanes all S strips ws k progress us) where
     abbrev cells : Cells
     cells = get_or all k no_cells
@@ -206,16 +205,12 @@ module _ (all : List Cells) (S : ℕ) (strips : Strips) (ws : List ℕ) (section
               extent = λ j h. three_other (119 + j * 6) (λ e. omega arith) (λ e. omega arith) ∙ ⊎_elim (λ e. subst (λ (j : ℕ). get_or us1 (119 + j * 6) 0 ≡ code_of (cell_of (get_or all j no_cells) 2)) (sym e) one-extent) (λ l. one-other (119 + j * 6) (λ e. omega arith) (λ e. omega arith) ∙ inv.extent j l) (eq-or-lt_of_le (omega arith));
               level = λ j h. three_other (119 + j * 6 + 1) (λ e. omega arith) (λ e. omega arith) ∙ ⊎_elim (λ e. subst (λ (j : ℕ). get_or us1 (119 + j * 6 + 1) 0 ≡ code_of (cell_of (get_or all j no_cells) 3)) (sym e) one-level) (λ l. one-other (119 + j * 6 + 1) (λ e. omega arith) (λ e. omega arith) ∙ inv.level j l) (eq-or-lt_of_le (omega arith));
               spans = subst (λ (n : ℕ). Spans (λ i. i < S) (section_in all) (section_in all) n s (first_at us3) (λ i. lefts_at us3 i + rights_at us3 i)) (sym (add-one k)) next;
-              lefts = λ i j h. by i h (λ (i : ℕ). first_at us3 i ≤ j → j < first_at us3 i + lefts_at us3 i → id_in all j + first_at us3 i ≡ 10001 + j) (mine-left j) (λ n a b. let o = others i h n in let p = o.0 in let q = o.1 in let f = inv.lefts i j h (omega arith) (omega arith) in omega arith);
-              rights = λ i j h. by i h (λ (i : ℕ). first_at us3 i + lefts_at us3 i ≤ j → j < first_at us3 i + lefts_at us3 i + rights_at us3 i → id_in all j + j + 1 ≡ 10000 + (first_at us3 i + lefts_at us3 i)) (mine-right j) (λ n a b. let o = others i h n in let p = o.0 in let q = o.1 in let r = o.2 in let f = inv.rights i j h (omega arith) (omega arith) in omega arith);
+              lefts = λ i j h. by i (λ (i : ℕ). first_at us3 i ≤ j → j < first_at us3 i + lefts_at us3 i → id_in all j + first_at us3 i ≡ 10001 + j) (mine-left j) (λ n a b. let o = others i h n in let p = o.0 in let q = o.1 in let f = inv.lefts i j h (omega arith) (omega arith) in omega arith);
+              rights = λ i j h. by i (λ (i : ℕ). first_at us3 i + lefts_at us3 i ≤ j → j < first_at us3 i + lefts_at us3 i + rights_at us3 i → id_in all j + j + 1 ≡ 10000 + (first_at us3 i + lefts_at us3 i)) (mine-right j) (λ n a b. let o = others i h n in let p = o.0 in let q = o.1 in let r = o.2 in let f = inv.rights i j h (omega arith) (omega arith) in omega arith);
             }
           where
-            by : (i : ℕ) → i < S → (P : ℕ → Type 0) → P s → ((i ≡ s → ⊥) → P i) → P i
-            by i h P p f = go (eqb i s) refl
-              where
-                go : (b : Bool) → eqb i s ≡ b → P i
-                go true e = subst P (sym (eqb-true i s e)) p
-                go false e = f (eqb-false i s e)
+            by : (i : ℕ) → (P : ℕ → Type 0) → P s → ((i ≡ s → ⊥) → P i) → P i
+            by i P p f = ⊎_elim (λ e. subst P (sym e) p) f (cases_eq i s)
 
     module _ (there : 10000 ≤ cell_of cells 0) (known : s < S) (order : progress.last ≤ s) where
       abbrev words_by : ℕ → List ℕ
@@ -294,42 +289,48 @@ module _ (all : List Cells) (S : ℕ) (strips : Strips) (ws : List ℕ) (section
               the : j < suc k → j < suc k
               the h = h
 
-      abbrev lane : Parent
-      lane = lane_under us1 (cell_of cells 1) (index_at s)
+      -- the line beside the others of its side
+      abbrev lane : Side → Counted
+      lane side = lane_beside us1 (index_at s) side
 
-      lane-turned : Under us1 k lane progress → Lanes all S strips ws (k + 1) (under_progress lane progress) (under_words us1 k lane progress)
-      unfolding added first_line
-      lane-turned u =
-          subst (λ (y : Progress). Lanes all S strips ws (k + 1) y (under_words us1 k lane progress)) (sym u.held)
-          (subst (λ (zs : List ℕ). Lanes all S strips ws (k + 1) (held_by lane progress) zs) (sym u.words)
-          (side-cases (get_or us1 (71 + 3 * s + 1) 0) (get_or us1 (71 + 3 * s + 2) 0) (cell_of cells 1) u.there
-          (λ e id none. let a = one-low (71 + 3 * s + 1) (omega arith) in let b = one-low (71 + 3 * s + 2) (omega arith) in subst Next (sym e) (left-line (omega arith) (omega arith)))
-          (λ e id. let b = one-low (71 + 3 * s + 2) (omega arith) in subst Next (sym e) (right-line (omega arith)))))
+      lane-added : (side : Side) → added us1 k (lane side) ≡ words_by (side_word side)
+      unfolding added
+      lane-added side = ap (λ (zs : List ℕ). set zs (71 + 3 * s + side_word side) (one_more (get_or us1 (71 + 3 * s + side_word side) 0))) (first-put (eqb (get_or us1 (71 + 3 * s + 1) 0) 0 && eqb (get_or us1 (71 + 3 * s + 2) 0) 0) (71 + 3 * s) k us1)
 
-    and_left : (a b : Bool) → a && b ≡ true → a ≡ true
-    and_left true b e = refl
-    and_left false b e = e
+      lane-turned : (side : Side) → side_of (get_or us1 (71 + 3 * s + 1) 0) (get_or us1 (71 + 3 * s + 2) 0) (cell_of cells 1) ≡ Some side → Under us1 k (lane side) progress
+          → Lanes all S strips ws (k + 1) (under_progress (Some (lane side)) progress) (under_words us1 k (Some (lane side)) progress)
+      lane-turned side turn u =
+          subst (λ (y : Progress). Lanes all S strips ws (k + 1) y (under_words us1 k (Some (lane side)) progress)) (sym u.held)
+          (subst (λ (zs : List ℕ). Lanes all S strips ws (k + 1) (held_by (lane side) progress) zs) (sym (u.words ∙ lane-added side))
+          (side-cases (get_or us1 (71 + 3 * s + 1) 0) (get_or us1 (71 + 3 * s + 2) 0) (cell_of cells 1) side turn
+          (λ e id none. let a = one-low (71 + 3 * s + 1) (omega arith) in let b = one-low (71 + 3 * s + 2) (omega arith) in subst (λ (x : Side). Next (side_word x)) e (left-line (omega arith) (omega arith)))
+          (λ e id. let b = one-low (71 + 3 * s + 2) (omega arith) in subst (λ (x : Side). Next (side_word x)) e (right-line (omega arith)))))
 
     lane-kept : (kept_progress 7 k cells progress us).sound ≡ true → Lanes all S strips ws (k + 1) (kept_progress 7 k cells progress us) (kept_words 7 k cells progress us)
-    unfolding lane_turn
     lane-kept sound =
-        let w = lane_words_lem k cells us in
-        let turn : List ℕ → Parent = λ zs. lane_turn zs (cell_of cells 0) (cell_of cells 1) in
-        let a : kept_progress 7 k cells progress us ≡ under_progress (turn us1) progress = (lane_line_lem k cells progress us).1 ∙ ap (λ (zs : List ℕ). under_progress (lane_turn zs (cell_of cells 0) (cell_of cells 1)) progress) w in
-        let b : kept_words 7 k cells progress us ≡ under_words us1 k (turn us1) progress = (lane_line_lem k cells progress us).0 ∙ ap (λ (zs : List ℕ). under_words zs k (lane_turn zs (cell_of cells 0) (cell_of cells 1)) progress) w in
-        let u : Under us1 k (turn us1) progress = under-sound us1 k (turn us1) progress (ap (λ (y : Progress). y.sound) (sym a) ∙ sound) in
-        let c = counted-there (cell_of cells 0) (get_or us1 5 0) (and_left (counted (cell_of cells 0) (get_or us1 5 0)).there (not (eqb (side_of (get_or us1 (71 + 3 * (counted (cell_of cells 0) (get_or us1 5 0)).index + 1) 0) (get_or us1 (71 + 3 * (counted (cell_of cells 0) (get_or us1 5 0)).index + 2) 0) (cell_of cells 1)) 0)) u.there) in
-        let e : turn us1 ≡ lane c.0 (known c) (order' c u) = ap (λ (i : Index). lane_under us1 (cell_of cells 1) i) c.2 in
+        under-there turn progress (ap (λ (y : Progress). y.sound) (sym a) ∙ sound)
+        (λ parent e.
+        turn_there us1 (cell_of cells 0) (cell_of cells 1) parent e
+        (λ side there f g.
+        let l = there.1 in
+        let i = one-low 5 (omega arith) in
+        let j = inv.low 5 (omega arith) in
+        let c = counts in
+        let h : turn ≡ Some (lane_beside us1 (index_at s) side) = e ∙ ap (λ (p : Counted). Some p) (sym g) in
+        let u = under-sound us1 k (lane_beside us1 (index_at s) side) progress (ap (λ (p : Option Counted). (under_progress p progress).sound) (sym h) ∙ ap (λ (y : Progress). y.sound) (sym a) ∙ sound) in
         subst (λ (y : Progress). Lanes all S strips ws (k + 1) y (kept_words 7 k cells progress us)) (sym a)
-        (subst (λ (zs : List ℕ). Lanes all S strips ws (k + 1) (under_progress (turn us1) progress) zs) (sym b)
-        (subst (λ (p : Parent). Lanes all S strips ws (k + 1) (under_progress p progress) (under_words us1 k p progress)) (sym e)
-        (lane-turned c.0 (known c) (order' c u) (subst (λ (p : Parent). Under us1 k p progress) e u))))
+        (subst (λ (zs : List ℕ). Lanes all S strips ws (k + 1) (under_progress turn progress) zs) (sym b)
+        (subst (λ (p : Option Counted). Lanes all S strips ws (k + 1) (under_progress p progress) (under_words us1 k p progress)) (sym h)
+        (lane-turned there.0 (omega arith) u.order side f u)))))
       where
-        known : ((10000 ≤ cell_of cells 0) × (cell_of cells 0 - 10000 < get_or us1 5 0) × (counted (cell_of cells 0) (get_or us1 5 0) ≡ index_at (cell_of cells 0 - 10000))) → s < S
-        known c = let a = one-low 5 (omega arith) in let b = inv.low 5 (omega arith) in let d = counts in let e = c.1 in omega arith
+        turn : Option Counted
+        turn = lane_turn us1 (cell_of cells 0) (cell_of cells 1)
 
-        order' : ((10000 ≤ cell_of cells 0) × (cell_of cells 0 - 10000 < get_or us1 5 0) × (counted (cell_of cells 0) (get_or us1 5 0) ≡ index_at (cell_of cells 0 - 10000))) → Under us1 k (lane_turn us1 (cell_of cells 0) (cell_of cells 1)) progress → progress.last ≤ s
-        order' c u = subst (λ (i : Index). progress.last ≤ i.rank) c.2 u.order
+        a : kept_progress 7 k cells progress us ≡ under_progress turn progress
+        a = (lane_line_lem k cells progress us).1 ∙ ap (λ (zs : List ℕ). under_progress (lane_turn zs (cell_of cells 0) (cell_of cells 1)) progress) (lane_words_lem k cells us)
+
+        b : kept_words 7 k cells progress us ≡ under_words us1 k turn progress
+        b = (lane_line_lem k cells progress us).0 ∙ ap (λ (zs : List ℕ). under_words zs k (lane_turn zs (cell_of cells 0) (cell_of cells 1)) progress) (lane_words_lem k cells us)
 
   start : (progress : Progress) → progress.strips ≡ strips → ((p : ℕ) → 71 ≤ p → get_or ws p 0 ≡ 0) → Lanes all S strips ws 0 progress ws
   start progress e blank =
@@ -352,7 +353,7 @@ module _ (all : List Cells) (S : ℕ) (strips : Strips) (ws : List ℕ) (section
 
   -- a table whose lines all name sections, in their order, and have the id whose turn it is, is sound
   module _ (there : (k : ℕ) → k < length all → (10000 ≤ cell_of (get_or all k no_cells) 0) × (section_in all k < S)) (rising : (k : ℕ) → suc k < length all → section_in all k ≤ section_in all (suc k))
-      (turn : (k : ℕ) (progress : Progress) (us : List ℕ) → k < length all → Lanes all S strips ws k progress us → not (eqb (side_of (lefts_at us (section_in all k)) (rights_at us (section_in all k)) (id_in all k)) 0) ≡ true) where
+      (turn : (k : ℕ) (progress : Progress) (us : List ℕ) → k < length all → Lanes all S strips ws k progress us → (side : Side) × (side_of (lefts_at us (section_in all k)) (rights_at us (section_in all k)) (id_in all k) ≡ Some side)) where
     abbrev Right : ℕ → Progress → List ℕ → Type 0
     Right k progress us = Lanes all S strips ws k progress us × (progress.sound ≡ true) × (k ≡ 0 → progress.last ≡ 0)
 
@@ -376,21 +377,27 @@ module _ (all : List Cells) (S : ℕ) (strips : Strips) (ws : List ℕ) (section
         last_line zero e = let z = p.2 (sym e) in omega arith
         last_line (suc j) e = let d = (p.0.spans.end j e).0 in subst (λ (n : ℕ). progress.last ≤ section_in all n) e (let o = rising j (omega arith) in omega arith)
 
-        turned : not (eqb (side_of (get_or zs (71 + 3 * s + 1) 0) (get_or zs (71 + 3 * s + 2) 0) (cell_of r 1)) 0) ≡ true
+        side : Side
+        side = (turn k progress us h p.0).0
+
+        turned : side_of (get_or zs (71 + 3 * s + 1) 0) (get_or zs (71 + 3 * s + 2) 0) (cell_of r 1) ≡ Some side
         turned =
             let b = (there k h).1 in
-            ap (λ (q : ℕ). not (eqb (side_of q (get_or zs (71 + 3 * s + 2) 0) (cell_of r 1)) 0)) (low (71 + 3 * s + 1) (omega arith))
-            ∙ ap (λ (q : ℕ). not (eqb (side_of (get_or us (71 + 3 * s + 1) 0) q (cell_of r 1)) 0)) (low (71 + 3 * s + 2) (omega arith)) ∙ turn k progress us h p.0
+            ap (λ (q : ℕ). side_of q (get_or zs (71 + 3 * s + 2) 0) (cell_of r 1)) (low (71 + 3 * s + 1) (omega arith))
+            ∙ ap (λ (q : ℕ). side_of (get_or us (71 + 3 * s + 1) 0) q (cell_of r 1)) (low (71 + 3 * s + 2) (omega arith)) ∙ (turn k progress us h p.0).1
 
-        counted-at : counted (cell_of r 0) (get_or zs 5 0) ≡ index_at s
-        counted-at =
+        lane : lane_turn zs (cell_of r 0) (cell_of r 1) ≡ Some (lane_beside zs (index_at s) side)
+        lane =
             let b = (there k h).1 in
-            sym (counted-in (cell_of r 0) (get_or zs 5 0) (there k h).0 (let a = low 5 (omega arith) in let c = p.0.low 5 (omega arith) in let d = counts in omega arith))
+            let a = low 5 (omega arith) in
+            let c = p.0.low 5 (omega arith) in
+            let d = counts in
+            ap (option_and_then (lane_under zs (cell_of r 1))) (counted-in (cell_of r 0) (get_or zs 5 0) (there k h).0 (omega arith)) ∙ ap (option_map (lane_beside zs (index_at s))) turned
 
         sound : (kept_progress 7 k (get_or all k no_cells) progress us).sound ≡ true
         sound =
-            ap (λ (y : Progress). y.sound) ((lane_line_lem k (get_or all k no_cells) progress us).1 ∙ ap (λ (ys : List ℕ). under_progress (lane_turn ys (cell_of (get_or all k no_cells) 0) (cell_of (get_or all k no_cells) 1)) progress) (lane_words_lem k (get_or all k no_cells) us) ∙ ap (λ (i : Index). under_progress (lane_under zs (cell_of (get_or all k no_cells) 1) i) progress) counted-at)
-            ∙ under-right (lane_under zs (cell_of (get_or all k no_cells) 1) (index_at s)) progress turned (last_line k refl) p.1
+            ap (λ (y : Progress). y.sound) ((lane_line_lem k (get_or all k no_cells) progress us).1 ∙ ap (λ (ys : List ℕ). under_progress (lane_turn ys (cell_of (get_or all k no_cells) 0) (cell_of (get_or all k no_cells) 1)) progress) (lane_words_lem k (get_or all k no_cells) us) ∙ ap (λ (y : Option Counted). under_progress y progress) lane)
+            ∙ under-right (lane_beside zs (index_at s) side) progress (last_line k refl) p.1
 
     pub lanes-right : (progress : Progress) → progress.strips ≡ strips → ((p : ℕ) → 71 ≤ p → get_or ws p 0 ≡ 0) → progress.sound ≡ true → progress.last ≡ 0 → (track_after 7 0 all progress ws).sound ≡ true
     lanes-right progress e blank s z = (right-lines 7 all Right sound-line progress ws (start progress e blank, s, λ q. z)).1

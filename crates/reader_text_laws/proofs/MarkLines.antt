@@ -3,86 +3,84 @@ use Prim.Native.Nat.{ℕ, suc, ◌+◌, ◌-◌, ◌*◌, ◌<◌, ◌≤◌}
 use native.Mathlib.Omega.{arith}
 use native.Mathlib.Nat.{eq-or-lt_of_le}
 use mathlib.Core.Path.{◌≡◌, refl, sym, ◌∙◌, ap, subst}
-use mathlib.Core.Bool.{Bool, true, false, ◌&&◌, cond}
+use mathlib.Core.Bool.{Bool, true, false, cond}
 use mathlib.Core.List.{List}
 use mathlib.Core.Logic.{⊎_elim}
 use lib.ListN.{length, get_or, set, length-set}
 use lib.Seq.{get_or-set_same, get_or-set_other}
-use lib.Dec.{eqb, ltb, leb}
-use borrow.Author.Tests.{leb-false, eqb-true, eq-eqb, lt-ltb, le-ltb}
+use lib.Dec.{eqb, ltb}
+use borrow.Author.Tests.{eqb-true, eq-eqb, lt-ltb, le-ltb}
+use Rattle.std.specs.Prelude.{Option, Some, None, is_some, option_and_then}
+use Rattle.std.proofs.lemmas.Option.{cond_some, option_and_then_some}
 use Rattle.reader_schema.specs.Schema.{limits, limit_of}
 use Rattle.reader_lines.specs.Columns.{cell_of, no_cells}
 use Rattle.reader_lines.specs.declared.columns.Cells.{Cells}
-use Rattle.reader_store.specs.Layout.{code_of, words, word_place, word_put, words_below, rules, rule_of, bases, base_of, strides, stride_of}
-use Rattle.reader_store.specs.Parents.{no_index, index_at, counted, lane_among, lane_index, mark_lane_in, mark_lane, mark_within, mark_index, index_of, parent_of}
-use Rattle.reader_store.specs.Keep.{mark_kind, mark_put, own_words, ruled_words, ruled_progress, kept_words, kept_progress}
-use Rattle.reader_store.specs.Parents.{Index}
+use Rattle.reader_store.specs.Layout.{code_of, word_row, word_place, word_put, words_below, rule_of, base_of, stride_of}
+use Rattle.reader_store.specs.Parents.{index_at, counted, lane_among, lane_within, lane_index, mark_lane_in, mark_lane, mark_within, mark_index, index_of, parent_of}
+use Rattle.reader_store.specs.Keep.{mark_kind, mark_place, mark_put, own_words, ruled_words, ruled_progress, kept_words, kept_progress}
+use Rattle.reader_store.specs.declared.layout.Family.TheVariants.{Mark}
+use Rattle.reader_store.specs.declared.parents.Ranked.{Ranked}
 use Rattle.reader_store.specs.declared.progress.Progress.{Progress}
-use Rattle.reader_store.specs.declared.progress.Strips.{Strips}
 use Rattle.reader_laws.specs.Lines.{lines_of}
 use Rattle.reader_text_laws.specs.Said.{under, place_said}
+use Rattle.reader_text_laws.proofs.ParentCases.{found, There, there_if, counted-in, counted-there}
 use Rattle.reader_text_laws.proofs.Those.{Part, part_same}
 use Rattle.reader_text_laws.proofs.Folds.{track_after, words_after, after-lines, State, Step}
 use Rattle.reader_text_laws.proofs.States.{Reading, state-long, still-15}
 use Rattle.reader_text_laws.proofs.Ranges.{Ranged, Owned, Outside, Parents, Kept, kept-start, range-line, line-own}
-use Rattle.reader_text_laws.proofs.Lanes.{counted-there, lefts_at, rights_at}
-use Rattle.reader_text_laws.proofs.LaneLines.{and_both, among_cases, LaneRows}
-use Rattle.reader_text_laws.proofs.ChildLines.{kept-part, by-same, lane_as, sections-few, lanes-few, profiles-few, lanes-after, frame-8, frame-9, frame-10, frame-11}
+use Rattle.reader_text_laws.proofs.Lanes.{lefts_at, rights_at}
+use Rattle.reader_text_laws.proofs.LaneLines.{among_cases, LaneRows}
+use Rattle.reader_text_laws.proofs.ChildLines.{kept-part, by-same, section-same, lane_as, sections-few, lanes-few, profiles-few, lanes-after, frame-8, frame-9, frame-10, frame-11}
 use Rattle.reader_text_laws.proofs.StripLines.{end-12, blank-14}
 
 -- ---- the lane of a mark, by its place among those of its section
 
 -- it is there wherever the section's lanes begin
-among_there : (left right id first : ℕ) → (lane_among 0 left right id).there ≡ (lane_among first left right id).there
+among_there : (left right id first : ℕ) → is_some (lane_among 0 left right id) ≡ is_some (lane_among first left right id)
 unfolding lane_among
 among_there left right id first = go (eqb id 10000) (ltb 10000 id) (ltb (left + 10000) id) (ltb (id + right) 10000)
   where
-    among : ℕ → Bool → Bool → Bool → Bool → Index
-    among f a b c d = cond a no_index (cond b (cond c no_index (index_at (f + (id - 10001)))) (cond d no_index (index_at (f + left + (9999 - id)))))
+    among : ℕ → Bool → Bool → Bool → Bool → Option Ranked
+    among f a b c d = cond a None (cond b (cond c None (Some (index_at (f + (id - 10001))))) (cond d None (Some (index_at (f + left + (9999 - id))))))
 
-    go : (a b c d : Bool) → (among 0 a b c d).there ≡ (among first a b c d).there
+    go : (a b c d : Bool) → is_some (among 0 a b c d) ≡ is_some (among first a b c d)
     go true b c d = refl
     go false true true d = refl
     go false true false d = refl
     go false false c true = refl
     go false false c false = refl
 
-among-place : (left right id : ℕ) → (lane_among 0 left right id).there ≡ true → ((lane_among 0 left right id).index ≡ place_said left id) × ((lane_among 0 left right id).index < left + right)
-among-place left right id t =
-    among_cases 0 left right id t
-    (λ x y e.
-    let i = ap (λ (n : Index). n.index) e in
-    ((let z : (lane_among 0 left right id).index ≡ id - 10001 = omega arith in z) ∙ ap (λ (b : Bool). cond b (id - 10001) (left + (9999 - id))) (sym (lt-ltb 10000 id x)), omega arith))
-    (λ x y e.
-    let i = ap (λ (n : Index). n.index) e in
-    ((let z : (lane_among 0 left right id).index ≡ left + (9999 - id) = omega arith in z) ∙ ap (λ (b : Bool). cond b (id - 10001) (left + (9999 - id))) (sym (le-ltb 10000 id (omega arith))), omega arith))
+among-place : (left right id : ℕ) (x : Ranked) → lane_among 0 left right id ≡ Some x → (x.index ≡ place_said left id) × (x.index < left + right)
+among-place left right id x t =
+    among_cases 0 left right id x t
+    (λ a b e.
+    let i = ap (λ (n : Ranked). n.index) e in
+    ((let z : x.index ≡ id - 10001 = omega arith in z) ∙ ap (λ (b : Bool). cond b (id - 10001) (left + (9999 - id))) (sym (lt-ltb 10000 id a)), omega arith))
+    (λ a b e.
+    let i = ap (λ (n : Ranked). n.index) e in
+    ((let z : x.index ≡ left + (9999 - id) = omega arith in z) ∙ ap (λ (b : Bool). cond b (id - 10001) (left + (9999 - id))) (sym (le-ltb 10000 id (omega arith))), omega arith))
 
-counted-small : (number n : ℕ) → n ≤ 16 → (counted number n).index < 16
-unfolding counted
-counted-small number n h = go (ltb number 10000) (leb n (number - 10000)) refl
+counted-small : (number n : ℕ) → n ≤ 16 → (found (counted number n)).index < 16
+counted-small number n h = go (counted number n) refl
   where
-    go : (a b : Bool) → leb n (number - 10000) ≡ b → (cond a no_index (cond b no_index (index_at (number - 10000)))).index < 16
-    go true b e = omega arith
-    go false true e = omega arith
-    go false false e = let l = leb-false n (number - 10000) e in omega arith
+    go : (o : Option Ranked) → counted number n ≡ o → (found o).index < 16
+    go (Some x) e = let c = counted-there number n x e in let l = c.1 in subst (λ (x : Ranked). x.index < 16) (sym c.2) (omega arith)
+    go None e = omega arith
 
 -- it depends on the sections' words alone
 module _ (us zs : List ℕ) (section id : ℕ) (e : get_or us 5 0 ≡ get_or zs 5 0) (small : get_or zs 5 0 ≤ 16) (same : (p : ℕ) → 71 ≤ p → p < 119 → get_or us p 0 ≡ get_or zs p 0) where
-  abbrev x : Index
-  x = counted section (get_or zs 5 0)
-
-  within_same : mark_lane_in us id x ≡ mark_lane_in zs id x
-  within_same = let h = counted-small section (get_or zs 5 0) small in by-same id refl (same (71 + 3 * x.index + 1) (omega arith) (omega arith)) (same (71 + 3 * x.index + 2) (omega arith) (omega arith))
+  within_same : (s : Ranked) → s.index < 16 → mark_lane_in us id s ≡ mark_lane_in zs id s
+  within_same s h = by-same id refl (same (71 + 3 * s.index + 1) (omega arith) (omega arith)) (same (71 + 3 * s.index + 2) (omega arith) (omega arith))
 
   lane-same : mark_lane us section id ≡ mark_lane zs section id
   unfolding mark_lane
-  lane-same = ap (λ (n : ℕ). mark_lane_in us id (counted section n)) e ∙ within_same
+  lane-same = ap (λ (n : ℕ). mark_lane_in us id (found (counted section n))) e ∙ within_same (found (counted section (get_or zs 5 0))) (counted-small section (get_or zs 5 0) small)
 
   index_same : mark_index us section id ≡ mark_index zs section id
   unfolding mark_index
-  index_same = ap (λ (n : ℕ). mark_within us id (counted section n)) e ∙ ap (λ (i : Index). record { there = x.there && i.there; rank = x.rank; index = x.index }) within_same
+  index_same = section-same us zs section e small (mark_within us id) (mark_within zs id) (λ s h. ap (λ (o : Option Ranked). cond (is_some o) (Some (index_at s)) None) (within_same (index_at s) h))
 
-index-mark : (us : List ℕ) (cells : Cells) (strips : Strips) → index_of us 6 cells strips ≡ mark_index us (cell_of cells 0) (cell_of cells 1)
+index-mark : (us : List ℕ) (cells : Cells) (strips : List (Option ℕ)) → index_of us Mark cells strips ≡ mark_index us (cell_of cells 0) (cell_of cells 1)
 unfolding index_of
 index-mark us cells strips = refl
 
@@ -93,8 +91,8 @@ code_same v h = ap (λ (b : Bool). cond b v 65535) (lt-ltb v 65536 h)
 
 -- ---- a table under the sections, with lanes
 
-pub mark-ranged : Ranged 14 6 1347 2 mark_put
-unfolding kept_words ruled_words own_words kept_progress ruled_progress rule_of rules words_below word_put word_place words parent_of base_of bases stride_of strides
+pub mark-ranged : Ranged 14 Mark 1347 2 mark_put
+unfolding kept_words ruled_words own_words kept_progress ruled_progress rule_of words_below word_put word_place word_row parent_of base_of stride_of
 mark-ranged = record { words = λ k c t w. refl; progress = λ k c t w. refl }
 
 -- marks' own words
@@ -105,55 +103,57 @@ pub mark-owned : (S : ℕ) → S ≤ 16 → (all : List Cells) → Owned 1347 2 
 unfolding mark_put
 mark-owned S h all =
     record {
-      size = λ us k cells. length-set (set us (1379 + k * 2) (code_of (mark_lane us (cell_of cells 0) (cell_of cells 1)).index)) (1379 + k * 2 + 1) (mark_kind (cell_of cells 4)) ∙ length-set us (1379 + k * 2) (code_of (mark_lane us (cell_of cells 0) (cell_of cells 1)).index);
-      other = λ us k cells l p f. get_or-set_other (set us (1379 + k * 2) (code_of (mark_lane us (cell_of cells 0) (cell_of cells 1)).index)) (1379 + k * 2 + 1) p (mark_kind (cell_of cells 4)) 0 (λ e. f (omega arith)) ∙ get_or-set_other us (1379 + k * 2) p (code_of (mark_lane us (cell_of cells 0) (cell_of cells 1)).index) 0 (λ e. f (omega arith));
+      size = λ us k cells. length-set (set us (1379 + k * 2) (mark_place us cells)) (1379 + k * 2 + 1) (mark_kind (cell_of cells 4)) ∙ length-set us (1379 + k * 2) (mark_place us cells);
+      other = λ us k cells l p f. get_or-set_other (set us (1379 + k * 2) (mark_place us cells)) (1379 + k * 2 + 1) p (mark_kind (cell_of cells 4)) 0 (λ e. f (omega arith)) ∙ get_or-set_other us (1379 + k * 2) p (mark_place us cells) 0 (λ e. f (omega arith));
       apart = λ i g. (λ e. omega arith, λ e. omega arith);
     }
+
+-- the place of a mark's lane, before it is kept as a word
+abbrev pub place_in : List ℕ → Cells → ℕ
+place_in zs cells = (found (mark_lane zs (cell_of cells 0) (cell_of cells 1))).index
 
 -- a mark on a lane of one of S sections, by the sections' words
 pub record Marked (S : ℕ) (zs : List ℕ) (cells : Cells) : Type 0 where
   pub section : 10000 ≤ cell_of cells 0
   pub known : cell_of cells 0 - 10000 < S
-  pub index : (mark_index zs (cell_of cells 0) (cell_of cells 1)).index ≡ cell_of cells 0 - 10000
-  pub rank : (mark_index zs (cell_of cells 0) (cell_of cells 1)).rank ≡ cell_of cells 0 - 10000
-  pub place : (mark_lane zs (cell_of cells 0) (cell_of cells 1)).index ≡ place_said (lefts_at zs (cell_of cells 0 - 10000)) (cell_of cells 1)
-  pub lane : (mark_lane zs (cell_of cells 0) (cell_of cells 1)).index < lefts_at zs (cell_of cells 0 - 10000) + rights_at zs (cell_of cells 0 - 10000)
+  pub index : (found (mark_index zs (cell_of cells 0) (cell_of cells 1))).index ≡ cell_of cells 0 - 10000
+  pub rank : (found (mark_index zs (cell_of cells 0) (cell_of cells 1))).rank ≡ cell_of cells 0 - 10000
+  pub place : place_in zs cells ≡ place_said (lefts_at zs (cell_of cells 0 - 10000)) (cell_of cells 1)
+  pub lane : place_in zs cells < lefts_at zs (cell_of cells 0 - 10000) + rights_at zs (cell_of cells 0 - 10000)
 
 module _ (lanes : List Cells) (S : ℕ) (zs : List ℕ) (rows : LaneRows lanes S zs) (counts : get_or zs 5 0 ≡ S) (most : length lanes ≤ 192) where
-  abbrev pub mark_as : Cells → Index
+  abbrev pub mark_as : Cells → Option Ranked
   mark_as cells = mark_index zs (cell_of cells 0) (cell_of cells 1)
 
   -- a mark is under a section exactly where its section has its lane
-  pub mark-there : (cells : Cells) → (mark_as cells).there ≡ (lane_as lanes S zs rows counts most cells).there
+  pub mark-there : (cells : Cells) → is_some (mark_as cells) ≡ is_some (lane_as lanes S zs rows counts most cells)
   unfolding mark_index lane_index
-  mark-there cells = go x.there
+  mark-there cells = go (counted (cell_of cells 0) (get_or zs 5 0))
     where
-      x : Index
-      x = counted (cell_of cells 0) (get_or zs 5 0)
+      among : (x y : Option Ranked) (s : Ranked) → is_some x ≡ is_some y → is_some (cond (is_some x) (Some s) None) ≡ is_some y
+      among (Some a) y s e = e
+      among None y s e = e
 
-      go : (b : Bool) → b && (mark_lane_in zs (cell_of cells 1) x).there ≡ (cond b (lane_among (get_or zs (71 + 3 * x.index) 0) (get_or zs (71 + 3 * x.index + 1) 0) (get_or zs (71 + 3 * x.index + 2) 0) (cell_of cells 1)) no_index).there
-      go true = among_there (get_or zs (71 + 3 * x.index + 1) 0) (get_or zs (71 + 3 * x.index + 2) 0) (cell_of cells 1) (get_or zs (71 + 3 * x.index) 0)
-      go false = refl
+      go : (o : Option Ranked) → is_some (option_and_then (mark_within zs (cell_of cells 1)) o) ≡ is_some (option_and_then (lane_within zs (cell_of cells 1)) o)
+      go None = refl
+      go (Some s) = among (mark_lane_in zs (cell_of cells 1) s) (lane_within zs (cell_of cells 1) s) s (among_there (get_or zs (71 + 3 * s.index + 1) 0) (get_or zs (71 + 3 * s.index + 2) 0) (cell_of cells 1) (get_or zs (71 + 3 * s.index) 0))
 
-  pub marked : (cells : Cells) → (mark_as cells).there ≡ true → Marked S zs cells
+  pub marked : (cells : Cells) → There (mark_as cells) → Marked S zs cells
   unfolding mark_index mark_lane
   marked cells t =
-      let b = and_both (counted (cell_of cells 0) (get_or zs 5 0)).there (mark_lane_in zs (cell_of cells 1) (counted (cell_of cells 0) (get_or zs 5 0))).there t in
-      let c = counted-there (cell_of cells 0) (get_or zs 5 0) b.0 in
-      let d = c.1 in
-      let i : mark_lane_in zs (cell_of cells 1) (counted (cell_of cells 0) (get_or zs 5 0)) ≡ lane_among 0 (lefts_at zs (cell_of cells 0 - 10000)) (rights_at zs (cell_of cells 0 - 10000)) (cell_of cells 1) = ap (mark_lane_in zs (cell_of cells 1)) c.2 in
-      let p = among-place (lefts_at zs (cell_of cells 0 - 10000)) (rights_at zs (cell_of cells 0 - 10000)) (cell_of cells 1) (ap (λ (y : Index). y.there) (sym i) ∙ b.1) in
-      record {
-        section = c.0;
-        known = omega arith;
-        index = ap (λ (y : Index). y.index) c.2;
-        rank = ap (λ (y : Index). y.rank) c.2;
-        place = ap (λ (y : Index). y.index) i ∙ p.0;
-        lane = subst (λ (y : Index). y.index < lefts_at zs (cell_of cells 0 - 10000) + rights_at zs (cell_of cells 0 - 10000)) (sym i) p.1;
-      }
+      option_and_then_some (mark_within zs (cell_of cells 1)) (counted (cell_of cells 0) (get_or zs 5 0)) (found (mark_as cells)) t
+      (λ s e f. let c = counted-there (cell_of cells 0) (get_or zs 5 0) s e in at c.0 c.1 (cond_some (is_some (mark_lane_in zs (cell_of cells 1) (index_at (cell_of cells 0 - 10000)))) (index_at (cell_of cells 0 - 10000)) (found (mark_as cells)) (subst (λ (s : Ranked). mark_within zs (cell_of cells 1) s ≡ Some (found (mark_as cells))) c.2 f)))
+    where
+      at : 10000 ≤ cell_of cells 0 → cell_of cells 0 - 10000 < get_or zs 5 0
+          → (is_some (mark_lane_in zs (cell_of cells 1) (index_at (cell_of cells 0 - 10000))) ≡ true) × (index_at (cell_of cells 0 - 10000) ≡ found (mark_as cells)) → Marked S zs cells
+      at h g q =
+          let l : There (mark_lane_in zs (cell_of cells 1) (index_at (cell_of cells 0 - 10000))) = there_if (mark_lane_in zs (cell_of cells 1) (index_at (cell_of cells 0 - 10000))) q.0 in
+          let p = among-place (lefts_at zs (cell_of cells 0 - 10000)) (rights_at zs (cell_of cells 0 - 10000)) (cell_of cells 1) (found (mark_lane_in zs (cell_of cells 1) (index_at (cell_of cells 0 - 10000)))) l in
+          let e : place_in zs cells ≡ (found (mark_lane_in zs (cell_of cells 1) (index_at (cell_of cells 0 - 10000)))).index = ap (λ (o : Option Ranked). (found (mark_lane_in zs (cell_of cells 1) (found o))).index) (counted-in (cell_of cells 0) (get_or zs 5 0) h g) in
+          record { section = h; known = omega arith; index = ap (λ (x : Ranked). x.index) (sym q.1); rank = ap (λ (x : Ranked). x.rank) (sym q.1); place = e ∙ p.0; lane = let a = p.1 in omega arith }
 
-  module _ (all : List Cells) (strips : Strips) (few : length all ≤ 256) (long : 1891 ≤ length zs) (blanks : (p : ℕ) → 1347 ≤ p → get_or zs p 0 ≡ 0) where
-    pub mark-parents : Parents 6 1347 2 (λ i. i < S) MarkWord all strips zs mark_as
+  module _ (all : List Cells) (strips : List (Option ℕ)) (few : length all ≤ 256) (long : 1891 ≤ length zs) (blanks : (p : ℕ) → 1347 ≤ p → get_or zs p 0 ≡ 0) where
+    pub mark-parents : Parents Mark 1347 2 (λ i. i < S) MarkWord all strips zs mark_as
     mark-parents =
         record {
           few = omega arith;
@@ -172,7 +172,7 @@ module _ (lanes : List Cells) (S : ℕ) (zs : List ℕ) (rows : LaneRows lanes S
     -- the ranges, and the own words of the lines so far
     pub record Marks (k : ℕ) (progress : Progress) (us : List ℕ) : Type 0 where
       pub ranges : Held k progress us
-      pub lane : (j : ℕ) → j < k → get_or us (1379 + j * 2) 0 ≡ code_of (mark_lane zs (cell_of (get_or all j no_cells) 0) (cell_of (get_or all j no_cells) 1)).index
+      pub lane : (j : ℕ) → j < k → get_or us (1379 + j * 2) 0 ≡ mark_place zs (get_or all j no_cells)
       pub kind : (j : ℕ) → j < k → get_or us (1379 + j * 2 + 1) 0 ≡ mark_kind (cell_of (get_or all j no_cells) 4)
 
     mark-line : (k : ℕ) (progress : Progress) (us : List ℕ) → k < length all → (kept_progress 14 k (get_or all k no_cells) progress us).sound ≡ true → Marks k progress us
@@ -180,8 +180,8 @@ module _ (lanes : List Cells) (S : ℕ) (zs : List ℕ) (rows : LaneRows lanes S
     unfolding mark_put
     mark-line k progress us h s inv =
         record {
-          ranges = range-line 1347 2 (λ i. i < S) MarkWord all strips zs mark_as 6 mark-parents 14 mark_put owned mark-ranged k progress us h s inv.ranges;
-          lane = λ j g. after (1379 + j * 2) (omega arith) ∙ ⊎_elim (λ e. subst (λ (j : ℕ). get_or us' (1379 + j * 2) 0 ≡ code_of (mark_lane zs (cell_of (get_or all j no_cells) 0) (cell_of (get_or all j no_cells) 1)).index) (sym e) lane_here_lem) (λ l. other (1379 + j * 2) (λ e. omega arith) (λ e. omega arith) ∙ inv.lane j l) (eq-or-lt_of_le (omega arith));
+          ranges = range-line 1347 2 (λ i. i < S) MarkWord all strips zs mark_as Mark mark-parents 14 mark_put owned mark-ranged k progress us h s inv.ranges;
+          lane = λ j g. after (1379 + j * 2) (omega arith) ∙ ⊎_elim (λ e. subst (λ (j : ℕ). get_or us' (1379 + j * 2) 0 ≡ mark_place zs (get_or all j no_cells)) (sym e) lane_here_lem) (λ l. other (1379 + j * 2) (λ e. omega arith) (λ e. omega arith) ∙ inv.lane j l) (eq-or-lt_of_le (omega arith));
           kind = λ j g. after (1379 + j * 2 + 1) (omega arith) ∙ ⊎_elim (λ e. subst (λ (j : ℕ). get_or us' (1379 + j * 2 + 1) 0 ≡ mark_kind (cell_of (get_or all j no_cells) 4)) (sym e) kind-here) (λ l. other (1379 + j * 2 + 1) (λ e. omega arith) (λ e. omega arith) ∙ inv.kind j l) (eq-or-lt_of_le (omega arith));
         }
       where
@@ -192,7 +192,7 @@ module _ (lanes : List Cells) (S : ℕ) (zs : List ℕ) (rows : LaneRows lanes S
         r = get_or all k no_cells
 
         code : ℕ
-        code = code_of (mark_lane us (cell_of r 0) (cell_of r 1)).index
+        code = mark_place us r
 
         us1 : List ℕ
         us1 = set us (1379 + k * 2) code
@@ -201,7 +201,7 @@ module _ (lanes : List Cells) (S : ℕ) (zs : List ℕ) (rows : LaneRows lanes S
         us' = set us1 (1379 + k * 2 + 1) (mark_kind (cell_of r 4))
 
         after : (p : ℕ) → 1379 ≤ p → get_or (kept_words 14 k r progress us) p 0 ≡ get_or us' p 0
-        after p g = line-own 1347 2 (λ i. i < S) MarkWord all strips zs mark_as 6 mark-parents 14 mark_put owned mark-ranged k progress us h s inv.ranges p (λ i l. let q = rows.sections in (λ e. omega arith, λ e. omega arith))
+        after p g = line-own 1347 2 (λ i. i < S) MarkWord all strips zs mark_as Mark mark-parents 14 mark_put owned mark-ranged k progress us h s inv.ranges p (λ i l. let q = rows.sections in (λ e. omega arith, λ e. omega arith))
 
         other : (p : ℕ) → (p ≡ 1379 + k * 2 → ⊥) → (p ≡ 1379 + k * 2 + 1 → ⊥) → get_or us' p 0 ≡ get_or us p 0
         other p a b = get_or-set_other us1 (1379 + k * 2 + 1) p (mark_kind (cell_of r 4)) 0 b ∙ get_or-set_other us (1379 + k * 2) p code 0 a
@@ -212,15 +212,15 @@ module _ (lanes : List Cells) (S : ℕ) (zs : List ℕ) (rows : LaneRows lanes S
         named : mark_lane us (cell_of r 0) (cell_of r 1) ≡ mark_lane zs (cell_of r 0) (cell_of r 1)
         named = let f = inv.ranges.frame in lane-same us zs (cell_of r 0) (cell_of r 1) (f 5 (λ i g. (λ e. omega arith, λ e. omega arith)) (λ e. omega arith)) (let s = rows.sections in omega arith) (λ p a b. f p (λ i g. (λ e. omega arith, λ e. omega arith)) (λ e. omega arith))
 
-        lane_here_lem : get_or us' (1379 + k * 2) 0 ≡ code_of (mark_lane zs (cell_of r 0) (cell_of r 1)).index
-        lane_here_lem = let q = room in get_or-set_other us1 (1379 + k * 2 + 1) (1379 + k * 2) (mark_kind (cell_of r 4)) 0 (λ e. omega arith) ∙ get_or-set_same us (1379 + k * 2) code 0 (omega arith) ∙ ap (λ (i : Index). code_of i.index) named
+        lane_here_lem : get_or us' (1379 + k * 2) 0 ≡ mark_place zs r
+        lane_here_lem = let q = room in get_or-set_other us1 (1379 + k * 2 + 1) (1379 + k * 2) (mark_kind (cell_of r 4)) 0 (λ e. omega arith) ∙ get_or-set_same us (1379 + k * 2) code 0 (omega arith) ∙ ap (λ (o : Option Ranked). code_of (found o).index) named
 
         kind-here : get_or us' (1379 + k * 2 + 1) 0 ≡ mark_kind (cell_of r 4)
         kind-here = let q = room in let w = length-set us (1379 + k * 2) code in get_or-set_same us1 (1379 + k * 2 + 1) (mark_kind (cell_of r 4)) 0 (omega arith)
 
     pub marks-kept : (progress : Progress) → progress.strips ≡ strips → (track_after 14 0 all progress zs).sound ≡ true → Marks (length all) (track_after 14 0 all progress zs) (words_after 14 0 all progress zs)
     marks-kept progress e s =
-        after-lines 14 all Marks mark-line progress zs s (record { ranges = kept-start 1347 2 (λ i. i < S) MarkWord all strips zs mark_as 6 mark-parents progress e; lane = λ j h. absurd (omega arith); kind = λ j h. absurd (omega arith) })
+        after-lines 14 all Marks mark-line progress zs s (record { ranges = kept-start 1347 2 (λ i. i < S) MarkWord all strips zs mark_as Mark mark-parents progress e; lane = λ j h. absurd (omega arith); kind = λ j h. absurd (omega arith) })
 
 -- ---- a text
 
@@ -272,16 +272,16 @@ module _ (text : List ℕ) (l n u : ℕ) (state : ℕ → State) (reading : Read
 
   -- ---- marks
 
-  abbrev pub mark_named : Cells → Index
+  abbrev pub mark_named : Cells → Option Ranked
   mark_named cells = mark_as (T 7) (length (T 6)) (st 14).words rows-14 counts-14 most-14 cells
 
-  pub marked-in : (cells : Cells) → (mark_named cells).there ≡ true → Marked (length (T 6)) (st 14).words cells
+  pub marked-in : (cells : Cells) → There (mark_named cells) → Marked (length (T 6)) (st 14).words cells
   marked-in cells t = marked (T 7) (length (T 6)) (st 14).words rows-14 counts-14 most-14 cells t
 
   blank-here : (p : ℕ) → 1347 ≤ p → get_or (st 14).words p 0 ≡ 0
   blank-here p h = blank-14 text l n u state reading (omega arith) few s13 p h
 
-  pub parents-14 : Parents 6 1347 2 (λ i. i < length (T 6)) MarkWord (T 14) (st 14).progress.strips (st 14).words mark_named
+  pub parents-14 : Parents Mark 1347 2 (λ i. i < length (T 6)) MarkWord (T 14) (st 14).progress.strips (st 14).words mark_named
   parents-14 = mark-parents (T 7) (length (T 6)) (st 14).words rows-14 counts-14 most-14 (T 14) (st 14).progress.strips marks-few (state-long text l n u state reading 14 (omega arith)) blank-here
 
   pub owned-14 : Owned 1347 2 (λ i. i < length (T 6)) (T 14) MarkWord mark_put
@@ -298,7 +298,7 @@ module _ (text : List ℕ) (l n u : ℕ) (state : ℕ → State) (reading : Read
     pub end-14 : (p : ℕ) → 71 ≤ p → p < 1347 → get_or (st 16).words p 0 ≡ get_or (st 14).words p 0
     end-14 p h g = end-15 p h ∙ marks.ranges.frame p (λ i q. (λ e. omega arith, λ e. omega arith)) (λ e. omega arith)
 
-    pub mark-there-14 : (j : ℕ) → j < length (T 14) → (mark_named (get_or (T 14) j no_cells)).there ≡ true
+    pub mark-there-14 : (j : ℕ) → j < length (T 14) → There (mark_named (get_or (T 14) j no_cells))
     mark-there-14 j h = marks.ranges.there j h
 
     -- a section's marks: the lines that name it
@@ -325,14 +325,14 @@ module _ (text : List ℕ) (l n u : ℕ) (state : ℕ → State) (reading : Read
         here : cell_of r 0 - 10000 ≡ i
         here = let s = eqb-true (cell_of r 0) (10000 + i) e in omega arith
 
-        small : (mark_lane (st 14).words (cell_of r 0) (cell_of r 1)).index < 65536
+        small : place_in (st 14).words r < 65536
         small = let a = q.lane in let b = rows-14.below (cell_of r 0 - 10000) q.known in let c = most-14 in omega arith
 
-        held : get_or (st 16).words (1379 + j * 2) 0 ≡ (mark_lane (st 14).words (cell_of r 0) (cell_of r 1)).index
-        held = end-15 (1379 + j * 2) (omega arith) ∙ marks.lane j h ∙ code_same (mark_lane (st 14).words (cell_of r 0) (cell_of r 1)).index small
+        held : get_or (st 16).words (1379 + j * 2) 0 ≡ place_in (st 14).words r
+        held = end-15 (1379 + j * 2) (omega arith) ∙ marks.lane j h ∙ code_same (place_in (st 14).words r) small
 
     pub mark_kind-16 : (j : ℕ) → j < length (T 14) → get_or (st 16).words (1379 + j * 2 + 1) 0 ≡ mark_kind (cell_of (get_or (T 14) j no_cells) 4)
     mark_kind-16 j h = end-15 (1379 + j * 2 + 1) (omega arith) ∙ marks.kind j h
 
-    pub mark-rising : (i j : ℕ) → i ≤ j → j < length (T 14) → (mark_named (get_or (T 14) i no_cells)).rank ≤ (mark_named (get_or (T 14) j no_cells)).rank
+    pub mark-rising : (i j : ℕ) → i ≤ j → j < length (T 14) → (found (mark_named (get_or (T 14) i no_cells))).rank ≤ (found (mark_named (get_or (T 14) j no_cells))).rank
     mark-rising i j g h = marks.ranges.spans.rising i j g h

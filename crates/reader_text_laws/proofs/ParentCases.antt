@@ -1,32 +1,63 @@
--- What a section, a lane's side and a lane's place are, where they are there.
+-- What a section, a lane's side and a lane's place are, where they are there, and what a parent that is there tells.
 use Prim.Native.Nat.{ℕ, ◌+◌, ◌-◌, ◌<◌, ◌≤◌}
-use mathlib.Core.Path.{◌≡◌}
-use mathlib.Core.Bool.{true, false, ◌&&◌}
-use borrow.Author.Tests.{lt-ltb, le-ltb, eq-eqb, ne_eqb, lt-leb}
-use lib.Dec.{eqb}
+use native.Mathlib.Omega.{arith}
+use mathlib.Core.Path.{◌≡◌, refl, sym, ◌∙◌, ap}
+use mathlib.Core.Bool.{Bool, true, false, ◌&&◌, cond}
+use borrow.Author.Tests.{lt-ltb, le-ltb, eq-eqb, ne_eqb, lt-leb, ltb-false, leb-false}
+use lib.Dec.{eqb, ltb, leb}
+use Rattle.std.specs.Prelude.{Option, Some, None, is_some, unwrap_or, option_map}
+use Rattle.std.proofs.lemmas.Option.{none-some, same_Some}
 use Rattle.reader_store.specs.Parents.{index_at, counted, side_of, lane_among}
+use Rattle.reader_store.specs.declared.parents.Ranked.{Ranked}
+use Rattle.reader_store.specs.declared.parents.Side.TheVariants.{Left, Right}
+
+-- the parent that is found; where there is none it means nothing
+abbrev pub found : Option Ranked → Ranked
+found o = unwrap_or o (index_at 0)
+
+abbrev pub There : Option Ranked → Type 0
+There o = o ≡ Some (found o)
+
+pub there : {o : Option Ranked} {x : Ranked} → o ≡ Some x → There o
+there e = e ∙ ap (λ (p : Option Ranked). Some (found p)) (sym e)
+
+pub there_if : (o : Option Ranked) → is_some o ≡ true → There o
+there_if (Some x) e = refl
+there_if None e = let z : ◌≡◌ {A = ℕ} 0 1 = cc in absurd (omega arith)
+
+-- what a value that is mapped was
+pub map_some : {A B P : Type 0} (f : A → B) (o : Option A) (y : B) → option_map f o ≡ Some y → ((x : A) → o ≡ Some x → f x ≡ y → P) → P
+map_some f (Some x) y e go = go x refl (same_Some (f x) y e)
+map_some f None y e go = absurd (none-some y e)
 
 module _ (number n : ℕ) where
-  pub counted-in : 10000 ≤ number → number - 10000 < n → index_at (number - 10000) ≡ counted number n
+  pub counted-in : 10000 ≤ number → number - 10000 < n → counted number n ≡ Some (index_at (number - 10000))
   unfolding counted
   counted-in h k = rw (le-ltb number 10000 h, lt-leb n (number - 10000) k)
 
+  pub counted-there : (x : Ranked) → counted number n ≡ Some x → (10000 ≤ number) × (number - 10000 < n) × (x ≡ index_at (number - 10000))
+  unfolding counted
+  counted-there x e = go (ltb number 10000) (leb n (number - 10000)) refl refl e
+    where
+      go : (a b : Bool) → ltb number 10000 ≡ a → leb n (number - 10000) ≡ b → cond a None (cond b None (Some (index_at (number - 10000)))) ≡ Some x → (10000 ≤ number) × (number - 10000 < n) × (x ≡ index_at (number - 10000))
+      go true b p q s = absurd (none-some x s)
+      go false true p q s = absurd (none-some x s)
+      go false false p q s = (ltb-false number 10000 p, leb-false n (number - 10000) q, sym (same_Some (index_at (number - 10000)) x s))
+
 module _ (left right id : ℕ) where
-  pub side_left : eqb id (left + 10001) && eqb right 0 ≡ true → 1 ≡ side_of left right id
+  pub side_left : eqb id (left + 10001) && eqb right 0 ≡ true → side_of left right id ≡ Some Left
   unfolding side_of
   side_left h = rw h
 
-  module _ (h : eqb id (left + 10001) && eqb right 0 ≡ false) where
-    pub side_right : id < 10000 → id + right + 1 ≡ 10000 → 2 ≡ side_of left right id
-    unfolding side_of
-    side_right l k = rw (h, lt-ltb id 10000 l, eq-eqb (id + right + 1) 10000 k)
+  pub side_right : eqb id (left + 10001) && eqb right 0 ≡ false → id + right + 1 ≡ 10000 → side_of left right id ≡ Some Right
+  unfolding side_of
+  side_right h k = rw (h, eq-eqb (id + right + 1) 10000 k)
 
 module _ (first left right id : ℕ) where
-  module _ (z : id ≡ 10000 → ⊥) where
-    pub by_left : 10000 < id → id ≤ left + 10000 → index_at (first + (id - 10001)) ≡ lane_among first left right id
-    unfolding lane_among
-    by_left h k = rw (ne_eqb id 10000 z, lt-ltb 10000 id h, le-ltb (left + 10000) id k)
+  pub by_left : 10000 < id → id ≤ left + 10000 → lane_among first left right id ≡ Some (index_at (first + (id - 10001)))
+  unfolding lane_among
+  by_left h k = rw (ne_eqb id 10000 (λ z. omega arith), lt-ltb 10000 id h, le-ltb (left + 10000) id k)
 
-    pub by_right : id ≤ 10000 → 10000 ≤ id + right → index_at (first + left + (9999 - id)) ≡ lane_among first left right id
-    unfolding lane_among
-    by_right h k = rw (ne_eqb id 10000 z, le-ltb 10000 id h, le-ltb (id + right) 10000 k)
+  pub by_right : id < 10000 → 10000 ≤ id + right → lane_among first left right id ≡ Some (index_at (first + left + (9999 - id)))
+  unfolding lane_among
+  by_right h k = rw (ne_eqb id 10000 (λ z. omega arith), le-ltb 10000 id (omega arith), le-ltb (id + right) 10000 k)

@@ -22,7 +22,8 @@ use Rattle.records.proofs.CubicLaws.{height-count}
 use Rattle.admission_structure.proofs.StructureLaws.{cubics-full}
 use Rattle.reader_lines.specs.Columns.{cell_of, no_cells}
 use Rattle.reader_lines.specs.declared.columns.Cells.{Cells}
-use Rattle.reader_store.specs.Layout.{places, place_at, numbers, number_place, words, word_place, code_of, counts, count_place, bases, base_of, strides, stride_of}
+use Rattle.std.specs.Prelude.{Option, Some, None}
+use Rattle.reader_store.specs.Layout.{number_lines, word_lines, number_row, number_place, word_row, word_place, code_of, count_place, base_of, stride_of}
 use Rattle.reader_store.specs.Progress.{strip_line}
 use Rattle.reader_store.specs.Keep.{mark_kind}
 use Rattle.reader_store.specs.declared.progress.Progress.{Progress}
@@ -192,11 +193,11 @@ module _ (text : List ℕ) (l m n at count : ℕ) (progress : Progress) (ws : Li
       full =
           let r = rows_inside text l m n at count progress ws ns vs read t small in
           let f = five.first in
-          let s : place_at t 0 + length (T t) * 5 ≤ length ns = subst (λ (q : ℕ). place_at t 0 + length (T t) * q ≤ length ns) five.stride r in
+          let s : (number_lines t).first + length (T t) * 5 ≤ length ns = subst (λ (q : ℕ). (number_lines t).first + length (T t) * q ≤ length ns) five.stride r in
           cubics-full ws ns base first k (omega arith)
 
-  height-places : (place_at 9 0 ≡ 4305) × (place_at 9 1 ≡ 3)
-  unfolding place_at places
+  height-places : ((number_lines 9).first ≡ 4305) × ((number_lines 9).stride ≡ 3)
+  unfolding number_lines
   height-places = (refl, refl)
 
   heights-part : (first k : ℕ) → first + k ≤ length (T 9) → heights_in ws ns first k ≡ map height_in (span (T 9) first k)
@@ -213,13 +214,13 @@ module _ (text : List ℕ) (l m n at count : ℕ) (progress : Progress) (ws : Li
       full : length (heights_in ws ns first k) ≡ k
       full =
           let r = rows_inside text l m n at count progress ws ns vs read 9 (omega arith) in
-          let s : 4305 + length (T 9) * 3 ≤ length ns = subst (λ (q : ℕ). q + length (T 9) * 3 ≤ length ns) height-places.0 (subst (λ (q : ℕ). place_at 9 0 + length (T 9) * q ≤ length ns) height-places.1 r) in
+          let s : 4305 + length (T 9) * 3 ≤ length ns = subst (λ (q : ℕ). q + length (T 9) * 3 ≤ length ns) height-places.0 (subst (λ (q : ℕ). (number_lines 9).first + length (T 9) * q ≤ length ns) height-places.1 r) in
           height-count (span ns (4305 + first * 3) (k * 3)) ∙ thirds (length (span ns (4305 + first * 3) (k * 3))) k (part_length ns (4305 + first * 3) (k * 3) (omega arith))
 
   -- ---- lanes and sections
 
   pub lane-says : (j : ℕ) → j < length (T 7) → lane_in ws ns j ≡ lane_said T (get_or (T 7) j no_cells)
-  unfolding lane_said place_at places word_place words base_of bases stride_of strides
+  unfolding lane_said number_lines word_lines word_place word_row base_of stride_of
   lane-says j h =
       lane-join ws ns j
       ∙ lane-same (ap (λ (p : ℕ). eqb (get_or ws p 0) 1) (plain (119 + j * 6)) ∙ ap (λ (v : ℕ). eqb v 1) (lane-extent j h) ∙ code_one (cell_of (get_or (T 7) j no_cells) 2))
@@ -231,12 +232,12 @@ module _ (text : List ℕ) (l m n at count : ℕ) (progress : Progress) (ws : Li
   lanes-say p first k part = (let f = part.fits in table-part (lane_in ws ns) (lane_said T) (T 7) first k f (λ j a b. lane-says j (omega arith))) ∙ ap (map (lane_said T)) (sym (those-part p (T 7) first k part))
 
   single : (number_place 6 0 ≡ 1) × (number_place 10 0 ≡ 1)
-  unfolding number_place numbers
+  unfolding number_place number_row
   single = (refl, refl)
 
-  counted : (0 < count_place 6) × (0 < count_place 10)
-  unfolding count_place counts
-  counted = (omega arith, omega arith)
+  counted : (count_place 6 ≡ Some 5) × (count_place 10 ≡ Some 6)
+  unfolding count_place
+  counted = (refl, refl)
 
   -- ---- marks
 
@@ -259,7 +260,7 @@ module _ (text : List ℕ) (l m n at count : ℕ) (progress : Progress) (ws : Li
       ∙ ap (map (mark_said T i)) (sym (those-part (under i) (T 14) (get_or ws (1347 + i * 2) 0) (get_or ws (1347 + i * 2 + 1) 0) p))
 
   pub section-says : (i : ℕ) → i < length (T 6) → section_in ws ns i ≡ section_said T i (get_or (T 6) i no_cells)
-  unfolding section_said base_of bases stride_of strides
+  unfolding section_said base_of stride_of
   section-says i h =
       section-same (section_start-join ws ns i ∙ number-kept text l m n at count progress ws ns vs read 6 i 0 (omega arith) h (let e = single.0 in omega arith))
       (left_join ws ns i ∙ lanes-say (left_under i) (first_at ws i) (lefts_at ws i) (left-part (T 7) (length (T 6)) ws lane_rows_lem i h))
@@ -267,19 +268,19 @@ module _ (text : List ℕ) (l m n at count : ℕ) (progress : Progress) (ws : Li
       (marks-join ws ns i ∙ marks-say i h)
 
   pub sections-say : (road_of ws ns).sections ≡ numbered (section_said T) 0 (T 6)
-  sections-say = sections-join ws ns ∙ ap (tabulate (section_in ws ns)) (count_kept_lem text l m n at count progress ws ns vs read 6 (omega arith) counted.0) ∙ table-numbered (section_in ws ns) (section_said T) (T 6) section-says
+  sections-say = sections-join ws ns ∙ ap (tabulate (section_in ws ns)) (count_kept_lem text l m n at count progress ws ns vs read 6 5 (omega arith) counted.0) ∙ table-numbered (section_in ws ns) (section_said T) (T 6) section-says
 
   -- ---- profiles
 
   pub profile-says : (i : ℕ) → i < length (T 10) → profile_in ws ns i ≡ profile_said T i (get_or (T 10) i no_cells)
-  unfolding profile_said place_at places base_of bases stride_of strides
+  unfolding profile_said number_lines base_of stride_of
   profile-says i h =
       profile-join ws ns i
       ∙ profile-same (number-kept text l m n at count progress ws ns vs read 10 i 0 (omega arith) h (let e = single.1 in omega arith))
       (cubics-part 11 1 shape_base shape-five (omega arith) (get_or ws (1271 + i * 2) 0) (get_or ws (1271 + i * 2 + 1) 0) (shape-part i h).fits ∙ ap (map (cubic_in 1)) (sym (those-part (under i) (T 11) (get_or ws (1271 + i * 2) 0) (get_or ws (1271 + i * 2 + 1) 0) (shape-part i h))))
 
   pub profiles-say : (road_of ws ns).profiles ≡ numbered (profile_said T) 0 (T 10)
-  profiles-say = profiles-join ws ns ∙ ap (tabulate (profile_in ws ns)) (count_kept_lem text l m n at count progress ws ns vs read 10 (omega arith) counted.1) ∙ table-numbered (profile_in ws ns) (profile_said T) (T 10) profile-says
+  profiles-say = profiles-join ws ns ∙ ap (tabulate (profile_in ws ns)) (count_kept_lem text l m n at count progress ws ns vs read 10 6 (omega arith) counted.1) ∙ table-numbered (profile_in ws ns) (profile_said T) (T 10) profile-says
 
   -- ---- strips
 
@@ -288,7 +289,7 @@ module _ (text : List ℕ) (l m n at count : ℕ) (progress : Progress) (ws : Li
     column-part c h = part_same (of_term a b c) (T 13) (sym (end-13 (1304 + ((a * 2 + b) * 11 + c * 2) * 1) (omega arith) (omega arith))) (sym (end-13 (1304 + ((a * 2 + b) * 11 + c * 2) * 1 + 1) (omega arith) (omega arith))) (term-part text l n 16 st reading (omega arith) few (omega arith) a b c side place h)
 
     term-says : (c : ℕ) → c < 5 → column_in ws ns (a * 2 + b) c ≡ term_said T a b c
-    unfolding place_at places base_of bases stride_of strides
+    unfolding number_lines base_of stride_of
     term-says c h =
         let p = column-part c h in
         column-join ws ns (a * 2 + b) c
@@ -309,9 +310,9 @@ module _ (text : List ℕ) (l m n at count : ℕ) (progress : Progress) (ws : Li
         → ((r : Cells) → cell_of r 2 < 2 → get_or ws (1303 + (a * 2 + b) * 11) 0 ≡ cell_of r 2 % 2 + 1 → those (of_strip a b) (T 12) ≡ r ∷ [] → A) → A
     strip-cases {A} none one = go (strip_line (st 13).progress.strips (a * 2 + b)) refl
       where
-        go : (k : ℕ) → strip_line (st 13).progress.strips (a * 2 + b) ≡ k → A
-        go zero e = let p = strip-none text l n 16 st reading (omega arith) few (omega arith) a b side place e in none (end-13 (1303 + (a * 2 + b) * 11) (omega arith) (omega arith) ∙ p.0) (those-part (of_strip a b) (T 12) 0 0 p.1)
-        go (suc j) e =
+        go : (o : Option ℕ) → strip_line (st 13).progress.strips (a * 2 + b) ≡ o → A
+        go None e = let p = strip-none text l n 16 st reading (omega arith) few (omega arith) a b side place e in none (end-13 (1303 + (a * 2 + b) * 11) (omega arith) (omega arith) ∙ p.0) (those-part (of_strip a b) (T 12) 0 0 p.1)
+        go (Some j) e =
             let p = strip-one text l n 16 st reading (omega arith) few (omega arith) a b j side place e in
             let f = p.1.fits in
             one (get_or (T 12) j no_cells) (strip-cells text j).2 (end-13 (1303 + (a * 2 + b) * 11) (omega arith) (omega arith) ∙ p.0) (those-part (of_strip a b) (T 12) j 1 p.1 ∙ one_of (T 12) j (omega arith))

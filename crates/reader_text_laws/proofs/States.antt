@@ -3,20 +3,22 @@ use Prim.Native.Nat.{ℕ, zero, suc, ◌+◌, ◌-◌, ◌*◌, ◌<◌, ◌≤�
 use native.Mathlib.Omega.{arith}
 use native.Mathlib.Nat.{zero-add}
 use mathlib.Core.Path.{◌≡◌, refl, sym, ◌∙◌, ap, subst}
-use mathlib.Core.Bool.{Bool, true, false, not, ◌||◌}
+use mathlib.Core.Bool.{true, not, ◌||◌}
 use mathlib.Core.List.{List, [], ◌∷◌}
-use lib.ListN.{length, get_or, set}
+use lib.ListN.{length, get_or, set, replicate}
 use lib.Seq.{get_or-set_other}
 use lib.Dec.{eqb, leb}
 use lib.Ieee.{Float}
-use borrow.Author.Tests.{lt-leb, eq-eqb}
+use borrow.Author.Tests.{lt-leb}
+use Rattle.std.proofs.lemmas.Bool.{both_ways, not-true}
 use Rattle.records_lent.specs.Lists.{all_below}
 use Rattle.records_lent.proofs.TestLaws.{all-at}
 use Rattle.reader_schema.specs.Schema.{limits, limit_of}
 use Rattle.reader_lines.specs.Columns.{cell_of, no_cells}
 use Rattle.reader_lines.specs.declared.columns.Cells.{Cells}
-use Rattle.reader_store.specs.Layout.{places, place_at, words, word_place, code_of, word_put, words_below, counts, count_place, rules, rule_of}
-use Rattle.reader_store.specs.Progress.{strips_of, start_progress}
+use Rattle.std.specs.Prelude.{Option, Some, None, unwrap_or}
+use Rattle.reader_store.specs.Layout.{word_lines, word_row, word_place, code_of, word_put, words_below, count_place, rule_of}
+use Rattle.reader_store.specs.Progress.{start_progress}
 use Rattle.reader_store.specs.Keep.{ruled_words, ruled_progress, kept_words, kept_progress}
 use Rattle.reader_store.specs.declared.progress.Progress.{Progress}
 use Rattle.reader_calls.specs.Reading.{Outcome, done, tables_from, zeros, zero_numbers}
@@ -40,25 +42,22 @@ quiet-lines t q (r ∷ rs) k progress ws =
     (i.0 ∙ l.0, i.1 ∙ l.1)
 
 quiet : Quiet 0 × Quiet 2 × Quiet 3 × Quiet 4 × Quiet 5 × Quiet 6 × Quiet 10 × Quiet 15
-unfolding kept_words ruled_words kept_progress ruled_progress rule_of rules words_below word_put word_place words
+unfolding kept_words ruled_words kept_progress ruled_progress rule_of words_below word_put word_place word_row
 quiet = (λ k c t w. (refl, refl), λ k c t w. (refl, refl), λ k c t w. (refl, refl), λ k c t w. (refl, refl), λ k c t w. (refl, refl), λ k c t w. (refl, refl), λ k c t w. (refl, refl), λ k c t w. (refl, refl))
 
 -- geom keeps a kind for each line, and follows no rule
 geom-line : (k : ℕ) (cells : Cells) (progress : Progress) (ws : List ℕ) → (kept_words 1 k cells progress ws ≡ set ws (7 + k * 1 + 0) (code_of (cell_of cells 5))) × (kept_progress 1 k cells progress ws ≡ progress)
-unfolding kept_words ruled_words kept_progress ruled_progress rule_of rules words_below word_put word_place words place_at places
+unfolding kept_words ruled_words kept_progress ruled_progress rule_of words_below word_put word_place word_row word_lines
 geom-line k cells progress ws = (refl, refl)
 
 limit-geom : limit_of 1 ≡ 64
 unfolding limit_of limits
 limit-geom = refl
 
-counts-test : (all_below (λ t. leb t 6 || not (eqb (count_place t) 6)) 16 ≡ true) × (all_below (λ t. leb t 10 || not (eqb (count_place t) 7)) 16 ≡ true) × (count_place 6 ≡ 6) × (count_place 10 ≡ 7)
-unfolding all_below count_place counts
+-- no other table has the counts' words of section and profile
+counts-test : (all_below (λ t. leb t 6 || not (eqb (unwrap_or (count_place t) 7) 5)) 16 ≡ true) × (all_below (λ t. leb t 10 || not (eqb (unwrap_or (count_place t) 7) 6)) 16 ≡ true) × (count_place 6 ≡ Some 5) × (count_place 10 ≡ Some 6)
+unfolding all_below count_place
 counts-test = (refl, refl, refl, refl)
-
-not_so : (a : Bool) → not a ≡ true → a ≡ true → ⊥
-not_so true e f = let z : ◌≡◌ {A = ℕ} 0 1 = cc in omega arith
-not_so false e f = let z : ◌≡◌ {A = ℕ} 0 1 = cc in omega arith
 
 -- what is known of the states of a text of right form, the tables before u sound
 pub record Reading (text : List ℕ) (l n u : ℕ) (state : ℕ → State) : Type 0 where
@@ -93,11 +92,11 @@ module _ (text : List ℕ) (l m n at count : ℕ) (progress : Progress) (ws : Li
 
   -- the counts of lines, as the words have them, and the limits of lines
   all-counts : Counts 16 0 (zeros l) ws (tables_lines 16 0 text 0)
-  all-counts = subst (λ (o : Outcome). CountsBy 16 0 (zeros l) (tables_lines 16 0 text 0) o) form (tables-counted 16 0 text 0 0 start_progress (zeros l) (zero_numbers m) (zeros n) (omega arith) (omega arith) (λ u h i p. zeros-blank l (count_place u - 1)))
+  all-counts = subst (λ (o : Outcome). CountsBy 16 0 (zeros l) (tables_lines 16 0 text 0) o) form (tables-counted 16 0 text 0 0 start_progress (zeros l) (zero_numbers m) (zeros n) (omega arith) (omega arith) (λ u p h i e. zeros-blank l p))
 
-  count_word_lem : (t : ℕ) → t < 16 → 0 < count_place t → get_or ws (count_place t - 1) 0 ≡ length (lines_of text t)
+  count_word_lem : (t p : ℕ) → t < 16 → count_place t ≡ Some p → get_or ws p 0 ≡ length (lines_of text t)
   unfolding lines_of
-  count_word_lem t h = all-counts.count t t (sym (zero-add t)) h
+  count_word_lem t p h = all-counts.count t t p (sym (zero-add t)) h
 
   all-kept : Holds 16 0 (zero_numbers m) ns (tables_lines 16 0 text 0)
   all-kept = subst (λ (o : Outcome). Kept 16 0 (zero_numbers m) (tables_lines 16 0 text 0) o) form (tables-kept 16 0 text 0 0 start_progress (zeros l) (zero_numbers m) (zeros n) (omega arith) numbers_long)
@@ -106,7 +105,7 @@ module _ (text : List ℕ) (l m n at count : ℕ) (progress : Progress) (ws : Li
   unfolding lines_of
   rows_few t h = all-kept.few t t (sym (zero-add t)) h
 
-  low-from : (p q : ℕ) → p < 7 → ((t : ℕ) → q ≤ t → t < 16 → 0 < count_place t → p ≡ count_place t - 1 → ⊥) → (d t : ℕ) → t + d ≡ 16 → q ≤ t → get_or (state t).words p 0 ≡ get_or ws p 0
+  low-from : (p q : ℕ) → p < 7 → ((t : ℕ) → q ≤ t → t < 16 → count_place t ≡ Some p → ⊥) → (d t : ℕ) → t + d ≡ 16 → q ≤ t → get_or (state t).words p 0 ≡ get_or ws p 0
   low-from p q h f zero t e g =
       let z : 16 ≡ t = omega arith in
       subst (λ (u : ℕ). get_or (state u).words p 0 ≡ get_or ws p 0) z (ap (λ (s : State). get_or s.words p 0) state-end)
@@ -115,18 +114,16 @@ module _ (text : List ℕ) (l m n at count : ℕ) (progress : Progress) (ws : Li
   sections-word : (t : ℕ) → 7 ≤ t → t ≤ 16 → get_or (state t).words 5 0 ≡ length (lines_of text 6)
   sections-word t g h =
       low-from 5 7 (omega arith)
-      (λ t a b c d. not_so (eqb (count_place t) 6) (or_else (leb t 6) (not (eqb (count_place t) 6)) (all-at (λ t. leb t 6 || not (eqb (count_place t) 6)) 16 counts-test.0 t b) (lt-leb t 6 (omega arith))) (eq-eqb (count_place t) 6 (omega arith)))
+      (λ t a b e. both_ways (eqb (unwrap_or (count_place t) 7) 5) (not-true (eqb (unwrap_or (count_place t) 7) 5) (or_else (leb t 6) (not (eqb (unwrap_or (count_place t) 7) 5)) (all-at (λ t. leb t 6 || not (eqb (unwrap_or (count_place t) 7) 5)) 16 counts-test.0 t b) (lt-leb t 6 (omega arith)))) (ap (λ (o : Option ℕ). eqb (unwrap_or o 7) 5) e))
       (16 - t) t (omega arith) g
-      ∙ ap (λ (p : ℕ). get_or ws (p - 1) 0) (sym counts-test.2)
-      ∙ count_word_lem 6 (omega arith) (let e = counts-test.2 in omega arith)
+      ∙ count_word_lem 6 5 (omega arith) counts-test.2
 
   profiles-word : (t : ℕ) → 11 ≤ t → t ≤ 16 → get_or (state t).words 6 0 ≡ length (lines_of text 10)
   profiles-word t g h =
       low-from 6 11 (omega arith)
-      (λ t a b c d. not_so (eqb (count_place t) 7) (or_else (leb t 10) (not (eqb (count_place t) 7)) (all-at (λ t. leb t 10 || not (eqb (count_place t) 7)) 16 counts-test.1 t b) (lt-leb t 10 (omega arith))) (eq-eqb (count_place t) 7 (omega arith)))
+      (λ t a b e. both_ways (eqb (unwrap_or (count_place t) 7) 6) (not-true (eqb (unwrap_or (count_place t) 7) 6) (or_else (leb t 10) (not (eqb (unwrap_or (count_place t) 7) 6)) (all-at (λ t. leb t 10 || not (eqb (unwrap_or (count_place t) 7) 6)) 16 counts-test.1 t b) (lt-leb t 10 (omega arith)))) (ap (λ (o : Option ℕ). eqb (unwrap_or o 7) 6) e))
       (16 - t) t (omega arith) g
-      ∙ ap (λ (p : ℕ). get_or ws (p - 1) 0) (sym counts-test.3)
-      ∙ count_word_lem 10 (omega arith) (let e = counts-test.3 in omega arith)
+      ∙ count_word_lem 10 6 (omega arith) counts-test.3
 
   pub reading : (u : ℕ) → ((t : ℕ) → t < u → (track_after t 0 (lines_of text t) (state t).progress (state t).words).sound ≡ true) → Reading text l n u state
   reading u s = record { first = state-first; step = state-step; long = words_long; few = rows_few; sections = sections-word; profiles = profiles-word; sound = s }
@@ -199,5 +196,5 @@ module _ (text : List ℕ) (l n u : ℕ) (state : ℕ → State) (reading : Read
   pub blank : 1 < u → (p : ℕ) → 71 ≤ p → get_or (state 7).words p 0 ≡ 0
   blank s1 p h = (still-7 s1).1 p h ∙ ap (λ (s : State). get_or s.words p 0) reading.first ∙ zeros-blank l p
 
-  pub blank-strips : 1 < u → (state 7).progress.strips ≡ strips_of 0 0 0 0
+  pub blank-strips : 1 < u → (state 7).progress.strips ≡ replicate 4 None
   blank-strips s1 = (still-7 s1).0 ∙ ap (λ (s : State). s.progress.strips) reading.first

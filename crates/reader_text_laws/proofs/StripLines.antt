@@ -1,99 +1,62 @@
 -- The strips of a text of right form that is sound up to their table, and their cubics: a strip's word says whether the text has its line, and which (`strip-none`, `strip-one`); the range of each of its terms is the lines of cubic that name it (`term-part`).
-use Prim.Native.Nat.{ℕ, zero, suc, ◌+◌, ◌*◌, ◌%◌, ◌<◌, ◌≤◌}
+use Prim.Native.Nat.{ℕ, suc, ◌+◌, ◌*◌, ◌%◌, ◌<◌, ◌≤◌}
 use native.Mathlib.Omega.{arith}
 use native.Mathlib.Nat.{eq-or-lt_of_le}
-use native.Mathlib.Numerals.{add-one}
 use mathlib.Core.Path.{◌≡◌, refl, sym, ◌∙◌, ap, subst}
-use mathlib.Core.Bool.{Bool, true, false, not, cond}
+use mathlib.Core.Bool.{true, cond}
 use mathlib.Core.List.{List}
 use mathlib.Core.Logic.{⊎_elim}
-use lib.ListN.{length, get_or, set, length-set}
+use lib.ListN.{length, get_or, set, replicate, length-set}
 use lib.Seq.{get_or-set_same, get_or-set_other}
-use lib.Dec.{eqb, ltb}
-use borrow.Author.Tests.{ltb-true, ltb-false, eqb-true, eqb-false, eq-eqb}
+use lib.Dec.{eqb}
+use borrow.Author.Tests.{eqb-true, eq-eqb}
+use Rattle.std.specs.Prelude.{Option, Some, None, is_some, option_map}
+use Rattle.std.specs.Cmp.Derive.{both_true}
+use Rattle.std.proofs.lemmas.Bool.{false≢true, and_parts, cases_eq}
+use Rattle.std.proofs.lemmas.Nat.{same_from_place}
+use Rattle.std.proofs.lemmas.Option.{none-some, same_Some}
+use Rattle.std.proofs.lemmas.List.{get_or-replicate}
 use Rattle.reader_schema.specs.Schema.{limits, limit_of}
 use Rattle.reader_lines.specs.Columns.{cell_of, no_cells}
 use Rattle.reader_lines.specs.declared.columns.Cells.{Cells}
-use Rattle.reader_store.specs.Layout.{one_more, words, word_place, word_put, words_below, rules, rule_of}
-use Rattle.reader_store.specs.Progress.{strips_of, strip_line, listed_as, unsound_progress}
-use Rattle.reader_store.specs.Parents.{term_of, index_of}
+use Rattle.reader_store.specs.Layout.{word_row, word_place, word_put, words_below, rule_of}
+use Rattle.reader_store.specs.Progress.{strip_line, listed_as, unsound_progress}
+use Rattle.reader_store.specs.Parents.{term_at, term_of, index_of}
 use Rattle.reader_store.specs.Keep.{strip_named, strips_kept, strip_progress, ruled_words, ruled_progress, kept_words, kept_progress}
-use Rattle.reader_store.specs.Parents.{Index}
+use Rattle.reader_store.specs.declared.layout.Family.TheVariants.{Cubic}
+use Rattle.reader_store.specs.declared.parents.Ranked.{Ranked}
 use Rattle.reader_store.specs.declared.progress.Progress.{Progress}
-use Rattle.reader_store.specs.declared.progress.Strips.{Strips}
 use Rattle.reader_laws.specs.Lines.{lines_of}
 use Rattle.reader_text_laws.specs.Said.{of_strip, of_term}
-use Rattle.reader_text_laws.proofs.Those.{Part, part_same}
+use Rattle.reader_text_laws.proofs.ParentCases.{found, There, map_some}
+use Rattle.reader_text_laws.proofs.Those.{pair-tells, pair-holds, Part, part_same}
 use Rattle.reader_text_laws.proofs.Folds.{track_after, words_after, after-lines, right-lines, State, Step}
 use Rattle.reader_text_laws.proofs.States.{Reading, state-long}
-use Rattle.reader_text_laws.proofs.Ranges.{NoWord, no_own, none_owned, Outside, Parents, Kept, cubic-ranged, ranges-kept, one_more_lem}
-use Rattle.reader_text_laws.proofs.LaneLines.{and_both, both}
+use Rattle.reader_text_laws.proofs.Ranges.{NoWord, no_own, none_owned, Outside, Parents, Kept, cubic-ranged, ranges-kept}
 use Rattle.reader_text_laws.proofs.Listed.{strip-cells, cubic-cells}
 use Rattle.reader_text_laws.proofs.ChildLines.{kept-part, strips-12, frame-11, blank-11}
 
-never : {A : Type 0} → false ≡ true → A
-never e = let z : ◌≡◌ {A = ℕ} 0 1 = cc in absurd (omega arith)
-
 -- ---- a strip's line noted
 
-listed_same : (strips : Strips) (v x : ℕ) → x < 4 → strip_line (listed_as strips x v) x ≡ v
-unfolding strip_line listed_as
-listed_same strips v zero h = refl
-listed_same strips v (suc zero) h = refl
-listed_same strips v (suc (suc zero)) h = refl
-listed_same strips v (suc (suc (suc zero))) h = refl
-listed_same strips v (suc (suc (suc (suc x)))) h = absurd (omega arith)
-
-listed-other : (strips : Strips) (v i x : ℕ) → i < 4 → x < 4 → (i ≡ x → ⊥) → strip_line (listed_as strips x v) i ≡ strip_line strips i
-unfolding strip_line listed_as
-listed-other strips v zero zero h g n = absurd (n refl)
-listed-other strips v zero (suc zero) h g n = refl
-listed-other strips v zero (suc (suc zero)) h g n = refl
-listed-other strips v zero (suc (suc (suc zero))) h g n = refl
-listed-other strips v zero (suc (suc (suc (suc x)))) h g n = absurd (omega arith)
-listed-other strips v (suc zero) zero h g n = refl
-listed-other strips v (suc zero) (suc zero) h g n = absurd (n refl)
-listed-other strips v (suc zero) (suc (suc zero)) h g n = refl
-listed-other strips v (suc zero) (suc (suc (suc zero))) h g n = refl
-listed-other strips v (suc zero) (suc (suc (suc (suc x)))) h g n = absurd (omega arith)
-listed-other strips v (suc (suc zero)) zero h g n = refl
-listed-other strips v (suc (suc zero)) (suc zero) h g n = refl
-listed-other strips v (suc (suc zero)) (suc (suc zero)) h g n = absurd (n refl)
-listed-other strips v (suc (suc zero)) (suc (suc (suc zero))) h g n = refl
-listed-other strips v (suc (suc zero)) (suc (suc (suc (suc x)))) h g n = absurd (omega arith)
-listed-other strips v (suc (suc (suc zero))) zero h g n = refl
-listed-other strips v (suc (suc (suc zero))) (suc zero) h g n = refl
-listed-other strips v (suc (suc (suc zero))) (suc (suc zero)) h g n = refl
-listed-other strips v (suc (suc (suc zero))) (suc (suc (suc zero))) h g n = absurd (n refl)
-listed-other strips v (suc (suc (suc zero))) (suc (suc (suc (suc x)))) h g n = absurd (omega arith)
-listed-other strips v (suc (suc (suc (suc i)))) x h g n = absurd (omega arith)
-
-no_lines : (i : ℕ) → strip_line (strips_of 0 0 0 0) i ≡ 0
-unfolding strip_line
-no_lines i = go (eqb i 0) (eqb i 1) (eqb i 2)
-  where
-    go : (a b c : Bool) → ◌≡◌ {A = ℕ} (cond a 0 (cond b 0 (cond c 0 0))) 0
-    go true b c = refl
-    go false true c = refl
-    go false false true = refl
-    go false false false = refl
+no_lines : (i : ℕ) → i < 4 → ◌≡◌ {A = Option ℕ} (strip_line (replicate 4 None) i) None
+no_lines i h = get_or-replicate 4 i None None h
 
 strip_line_lem : (k : ℕ) (cells : Cells) (progress : Progress) (us : List ℕ) → (kept_words 12 k cells progress us ≡ strips_kept us cells progress) × (kept_progress 12 k cells progress us ≡ strip_progress k cells progress)
-unfolding kept_words ruled_words kept_progress ruled_progress rule_of rules words_below word_put word_place words
+unfolding kept_words ruled_words kept_progress ruled_progress rule_of words_below word_put word_place word_row
 strip_line_lem k cells progress us = (refl, refl)
 
 abbrev noted_by : ℕ → Cells → Progress → Progress
-noted_by k cells progress = record { sound = progress.sound; last = progress.last; strips = listed_as progress.strips (strip_named cells) (one_more k) }
+noted_by k cells progress = record { sound = progress.sound; last = progress.last; strips = listed_as progress.strips (strip_named cells) k }
 
 strip-sound : (k : ℕ) (cells : Cells) (progress : Progress) (us : List ℕ) → (strip_progress k cells progress).sound ≡ true
-    → (strip_line progress.strips (strip_named cells) ≡ 0) × (strip_progress k cells progress ≡ noted_by k cells progress) × (strips_kept us cells progress ≡ set us (1303 + strip_named cells * 11) (cell_of cells 2 % 2 + 1))
+    → (strip_line progress.strips (strip_named cells) ≡ None) × (strip_progress k cells progress ≡ noted_by k cells progress) × (strips_kept us cells progress ≡ set us (1303 + strip_named cells * 11) (cell_of cells 2 % 2 + 1))
 unfolding strip_progress strips_kept
-strip-sound k cells progress us e = go (eqb (strip_line progress.strips (strip_named cells)) 0) refl e
+strip-sound k cells progress us e = go (strip_line progress.strips (strip_named cells)) e
   where
-    go : (b : Bool) → eqb (strip_line progress.strips (strip_named cells)) 0 ≡ b → (cond b (noted_by k cells progress) (unsound_progress progress)).sound ≡ true
-        → (strip_line progress.strips (strip_named cells) ≡ 0) × (cond b (noted_by k cells progress) (unsound_progress progress) ≡ noted_by k cells progress) × (cond b (set us (1303 + strip_named cells * 11) (cell_of cells 2 % 2 + 1)) us ≡ set us (1303 + strip_named cells * 11) (cell_of cells 2 % 2 + 1))
-    go true f s = (eqb-true (strip_line progress.strips (strip_named cells)) 0 f, refl, refl)
-    go false f s = never s
+    go : (o : Option ℕ) → (cond (is_some o) (unsound_progress progress) (noted_by k cells progress)).sound ≡ true
+        → (o ≡ None) × (cond (is_some o) (unsound_progress progress) (noted_by k cells progress) ≡ noted_by k cells progress) × (cond (is_some o) us (set us (1303 + strip_named cells * 11) (cell_of cells 2 % 2 + 1)) ≡ set us (1303 + strip_named cells * 11) (cell_of cells 2 % 2 + 1))
+    go None s = (refl, refl, refl)
+    go (Some line) s = absurd (false≢true s)
 
 -- ---- the table strip
 
@@ -101,11 +64,12 @@ abbrev pub strip_at : List Cells → ℕ → ℕ
 strip_at all j = strip_named (get_or all j no_cells)
 
 pub record StripsKept (all : List Cells) (ws : List ℕ) (k : ℕ) (progress : Progress) (us : List ℕ) : Type 0 where
+  pub four : length progress.strips ≡ 4
   pub size : length us ≡ length ws
   pub frame : (p : ℕ) → ((i : ℕ) → i < 4 → p ≡ 1303 + i * 11 → ⊥) → get_or us p 0 ≡ get_or ws p 0
-  pub none : (i : ℕ) → i < 4 → strip_line progress.strips i ≡ 0 → get_or us (1303 + i * 11) 0 ≡ 0
-  pub seen : (i j : ℕ) → i < 4 → strip_line progress.strips i ≡ suc j → (j < k) × (strip_at all j ≡ i) × (get_or us (1303 + i * 11) 0 ≡ cell_of (get_or all j no_cells) 2 % 2 + 1)
-  pub noted : (j : ℕ) → j < k → strip_line progress.strips (strip_at all j) ≡ suc j
+  pub none : (i : ℕ) → i < 4 → strip_line progress.strips i ≡ None → get_or us (1303 + i * 11) 0 ≡ 0
+  pub seen : (i j : ℕ) → i < 4 → strip_line progress.strips i ≡ Some j → (j < k) × (strip_at all j ≡ i) × (get_or us (1303 + i * 11) 0 ≡ cell_of (get_or all j no_cells) 2 % 2 + 1)
+  pub noted : (j : ℕ) → j < k → strip_line progress.strips (strip_at all j) ≡ Some j
 
 module _ (all : List Cells) (ws : List ℕ) (few : length all ≤ 4) (long : 1891 ≤ length ws) where
   strips-line : (k : ℕ) (progress : Progress) (us : List ℕ) → k < length all → (kept_progress 12 k (get_or all k no_cells) progress us).sound ≡ true → StripsKept all ws k progress us
@@ -131,27 +95,20 @@ module _ (all : List Cells) (ws : List ℕ) (few : length all ≤ 4) (long : 189
       us' : List ℕ
       us' = set us (1303 + strip_named cells * 11) (cell_of cells 2 % 2 + 1)
 
-      more : one_more k ≡ suc k
-      more = one_more_lem k (omega arith) ∙ add-one k
-
       other : (p : ℕ) → (p ≡ 1303 + x * 11 → ⊥) → get_or us' p 0 ≡ get_or us p 0
       other p f = get_or-set_other us (1303 + strip_named cells * 11) p (cell_of cells 2 % 2 + 1) 0 f
 
-      line : Strips
-      line = listed_as progress.strips (strip_named cells) (one_more k)
+      line : List (Option ℕ)
+      line = listed_as progress.strips (strip_named cells) k
 
-      line_same : strip_line line x ≡ suc k
-      line_same = listed_same progress.strips (one_more k) (strip_named cells) below ∙ more
-
-      line_other : (i : ℕ) → i < 4 → (i ≡ x → ⊥) → strip_line line i ≡ strip_line progress.strips i
-      line_other i g f = listed-other progress.strips (one_more k) i (strip_named cells) g below f
-
-      same? : (i : ℕ) {A : Type 0} → (i ≡ x → A) → ((i ≡ x → ⊥) → A) → A
-      same? i {A} f g = go (eqb i x) refl
+      line_same : strip_line line x ≡ Some k
+      line_same = get_or-set_same progress.strips (strip_named cells) (Some k) None (room below)
         where
-          go : (b : Bool) → eqb i x ≡ b → A
-          go true e = f (eqb-true i x e)
-          go false e = g (eqb-false i x e)
+          room : x < 4 → x < length progress.strips
+          room h = let l = inv.four in omega arith
+
+      line_other : (i : ℕ) → (i ≡ x → ⊥) → strip_line line i ≡ strip_line progress.strips i
+      line_other i f = get_or-set_other progress.strips (strip_named cells) i (Some k) None f
 
       apart : (i : ℕ) → (i ≡ x → ⊥) → 1303 + i * 11 ≡ 1303 + x * 11 → ⊥
       apart i f e = f (cancel i x e)
@@ -165,35 +122,32 @@ module _ (all : List Cells) (ws : List ℕ) (few : length all ≤ 4) (long : 189
           room : (y : ℕ) → y < 4 → 1303 + y * 11 < length us
           room y g = let z = inv.size in omega arith
 
-      next : strip_line progress.strips (strip_named cells) ≡ 0 → StripsKept all ws (k + 1) (noted_by k cells progress) us'
+      next : strip_line progress.strips (strip_named cells) ≡ None → StripsKept all ws (k + 1) (noted_by k cells progress) us'
       next free =
           record {
+            four = length-set progress.strips (strip_named cells) (Some k) ∙ inv.four;
             size = length-set us (1303 + strip_named cells * 11) (cell_of cells 2 % 2 + 1) ∙ inv.size;
             frame = λ p f. other p (f x below) ∙ inv.frame p f;
-            none = λ i g e. same? i (λ d. let z : suc k ≡ 0 = sym line_same ∙ ap (strip_line line) (sym d) ∙ e in absurd (omega arith)) (λ f. other (1303 + i * 11) (apart i f) ∙ inv.none i g (sym (line_other i g f) ∙ e));
-            seen = λ i j g e. same? i
-                (λ d. let z : suc k ≡ suc j = sym line_same ∙ ap (strip_line line) (sym d) ∙ e in let y : k ≡ j = omega arith in
+            none = λ i g e. ⊎_elim (λ d. absurd (none-some k (sym e ∙ ap (strip_line line) d ∙ line_same))) (λ f. other (1303 + i * 11) (apart i f) ∙ inv.none i g (sym (line_other i f) ∙ e)) (cases_eq i x);
+            seen = λ i j g e. ⊎_elim (λ d. let y : k ≡ j = same_Some k j (sym line_same ∙ ap (strip_line line) (sym d) ∙ e) in
                 subst (λ (i : ℕ). (j < k + 1) × (strip_at all j ≡ i) × (get_or us' (1303 + i * 11) 0 ≡ cell_of (get_or all j no_cells) 2 % 2 + 1)) (sym d)
-                (subst (λ (j : ℕ). (j < k + 1) × (strip_at all j ≡ x) × (get_or us' (1303 + x * 11) 0 ≡ cell_of (get_or all j no_cells) 2 % 2 + 1)) y (omega arith, refl, word)))
-                (λ f. let p = inv.seen i j g (sym (line_other i g f) ∙ e) in let a = p.0 in (omega arith, p.1, other (1303 + i * 11) (apart i f) ∙ p.2));
-            noted = λ j g. ⊎_elim (λ d. subst (λ (j : ℕ). strip_line line (strip_at all j) ≡ suc j) (sym d) line_same)
-                (λ b. let p = inv.noted j b in line_other (strip_at all j) (small (cell_of (get_or all j no_cells) 0) (cell_of (get_or all j no_cells) 1)) (λ d. let z : suc j ≡ 0 = sym p ∙ ap (strip_line progress.strips) d ∙ free in absurd (omega arith)) ∙ p) (eq-or-lt_of_le (omega arith));
+                (subst (λ (j : ℕ). (j < k + 1) × (strip_at all j ≡ x) × (get_or us' (1303 + x * 11) 0 ≡ cell_of (get_or all j no_cells) 2 % 2 + 1)) y (omega arith, refl, word))) (λ f. let p = inv.seen i j g (sym (line_other i f) ∙ e) in let a = p.0 in (omega arith, p.1, other (1303 + i * 11) (apart i f) ∙ p.2)) (cases_eq i x);
+            noted = λ j g. ⊎_elim (λ d. subst (λ (j : ℕ). strip_line line (strip_at all j) ≡ Some j) (sym d) line_same)
+                (λ b. let p = inv.noted j b in line_other (strip_at all j) (λ d. none-some j (sym free ∙ ap (strip_line progress.strips) (sym d) ∙ p)) ∙ p) (eq-or-lt_of_le (omega arith));
           }
-        where
-          small : (a b : ℕ) → a % 2 * 2 + b % 2 < 4
-          small a b = omega arith
 
-  strips-start : (progress : Progress) → progress.strips ≡ strips_of 0 0 0 0 → ((p : ℕ) → 1303 ≤ p → get_or ws p 0 ≡ 0) → StripsKept all ws 0 progress ws
+  strips-start : (progress : Progress) → progress.strips ≡ replicate 4 None → ((p : ℕ) → 1303 ≤ p → get_or ws p 0 ≡ 0) → StripsKept all ws 0 progress ws
   strips-start progress e blank =
       record {
+        four = ap (λ (x : List (Option ℕ)). length x) e;
         size = refl;
         frame = λ p f. refl;
         none = λ i g f. blank (1303 + i * 11) (omega arith);
-        seen = λ i j g f. let z : ◌≡◌ {A = ℕ} 0 (suc j) = sym (no_lines i) ∙ ap (λ (x : Strips). strip_line x i) (sym e) ∙ f in absurd (omega arith);
+        seen = λ i j g f. absurd (none-some j (sym (no_lines i g) ∙ ap (λ (x : List (Option ℕ)). strip_line x i) (sym e) ∙ f));
         noted = λ j g. absurd (omega arith);
       }
 
-  pub strips_kept_lem : (progress : Progress) → progress.strips ≡ strips_of 0 0 0 0 → ((p : ℕ) → 1303 ≤ p → get_or ws p 0 ≡ 0) → (track_after 12 0 all progress ws).sound ≡ true
+  pub strips_kept_lem : (progress : Progress) → progress.strips ≡ replicate 4 None → ((p : ℕ) → 1303 ≤ p → get_or ws p 0 ≡ 0) → (track_after 12 0 all progress ws).sound ≡ true
       → StripsKept all ws (length all) (track_after 12 0 all progress ws) (words_after 12 0 all progress ws)
   strips_kept_lem progress e blank sound = after-lines 12 all (StripsKept all ws) strips-line progress ws sound (strips-start progress e blank)
 
@@ -209,16 +163,16 @@ module _ (all : List Cells) (ws : List ℕ) (few : length all ≤ 4) (long : 189
         small : (a b : ℕ) → a % 2 * 2 + b % 2 < 4
         small a b = omega arith
 
-        free : (n : ℕ) → n ≡ strip_line progress.strips (strip_at all k) → strip_line progress.strips (strip_at all k) ≡ 0
-        free zero e = sym e
-        free (suc j) e = let q = p.0.seen (strip_at all k) j (small (cell_of (get_or all k no_cells) 0) (cell_of (get_or all k no_cells) 1)) (sym e) in let l = q.0 in let z = distinct j k (omega arith) h q.1 in absurd (omega arith)
+        free : (o : Option ℕ) → strip_line progress.strips (strip_at all k) ≡ o → o ≡ None
+        free None e = refl
+        free (Some j) e = let q = p.0.seen (strip_at all k) j (small (cell_of (get_or all k no_cells) 0) (cell_of (get_or all k no_cells) 1)) e in let l = q.0 in let z = distinct j k (omega arith) h q.1 in absurd (omega arith)
 
         sound : (kept_progress 12 k (get_or all k no_cells) progress us).sound ≡ true
         sound =
             ap (λ (y : Progress). y.sound) (strip_line_lem k (get_or all k no_cells) progress us).1
-            ∙ ap (λ (b : Bool). (cond b (noted_by k (get_or all k no_cells) progress) (unsound_progress progress)).sound) (eq-eqb (strip_line progress.strips (strip_at all k)) 0 (free (strip_line progress.strips (strip_at all k)) refl)) ∙ p.1
+            ∙ ap (λ (o : Option ℕ). (cond (is_some o) (unsound_progress progress) (noted_by k (get_or all k no_cells) progress)).sound) (free (strip_line progress.strips (strip_at all k)) refl) ∙ p.1
 
-    pub strips-right : (progress : Progress) → progress.strips ≡ strips_of 0 0 0 0 → ((p : ℕ) → 1303 ≤ p → get_or ws p 0 ≡ 0) → progress.sound ≡ true → (track_after 12 0 all progress ws).sound ≡ true
+    pub strips-right : (progress : Progress) → progress.strips ≡ replicate 4 None → ((p : ℕ) → 1303 ≤ p → get_or ws p 0 ≡ 0) → progress.sound ≡ true → (track_after 12 0 all progress ws).sound ≡ true
     strips-right progress e blank s = (right-lines 12 all Right sound-line progress ws (strips-start progress e blank, s)).1
 
 -- ---- terms
@@ -234,45 +188,36 @@ pub record Term (i : ℕ) : Type 0 where
 pub mods : (a b c : ℕ) → (a % 2 * 2 + b % 2 < 4) × (c % 5 < 5)
 mods a b c = (omega arith, omega arith)
 
-index-term : (us : List ℕ) (cells : Cells) (strips : Strips) → index_of us 5 cells strips ≡ term_of strips (cell_of cells 0) (cell_of cells 1) (cell_of cells 2)
+index-term : (us : List ℕ) (cells : Cells) (strips : List (Option ℕ)) → index_of us Cubic cells strips ≡ term_of strips (cell_of cells 0) (cell_of cells 1) (cell_of cells 2)
 unfolding index_of
 index-term us cells strips = refl
 
-module _ (strips : Strips) (cells : Cells) where
-  abbrev pub term_as : Index
+module _ (strips : List (Option ℕ)) (cells : Cells) where
+  abbrev pub term_as : Option Ranked
   term_as = term_of strips (cell_of cells 0) (cell_of cells 1) (cell_of cells 2)
 
-  term-index : term_as.index ≡ strip_named cells * 11 + cell_of cells 2 % 5 * 2
-  unfolding term_of
-  term-index = refl
+  abbrev term_by : ℕ → Ranked
+  term_by line = term_at (strip_named cells) (cell_of cells 2 % 5) line
 
-  pub term-rank : term_as.rank ≡ strip_line strips (strip_named cells) * 5 + cell_of cells 2 % 5
+  -- a term of a strip that has a line
+  pub term-is : (line : ℕ) → strip_line strips (strip_named cells) ≡ Some line → term_as ≡ Some (term_by line)
   unfolding term_of
-  term-rank = refl
+  term-is line e = ap (option_map (term_by)) e
 
-  pub term-there : term_as.there ≡ true → strip_line strips (strip_named cells) ≡ 0 → ⊥
+  pub term-there : There term_as → (line : ℕ) × (strip_line strips (strip_named cells) ≡ Some line) × (found term_as ≡ term_by line)
   unfolding term_of
-  term-there t e = never (sym (ap not (eq-eqb (strip_line strips (strip_named cells)) 0 e)) ∙ t)
+  term-there t = map_some term_by (strip_line strips (strip_named cells)) (found term_as) t (λ line e f. (line, e, sym f))
 
 limits-are : (limit_of 12 ≡ 4) × (limit_of 13 ≡ 160)
 unfolding limit_of limits
 limits-are = (refl, refl)
 
--- two numbers compared
-pub compared : {A : Type 0} (x y : ℕ) → (x < y → A) → (x ≡ y → A) → (y < x → A) → A
-compared {A} x y f g h = go (ltb x y) (ltb y x) refl refl
-  where
-    go : (a b : Bool) → ltb x y ≡ a → ltb y x ≡ b → A
-    go true b p q = f (ltb-true x y p)
-    go false true p q = h (ltb-true y x q)
-    go false false p q = g (let u = ltb-false x y p in let v = ltb-false y x q in omega arith)
-
 same-term : (x y a b : ℕ) → a < 5 → b < 5 → x * 11 + a * 2 ≡ y * 11 + b * 2 → (x ≡ y) × (a ≡ b)
-same-term x y a b h g e = compared x y (λ l. absurd (omega arith)) (λ l. (l, omega arith)) (λ l. absurd (omega arith))
+same-term x y a b h g e = (omega arith, omega arith)
 
 -- no range's first word is another's second
 no-next : (x a y b : ℕ) → a < 5 → b < 5 → x * 11 + a * 2 ≡ y * 11 + b * 2 + 1 → ⊥
-no-next x a y b p q e = compared x y (λ l. omega arith) (λ l. compared a b (λ m. omega arith) (λ m. omega arith) (λ m. omega arith)) (λ l. omega arith)
+no-next x a y b p q e = omega arith
 
 pub two-bits : (x y a b : ℕ) → x < 2 → y < 2 → a < 2 → b < 2 → x % 2 * 2 + y % 2 ≡ a * 2 + b → (x ≡ a) × (y ≡ b)
 two-bits x y a b p q h g e = (omega arith, omega arith)
@@ -282,10 +227,7 @@ one-term z c h e = omega arith
 
 -- and none is a presence
 no-presence : (i j x a : ℕ) → a < 5 → i ≡ x * 11 + a * 2 → (1304 + i * 1 ≡ 1303 + j * 11 → ⊥) × (1304 + i * 1 + 1 ≡ 1303 + j * 11 → ⊥)
-no-presence i j x a h e = (λ f. compared x j (λ l. omega arith) (λ l. omega arith) (λ l. omega arith), λ f. compared x j (λ l. omega arith) (λ l. omega arith) (λ l. omega arith))
-
-same_rank : (x y a b : ℕ) → a < 5 → b < 5 → x * 5 + a ≡ y * 5 + b → (x ≡ y) × (a ≡ b)
-same_rank x y a b h g e = (omega arith, omega arith)
+no-presence i j x a h e = (λ f. omega arith, λ f. omega arith)
 
 module _ (text : List ℕ) (l n u : ℕ) (state : ℕ → State) (reading : Reading text l n u state) where
   abbrev st : ℕ → State
@@ -309,7 +251,7 @@ module _ (text : List ℕ) (l n u : ℕ) (state : ℕ → State) (reading : Read
 
   module _ (s12 : 12 < u) (few : length (T 10) ≤ 16) where
     -- the strips of the progress once the table strip is read
-    abbrev pub noted : Strips
+    abbrev pub noted : List (Option ℕ)
     noted = (st 13).progress.strips
 
     noted-is : noted ≡ (track_after 12 0 (T 12) (st 12).progress (st 12).words).strips
@@ -318,49 +260,57 @@ module _ (text : List ℕ) (l n u : ℕ) (state : ℕ → State) (reading : Read
     frame-12 : (p : ℕ) → 7 ≤ p → ((i : ℕ) → i < 4 → p ≡ 1303 + i * 11 → ⊥) → get_or (st 13).words p 0 ≡ get_or (st 12).words p 0
     frame-12 p h f = (step 12 (omega arith)).high p h ∙ (strips s12 few).frame p f
 
-    none-13 : (i : ℕ) → i < 4 → strip_line noted i ≡ 0 → get_or (st 13).words (1303 + i * 11) 0 ≡ 0
-    none-13 i h e = (step 12 (omega arith)).high (1303 + i * 11) (omega arith) ∙ (strips s12 few).none i h (ap (λ (x : Strips). strip_line x i) (sym noted-is) ∙ e)
+    none-13 : (i : ℕ) → i < 4 → strip_line noted i ≡ None → get_or (st 13).words (1303 + i * 11) 0 ≡ 0
+    none-13 i h e = (step 12 (omega arith)).high (1303 + i * 11) (omega arith) ∙ (strips s12 few).none i h (ap (λ (x : List (Option ℕ)). strip_line x i) (sym noted-is) ∙ e)
 
-    pub seen-13 : (i j : ℕ) → i < 4 → strip_line noted i ≡ suc j → (j < length (T 12)) × (strip_at (T 12) j ≡ i) × (get_or (st 13).words (1303 + i * 11) 0 ≡ cell_of (get_or (T 12) j no_cells) 2 % 2 + 1)
-    seen-13 i j h e = let p = (strips s12 few).seen i j h (ap (λ (x : Strips). strip_line x i) (sym noted-is) ∙ e) in (p.0, p.1, (step 12 (omega arith)).high (1303 + i * 11) (omega arith) ∙ p.2)
+    pub seen-13 : (i j : ℕ) → i < 4 → strip_line noted i ≡ Some j → (j < length (T 12)) × (strip_at (T 12) j ≡ i) × (get_or (st 13).words (1303 + i * 11) 0 ≡ cell_of (get_or (T 12) j no_cells) 2 % 2 + 1)
+    seen-13 i j h e = let p = (strips s12 few).seen i j h (ap (λ (x : List (Option ℕ)). strip_line x i) (sym noted-is) ∙ e) in (p.0, p.1, (step 12 (omega arith)).high (1303 + i * 11) (omega arith) ∙ p.2)
 
-    pub noted-13 : (j : ℕ) → j < length (T 12) → strip_line noted (strip_at (T 12) j) ≡ suc j
-    noted-13 j h = ap (λ (x : Strips). strip_line x (strip_at (T 12) j)) noted-is ∙ (strips s12 few).noted j h
+    pub noted-13 : (j : ℕ) → j < length (T 12) → strip_line noted (strip_at (T 12) j) ≡ Some j
+    noted-13 j h = ap (λ (x : List (Option ℕ)). strip_line x (strip_at (T 12) j)) noted-is ∙ (strips s12 few).noted j h
 
     blank-13 : (p : ℕ) → 1303 ≤ p → ((i : ℕ) → i < 4 → p ≡ 1303 + i * 11 → ⊥) → get_or (st 13).words p 0 ≡ 0
     blank-13 p h f = frame-12 p (omega arith) f ∙ blank-12 (omega arith) p h few
 
-    -- two strips that have lines have different ones
-    one-strip : (x y : ℕ) → x < 4 → y < 4 → (strip_line noted x ≡ 0 → ⊥) → strip_line noted x ≡ strip_line noted y → x ≡ y
-    one-strip x y h g f e = go (strip_line noted x) refl
-      where
-        go : (n : ℕ) → n ≡ strip_line noted x → x ≡ y
-        go zero q = absurd (f (sym q))
-        go (suc j) q = sym (seen-13 x j h (sym q)).1 ∙ (seen-13 y j g (sym e ∙ sym q)).1
-
-    abbrev pub I : Cells → Index
+    abbrev pub I : Cells → Option Ranked
     I cells = term_as noted cells
 
-    good : (cells : Cells) → Term (I cells).index
-    good cells = let q = mods (cell_of cells 0) (cell_of cells 1) (cell_of cells 2) in record { strip = strip_named cells; term = cell_of cells 2 % 5; strip_small = q.0; term_small = q.1; is = term-index noted cells }
+    -- a cubic that has a term: its strip's line is the one that names the strip
+    record Termed (cells : Cells) (x : Ranked) : Type 0 where
+      line : ℕ
+      noted_as : strip_line noted (strip_named cells) ≡ Some line
+      strip : strip_at (T 12) line ≡ strip_named cells
+      rank : x.rank ≡ line * 5 + cell_of cells 2 % 5
+      index : x.index ≡ strip_named cells * 11 + cell_of cells 2 % 5 * 2
 
-    alike : (a b : Cells) → (I a).there ≡ true → (I b).there ≡ true → (I a).rank ≡ (I b).rank → (I a).index ≡ (I b).index
+    termed : (cells : Cells) → There (I cells) → Termed cells (found (I cells))
+    termed cells t =
+        let q = term-there noted cells t in
+        record { line = q.0; noted_as = q.1; strip = (seen-13 (strip_named cells) q.0 (mods (cell_of cells 0) (cell_of cells 1) 0).0 q.1).1; rank = ap (λ (x : Ranked). x.rank) q.2; index = ap (λ (x : Ranked). x.index) q.2 }
+
+    good : (cells : Cells) → There (I cells) → Term (found (I cells)).index
+    good cells t = let q = mods (cell_of cells 0) (cell_of cells 1) (cell_of cells 2) in record { strip = strip_named cells; term = cell_of cells 2 % 5; strip_small = q.0; term_small = q.1; is = (termed cells t).index }
+
+    alike : (a b : Cells) → There (I a) → There (I b) → (found (I a)).rank ≡ (found (I b)).rank → (found (I a)).index ≡ (found (I b)).index
     alike a b s t e =
+        let x = termed a s in
+        let y = termed b t in
         let p = mods (cell_of a 0) (cell_of a 1) (cell_of a 2) in
         let q = mods (cell_of b 0) (cell_of b 1) (cell_of b 2) in
-        let r = same_rank (strip_line noted (strip_named a)) (strip_line noted (strip_named b)) (cell_of a 2 % 5) (cell_of b 2 % 5) p.1 q.1 (sym (term-rank noted a) ∙ e ∙ term-rank noted b) in
-        let x = one-strip (strip_named a) (strip_named b) p.0 q.0 (term-there noted a s) r.0 in
-        term-index noted a ∙ together x r.1 ∙ sym (term-index noted b)
+        let r = same_from_place x.line (cell_of a 2 % 5) y.line (cell_of b 2 % 5) 5 p.1 q.1 (sym x.rank ∙ e ∙ y.rank) in
+        x.index ∙ together (sym x.strip ∙ ap (strip_at (T 12)) r.0 ∙ y.strip) r.1 ∙ sym y.index
       where
         together : {x y c d : ℕ} → x ≡ y → c ≡ d → x * 11 + c * 2 ≡ y * 11 + d * 2
         together {x} {y} {c} {d} e f = omega arith
 
-    ranked : (a b : Cells) → (I a).there ≡ true → (I b).there ≡ true → (I a).index ≡ (I b).index → (I a).rank ≡ (I b).rank
+    ranked : (a b : Cells) → There (I a) → There (I b) → (found (I a)).index ≡ (found (I b)).index → (found (I a)).rank ≡ (found (I b)).rank
     ranked a b s t e =
+        let x = termed a s in
+        let y = termed b t in
         let p = mods (cell_of a 0) (cell_of a 1) (cell_of a 2) in
         let q = mods (cell_of b 0) (cell_of b 1) (cell_of b 2) in
-        let r = same-term (strip_named a) (strip_named b) (cell_of a 2 % 5) (cell_of b 2 % 5) p.1 q.1 (sym (term-index noted a) ∙ e ∙ term-index noted b) in
-        term-rank noted a ∙ together (ap (strip_line noted) r.0) r.1 ∙ sym (term-rank noted b)
+        let r = same-term (strip_named a) (strip_named b) (cell_of a 2 % 5) (cell_of b 2 % 5) p.1 q.1 (sym x.index ∙ e ∙ y.index) in
+        x.rank ∙ together (same_Some x.line y.line (sym x.noted_as ∙ ap (strip_line noted) r.0 ∙ y.noted_as)) r.1 ∙ sym y.rank
       where
         together : {x y c d : ℕ} → x ≡ y → c ≡ d → x * 5 + c ≡ y * 5 + d
         together {x} {y} {c} {d} e f = omega arith
@@ -368,7 +318,7 @@ module _ (text : List ℕ) (l n u : ℕ) (state : ℕ → State) (reading : Read
     apart : (i j : ℕ) → Term i → Term j → (1304 + i * 1 ≡ 1304 + j * 1 → i ≡ j) × (1304 + i * 1 ≡ 1304 + j * 1 + 1 → ⊥)
     apart i j g h = (λ e. omega arith, λ e. no-next g.strip g.term h.strip h.term g.term_small h.term_small (let a = g.is in let b = h.is in omega arith))
 
-    pub cubic-parents : Parents 5 1304 1 Term NoWord (T 13) noted (st 13).words I
+    pub cubic-parents : Parents Cubic 1304 1 Term NoWord (T 13) noted (st 13).words I
     cubic-parents =
         record {
           few = let f = reading.few 13 (omega arith) in let e = limits-are.1 in omega arith;
@@ -376,7 +326,7 @@ module _ (text : List ℕ) (l n u : ℕ) (state : ℕ → State) (reading : Read
           room = λ i g. let a = g.strip_small in let b = g.term_small in let c = g.is in let d = state-long text l n u state reading 13 (omega arith) in omega arith;
           apart = apart;
           same = λ us f cells. index-term us cells noted;
-          good = λ cells t. good cells;
+          good = good;
           alike = alike;
           ranked = ranked;
         }
@@ -384,7 +334,7 @@ module _ (text : List ℕ) (l n u : ℕ) (state : ℕ → State) (reading : Read
     module _ (s13 : 13 < u) where
       pub cubics : Kept 1304 1 Term NoWord (T 13) noted (st 13).words I (length (T 13)) (track_after 13 0 (T 13) (st 13).progress (st 13).words) (words_after 13 0 (T 13) (st 13).progress (st 13).words)
       cubics =
-          ranges-kept 1304 1 Term NoWord (T 13) noted (st 13).words I 5
+          ranges-kept 1304 1 Term NoWord (T 13) noted (st 13).words I Cubic
           cubic-parents
           13 no_own (none_owned 1304 1 Term (T 13)) cubic-ranged (st 13).progress refl (reading.sound 13 (omega arith))
 
@@ -405,33 +355,29 @@ module _ (text : List ℕ) (l n u : ℕ) (state : ℕ → State) (reading : Read
 
       cell-strip : (j a b : ℕ) → a < 2 → b < 2 → (strip_at (T 12) j ≡ a * 2 + b → of_strip a b (get_or (T 12) j no_cells) ≡ true) × (of_strip a b (get_or (T 12) j no_cells) ≡ true → strip_at (T 12) j ≡ a * 2 + b)
       cell-strip j a b h g =
+          let r : Cells = get_or (T 12) j no_cells in
           let c = strip-cells text j in (
-            λ e. both (eqb (cell_of (get_or (T 12) j no_cells) 0) a) (eqb (cell_of (get_or (T 12) j no_cells) 1) b) (eq-eqb (cell_of (get_or (T 12) j no_cells) 0) a (parts (cell_of (get_or (T 12) j no_cells) 0) (cell_of (get_or (T 12) j no_cells) 1) c.0 c.1 e).0) (eq-eqb (cell_of (get_or (T 12) j no_cells) 1) b (parts (cell_of (get_or (T 12) j no_cells) 0) (cell_of (get_or (T 12) j no_cells) 1) c.0 c.1 e).1),
-            λ e.
-                let p = and_both (eqb (cell_of (get_or (T 12) j no_cells) 0) a) (eqb (cell_of (get_or (T 12) j no_cells) 1) b) e in
-                joined (cell_of (get_or (T 12) j no_cells) 0) (cell_of (get_or (T 12) j no_cells) 1) (eqb-true (cell_of (get_or (T 12) j no_cells) 0) a p.0) (eqb-true (cell_of (get_or (T 12) j no_cells) 1) b p.1),
+            λ e. let p = two-bits (cell_of r 0) (cell_of r 1) a b c.0 c.1 h g e in pair-holds a b r p.0 p.1,
+            λ e. let p = pair-tells a b r e in joined (cell_of r 0) (cell_of r 1) p.0 p.1,
           )
         where
-          parts : (x y : ℕ) → x < 2 → y < 2 → x % 2 * 2 + y % 2 ≡ a * 2 + b → (x ≡ a) × (y ≡ b)
-          parts x y p q e = (omega arith, omega arith)
-
           joined : (x y : ℕ) → x ≡ a → y ≡ b → x % 2 * 2 + y % 2 ≡ a * 2 + b
           joined x y p q = omega arith
 
       -- no line: the presence is 0 and no line has the pair
-      pub strip-none : (a b : ℕ) → a < 2 → b < 2 → strip_line noted (a * 2 + b) ≡ 0 → (get_or (st 14).words (1303 + (a * 2 + b) * 11) 0 ≡ 0) × Part (of_strip a b) (T 12) 0 0
+      pub strip-none : (a b : ℕ) → a < 2 → b < 2 → strip_line noted (a * 2 + b) ≡ None → (get_or (st 14).words (1303 + (a * 2 + b) * 11) 0 ≡ 0) × Part (of_strip a b) (T 12) 0 0
       strip-none a b h g e =
-          (end-13 (a * 2 + b) (omega arith) ∙ none-13 (a * 2 + b) (omega arith) e, record { fits = omega arith; within = λ j q f. let s = (cell-strip j a b h g).1 f in let z : ◌≡◌ {A = ℕ} 0 (suc j) = sym e ∙ ap (strip_line noted) (sym s) ∙ noted-13 j q in absurd (omega arith); passes = λ j p q. absurd (omega arith) })
+          (end-13 (a * 2 + b) (omega arith) ∙ none-13 (a * 2 + b) (omega arith) e, record { fits = omega arith; within = λ j q f. let s = (cell-strip j a b h g).1 f in absurd (none-some j (sym e ∙ ap (strip_line noted) (sym s) ∙ noted-13 j q)); passes = λ j p q. absurd (omega arith) })
 
       -- a line: the presence is its relative plus 1, and it alone has the pair
-      pub strip-one : (a b j : ℕ) → a < 2 → b < 2 → strip_line noted (a * 2 + b) ≡ suc j → (get_or (st 14).words (1303 + (a * 2 + b) * 11) 0 ≡ cell_of (get_or (T 12) j no_cells) 2 % 2 + 1) × Part (of_strip a b) (T 12) j 1
+      pub strip-one : (a b j : ℕ) → a < 2 → b < 2 → strip_line noted (a * 2 + b) ≡ Some j → (get_or (st 14).words (1303 + (a * 2 + b) * 11) 0 ≡ cell_of (get_or (T 12) j no_cells) 2 % 2 + 1) × Part (of_strip a b) (T 12) j 1
       strip-one a b j h g e =
           let s = seen-13 (a * 2 + b) j (omega arith) e in
           let in12 = s.0 in (
             end-13 (a * 2 + b) (omega arith) ∙ s.2,
             record {
               fits = omega arith;
-              within = λ i q f. let t = (cell-strip i a b h g).1 f in let z : suc j ≡ suc i = sym e ∙ ap (strip_line noted) (sym t) ∙ noted-13 i q in (omega arith, omega arith);
+              within = λ i q f. let t = (cell-strip i a b h g).1 f in let z : j ≡ i = same_Some j i (sym e ∙ ap (strip_line noted) (sym t) ∙ noted-13 i q) in (omega arith, omega arith);
               passes = λ i p q. let z : j ≡ i = omega arith in (cell-strip i a b h g).0 (ap (strip_at (T 12)) (sym z) ∙ s.1);
             },
           )
@@ -457,16 +403,16 @@ module _ (text : List ℕ) (l n u : ℕ) (state : ℕ → State) (reading : Read
               let t = two-bits x y a b p q h g s.0 in
               (t.0, t.1, one-term z c r s.1)
 
-          to : (j : ℕ) → j < length (T 13) → of_term a b c (get_or (T 13) j no_cells) ≡ true → (I (get_or (T 13) j no_cells)).index ≡ i
+          to : (j : ℕ) → j < length (T 13) → of_term a b c (get_or (T 13) j no_cells) ≡ true → (found (I (get_or (T 13) j no_cells))).index ≡ i
           to j q e =
               let r : Cells = get_or (T 13) j no_cells in
-              let u = and_both (of_strip a b r) (eqb (cell_of r 2) c) e in
-              let v = and_both (eqb (cell_of r 0) a) (eqb (cell_of r 1) b) u.0 in
-              term-index noted r ∙ joined (cell_of r 0) (cell_of r 1) (cell_of r 2) (eqb-true (cell_of r 0) a v.0) (eqb-true (cell_of r 1) b v.1) (eqb-true (cell_of r 2) c u.1)
+              let u = and_parts (of_strip a b r) (eqb (cell_of r 2) c) e in
+              let v = pair-tells a b r u.0 in
+              (termed r (cubics.there j q)).index ∙ joined (cell_of r 0) (cell_of r 1) (cell_of r 2) v.0 v.1 (eqb-true (cell_of r 2) c u.1)
 
-          from : (j : ℕ) → j < length (T 13) → (I (get_or (T 13) j no_cells)).index ≡ i → of_term a b c (get_or (T 13) j no_cells) ≡ true
+          from : (j : ℕ) → j < length (T 13) → (found (I (get_or (T 13) j no_cells))).index ≡ i → of_term a b c (get_or (T 13) j no_cells) ≡ true
           from j q e =
               let r : Cells = get_or (T 13) j no_cells in
               let d = cubic-cells text j in
-              let u = parts (cell_of r 0) (cell_of r 1) (cell_of r 2) d.0 d.1 d.2 (sym (term-index noted r) ∙ e) in
-              both (of_strip a b r) (eqb (cell_of r 2) c) (both (eqb (cell_of r 0) a) (eqb (cell_of r 1) b) (eq-eqb (cell_of r 0) a u.0) (eq-eqb (cell_of r 1) b u.1)) (eq-eqb (cell_of r 2) c u.2)
+              let u = parts (cell_of r 0) (cell_of r 1) (cell_of r 2) d.0 d.1 d.2 (sym (termed r (cubics.there j q)).index ∙ e) in
+              both_true (pair-holds a b r u.0 u.1) (eq-eqb (cell_of r 2) c u.2)

@@ -3,15 +3,27 @@ use Prim.Native.Nat.{ℕ, zero, suc, ◌+◌, ◌<◌, ◌≤◌, suc-le-suc}
 use native.Mathlib.Omega.{arith}
 use native.Mathlib.Nat.{le_of_suc-le-suc, not-suc-le-zero, zero-add, add-zero, zero-lt-suc}
 use mathlib.Core.Path.{◌≡◌, refl, sym, ◌∙◌, ap, subst}
-use mathlib.Core.Bool.{Bool, true, false}
+use mathlib.Core.Bool.{Bool, true}
 use mathlib.Core.List.{List, [], ◌∷◌, map}
 use lib.ListN.{length, get_or, take, drop, length-map, length-drop, get_or-map}
 use lib.Seq.{ext_get_or, length-take-le}
+use lib.Dec.{eqb}
+use borrow.Author.Tests.{eqb-true, eq-eqb}
+use Rattle.std.specs.Cmp.Derive.{both_true}
+use Rattle.std.proofs.lemmas.Bool.{and_parts, false_from_ne_true}
 use Rattle.records_lent.specs.Lists.{tabulate, span}
 use Rattle.records_lent.proofs.TableLaws.{length-table, table_at, span-at}
-use Rattle.reader_lines.specs.Columns.{no_cells}
+use Rattle.reader_lines.specs.Columns.{cell_of, no_cells}
 use Rattle.reader_lines.specs.declared.columns.Cells.{Cells}
-use Rattle.reader_text_laws.specs.Said.{those, numbered}
+use Rattle.reader_text_laws.specs.Said.{those, numbered, of_strip}
+
+-- a line by its first two cells: a strip's side and place, a lane's section and id
+module _ (a b : ℕ) (r : Cells) where
+  pub pair-tells : of_strip a b r ≡ true → (cell_of r 0 ≡ a) × (cell_of r 1 ≡ b)
+  pair-tells e = let p = and_parts (eqb (cell_of r 0) a) (eqb (cell_of r 1) b) e in (eqb-true (cell_of r 0) a p.0, eqb-true (cell_of r 1) b p.1)
+
+  pub pair-holds : cell_of r 0 ≡ a → cell_of r 1 ≡ b → of_strip a b r ≡ true
+  pair-holds e f = both_true (eq-eqb (cell_of r 0) a e) (eq-eqb (cell_of r 1) b f)
 
 -- the test passes from f on, for c lines, and nowhere else
 pub record Part (p : Cells → Bool) (rows : List Cells) (f c : ℕ) : Type 0 where
@@ -22,10 +34,6 @@ pub record Part (p : Cells → Bool) (rows : List Cells) (f c : ℕ) : Type 0 wh
 pub part_same : (p : Cells → Bool) (rows : List Cells) {a b c d : ℕ} → a ≡ c → b ≡ d → Part p rows a b → Part p rows c d
 part_same p rows {a} {b} {c} {d} e f x = subst (λ (q : ℕ). Part p rows q d) e (subst (λ (q : ℕ). Part p rows a q) f x)
 
-fails : (b : Bool) → (b ≡ true → ⊥) → b ≡ false
-fails true h = absurd (h refl)
-fails false h = refl
-
 pub those-part : (p : Cells → Bool) (rows : List Cells) (f c : ℕ) → Part p rows f c → those p rows ≡ span rows f c
 unfolding those
 those-part p [] f zero h = none f
@@ -34,7 +42,7 @@ those-part p [] f zero h = none f
     none f = refl
 those-part p [] f (suc c) h = let e = h.fits in absurd (omega arith)
 those-part p (r ∷ rs) zero zero h =
-    rw (fails (p r) (λ e. let w = h.within 0 (zero-lt-suc (length rs)) e in not-suc-le-zero w.1))
+    rw (false_from_ne_true (p r) (λ e. let w = h.within 0 (zero-lt-suc (length rs)) e in not-suc-le-zero w.1))
     (those-part p rs zero zero (record { fits = omega arith; within = λ j l e. let w = h.within (suc j) (suc-le-suc l) e in absurd (omega arith); passes = λ j a b. absurd (omega arith) }))
 those-part p (r ∷ rs) zero (suc c) h =
     rw (h.passes 0 (omega arith) (omega arith))
@@ -45,7 +53,7 @@ those-part p (r ∷ rs) zero (suc c) h =
       passes = λ j a b. h.passes (suc j) (omega arith) (omega arith);
     })))
 those-part p (r ∷ rs) (suc f) c h =
-    rw (fails (p r) (λ e. let w = h.within 0 (zero-lt-suc (length rs)) e in not-suc-le-zero w.0))
+    rw (false_from_ne_true (p r) (λ e. let w = h.within 0 (zero-lt-suc (length rs)) e in not-suc-le-zero w.0))
     (those-part p rs f c (record {
       fits = let e = h.fits in omega arith;
       within = λ j l e. let w = h.within (suc j) (suc-le-suc l) e in (omega arith, omega arith);

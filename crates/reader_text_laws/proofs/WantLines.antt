@@ -4,7 +4,7 @@ use native.Mathlib.Omega.{arith}
 use mathlib.Core.Path.{◌≡◌, refl, sym, ◌∙◌, ap}
 use mathlib.Core.Bool.{Bool, cond}
 use mathlib.Core.List.{List, [], ◌∷◌, ◌++◌, append_assoc}
-use lib.ListN.{length, set, length-append}
+use lib.ListN.{length, set, length-append, length-replicate}
 use lib.Seq.{set-append_seam}
 use lib.Ieee.{Float}
 use borrow.Author.Tests.{ne_eqb}
@@ -64,8 +64,7 @@ limit-want = refl
 
 zeros-length : (n : ℕ) → length (zeros n) ≡ n
 unfolding zeros
-zeros-length zero = refl
-zeros-length (suc n) = ap suc (zeros-length n)
+zeros-length n = length-replicate n 0
 
 module _ (text : List ℕ) (l m n at count : ℕ) (progress : Progress) (ws : List ℕ) (ns : List Float) (vs : List ℕ) (read : Stored text l m n (done at count progress ws ns vs)) where
   abbrev form : tables_from 16 0 text 0 0 start_progress (zeros l) (zero_numbers m) (zeros n) ≡ done at count progress ws ns vs

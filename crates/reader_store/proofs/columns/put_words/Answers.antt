@@ -9,7 +9,7 @@ loop-column-init c = (refl, refl)
 
 pub loop-column-preserved : goal.loop-column-preserved
 loop-column-preserved c =
-    let a = c.args in let at = c.loop-column in let l = c.word_lines.ensures in (
+    let a = c.args in let at = c.loop-column in (
       c.put_cell.auto.list ∙ at.invariant.0,
-      words_more a.table a.k a.cells at.column a.words.now l.0 l.1 c.line-line.ensures.0 (c.word_row-places.ensures at.column c.loop-column-test.true) c.code-value.ensures at.invariant.1 c.put_cell.ensures,
+      words_more a.table a.k a.cells at.column c.line-line.ensures.0 c.loop-column-test.true a.words.now c.word_lines.ensures c.word_row-places.ensures c.code-value.ensures at.invariant.1 c.put_cell.ensures,
     )
