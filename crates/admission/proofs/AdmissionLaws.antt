@@ -21,11 +21,6 @@ both true b e = (refl, e)
 both false b e = let z : ◌≡◌ {A = ℕ} 0 1 = cc in absurd (omega arith)
 
 module _ (words : List ℕ) (numbers : List Float) where
-  -- a road is admitted exactly where its rows let a value through
-  pub admitted-value : admitted words numbers ≡ true → admit_call words numbers ≡ value tt
-  unfolding admitted admit_call
-  admitted-value e = pass-checked (road_rows words numbers) (value tt) e
-
   pub value-admitted : admit_call words numbers ≡ value tt → admitted words numbers ≡ true
   unfolding admitted admit_call
   value-admitted e = checked-pass (road_rows words numbers) (value tt) tt e

@@ -64,7 +64,7 @@ fn lane_limited(road: &LentRoad, extent: f64, place: LanePlace) -> bool
     cubics_within(&lane.extents, -LARGEST, LARGEST, extent, limit) && heights_limited(&lane.heights)
 }
 
-// The lanes of a side.
+// Row 4 of each lane of a side.
 fn side_limited(road: &LentRoad, extent: f64, section: usize, right: bool) -> bool
     ensures { result ≡ all_below (λ (k : ℕ). lane_limited extent (lane_of road.now section right k)) (length (cond right (section_of road.now section).right (section_of road.now section).left)) }
 {

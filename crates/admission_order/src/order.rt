@@ -54,7 +54,7 @@ fn lane_in_order(road: &LentRoad, place: LanePlace) -> bool
     cubics_in_order(&lane.extents) && heights_apart(&lane.heights)
 }
 
-// The lanes of a side.
+// Whether the lists of each lane of a side are in order.
 fn side_in_order(road: &LentRoad, section: usize, right: bool) -> bool
     ensures { result ≡ all_below (λ k. lane_in_order (lane_of road.now section right k)) (length (cond right (section_of road.now section).right (section_of road.now section).left)) }
 {

@@ -1,4 +1,4 @@
-// The marks of each section: how many, and on which lanes.
+// The marks of each section: how many, and on which lanes. By the slices, since this speaks of the words, which a road's model hides.
 ghost use Rattle.std.specs.Prelude.{◌≡◌, ◌+◌, ◌*◌, ◌<◌, get_or, ltb};
 ghost use Rattle.records_lent.specs.Lists.{all_below};
 ghost use Rattle.records.specs.Layout.{section_count_at, mark_words, mark_stride};

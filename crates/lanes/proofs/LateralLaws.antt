@@ -49,7 +49,7 @@ module _ (hs : List HeightDef) (s : Float) where
   unfolding height_of
   height-first e h = ap (height_from hs s) e ∙ ap (λ (b : Bool). cond b no_heights (height_held (height_def_at hs 0))) (ne_eqb (length hs) 0 h)
 
--- the same, by what was read of the heights
+-- a lane's heights, by what was read of them
 module _ (hs : List HeightDef) (s : Float) {n : ℕ} (count : n ≡ length hs) {r : Option ℕ} (place : r ≡ height_place hs s) where
   pub height-below : (i : ℕ) → r ≡ Some i → i < n
   height-below i e = rw count (last_start-below (λ (k : ℕ). (height_def_at hs k).s_offset) (active_up_to s) (length hs) i (sym place ∙ e))

@@ -1,5 +1,5 @@
--- Demand 3 on borders, from bounds on each lane's widths or borders: every inner border is the outer one of the lane before, no width is below zero,
--- no border lies behind the one before it, and none lies beyond 80. By induction outward: after k lanes a border is at most 29 + 8k in size, a whole number.
+-- Demand 3 on borders, from bounds on each lane's widths or borders: every inner border is the outer one of the lane before, no border lies behind
+-- the one before it, and none lies beyond 80. By induction outward: after k lanes a border is at most 29 + 8k in size, a whole number.
 use mathlib.Core.Path.{◌≡◌, refl, sym, subst}
 use mathlib.Core.Bool.{Bool, true, false, cond}
 use mathlib.Core.List.{List}
@@ -113,9 +113,6 @@ before k n h = omega arith
 under-eighty : (k n : ℕ) → k ≤ n → n ≤ 6 → 29 + k * 8 ≤ 80
 under-eighty k n h l = omega arith
 
-from_zero-on : (w : Float) → Real binary64 w → mi binary64 w ≡ 0 → T (le zero64 w)
-from_zero-on w r z = parts→le binary64 zero64 w zero-whole.value r (le_trans (le_of_eq zero-whole.plus) zero-le) (le_trans (le_of_eq z) zero-le)
-
 -- at most six lanes, on either side of a base of size 8 at most
 module _ (lanes : List Lane) (right : Bool) (base s : Float) (few : length lanes ≤ 6) (center : Within binary64 base eight) (extents : (k : ℕ) → k < length lanes → ExtentWithin (get_or lanes k no_lane) s) where
   abbrev outer : ℕ → Float
@@ -156,14 +153,3 @@ module _ (lanes : List Lane) (right : Bool) (base s : Float) (few : length lanes
   pub outer-ahead : (k : ℕ) → k < length lanes → Ahead right (borders_at lanes (sign_of right) base s k).inner (borders_at lanes (sign_of right) base s k).outer
   unfolding borders_at outer_after
   outer-ahead k h = (step k h (reached k (before k (length lanes) h))).2
-
-  -- a width is finite and not below zero
-  pub width-real : (k : ℕ) → k < length lanes → Real binary64 (borders_at lanes (sign_of right) base s k).width
-  unfolding borders_at
-  width-real k h = (fitted k h (reached k (before k (length lanes) h))).value
-
-  pub width-not_below : (k : ℕ) → k < length lanes → T (le zero64 (borders_at lanes (sign_of right) base s k).width)
-  unfolding borders_at
-  width-not_below k h =
-      let w = fitted k h (reached k (before k (length lanes) h)) in
-      from_zero-on (width_of (get_or lanes k no_lane) (sign_of right) (outer k) s) w.value w.plus

@@ -36,7 +36,7 @@ pub fn height_across(a: Across, t: f64) -> f64
     a.inner_height + (a.outer_height - a.inner_height) * f
 }
 
-// The same with the fraction across kept to 0..1.
+// From the lane's inner border to its outer one, with the fraction across kept to 0..1.
 pub fn height_within(a: Across, t: f64) -> f64
     ensures { result ≡ height_within a t }
 {

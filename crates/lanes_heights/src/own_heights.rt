@@ -32,23 +32,12 @@ pub fn height_at(heights: &Heights, s: f64) -> Pair
 {
     let count = heights.len();
     match active_height(heights, s) {
-        Some(i) => {
-            let h = heights.get(i);
-            if i + 1 < count {
-                between(h, heights.get(i + 1), s)
-            } else {
-                held(h)
-            }
-        }
-        None => {
-            if count == 0 {
-                Pair {
-                    inner: 0.0,
-                    outer: 0.0,
-                }
-            } else {
-                held(heights.get(0))
-            }
-        }
+        Some(i) if i + 1 < count => between(heights.get(i), heights.get(i + 1), s),
+        Some(i) => held(heights.get(i)),
+        None if count == 0 => Pair {
+            inner: 0.0,
+            outer: 0.0,
+        },
+        None => held(heights.get(0)),
     }
 }

@@ -35,19 +35,9 @@ pub fn shape_at(road: &LentRoad, s: f64, t: f64) -> f64
 {
     let count = profile_count(road);
     match profile_at(road, s) {
-        Some(i) => {
-            if i + 1 < count {
-                shape_between(road, i, s, t)
-            } else {
-                profile_height(road, i, t)
-            }
-        }
-        None => {
-            if count == 0 {
-                0.0
-            } else {
-                profile_height(road, 0, t)
-            }
-        }
+        Some(i) if i + 1 < count => shape_between(road, i, s, t),
+        Some(i) => profile_height(road, i, t),
+        None if count == 0 => 0.0,
+        None => profile_height(road, 0, t),
     }
 }

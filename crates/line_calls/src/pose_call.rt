@@ -20,6 +20,7 @@ pub fn posed(
     ensures { answered result ≡ pose_call words.now numbers.now samples.now geometry s }
 {
     let road = admit(words, numbers)?;
+    // the C interface lends samples as flat f64, four each
     if samples.len() / 4 < samples_needed(&road) {
         return Err(Refusal::SampleSpace);
     }

@@ -70,6 +70,7 @@ pub fn samples(words: &[u16], numbers: &[f64], samples: &mut [f64]) -> Result<us
 {
     let road = admit(words, numbers)?;
     let n = samples_needed(&road);
+    // the C interface lends samples as flat f64, four each
     if samples.len() / 4 < n {
         return Err(Refusal::SampleSpace);
     }

@@ -25,6 +25,7 @@ fn leading_eights(samples: &[f64], first: usize, d: f64, n: usize) -> usize
     ensures n_value { leading samples.now first d n ≡ result + leading samples.now (first + result) d (n - result) }
     ensures small { result ≤ n }
 {
+    // the samples that the slice holds whole: the C interface lends them as flat f64, four each
     let whole = samples.len() / 4;
     for eight in 0..n / 8 {
         let k = eight * 8;

@@ -164,7 +164,7 @@ module _ (words : List ℕ) (numbers : List Float) where
   unfolding road_of
   strip-past i h = table-past (strip_in words numbers) 4 i absent h
 
--- ---- the same, by the values that a function has read
+-- ---- what the road holds, by the values that a function has read
 
 -- a strip that is there
 abbrev there : List ℕ → List Float → ℕ → ℕ → Strip

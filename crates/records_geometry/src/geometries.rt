@@ -11,6 +11,7 @@ const K0_BASE: usize = GEOM_BASE + 5;
 
 const K1_BASE: usize = GEOM_BASE + 6;
 
+// The kind is the number that the lent words hold, as the C interface has it; here it becomes an enum.
 fn shape_of(kind: usize, k0: f64, k1: f64) -> GeomShape
     ensures { result ≡ geom_shape_of kind k0 k1 }
 {
@@ -64,6 +65,7 @@ pub fn unused_zero(road: &LentRoad, i: usize) -> bool
     }
 }
 
+// By the number in the words again: an arc's or a line's unused columns are no part of its GeomShape.
 fn unused_of(kind: usize, k0: bool, k1: bool) -> bool
     ensures { result ≡ cond (eqb kind 1) k1 (cond (eqb kind 2) true (k0 && k1)) }
 {

@@ -62,7 +62,7 @@ pub fn lane_line(words: &[u16], place: LanePlace) -> Option<usize>
     }
 }
 
-// The lane that a line of the lane table has.
+// The lane that a line of the lane table has. It takes the slices: a road's model has lanes by section, side and place, and no lines.
 pub fn lane_in<'a>(words: &[u16], numbers: &'a [f64], line: u32) -> LentLane<'a>
     ensures { result ≡ lane_in words.now numbers.now line }
 {

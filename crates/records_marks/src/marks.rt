@@ -23,7 +23,7 @@ pub fn mark_count(road: &LentRoad, section: usize) -> usize
     }
 }
 
-// The j-th mark of the mark table.
+// The j-th mark of the mark table. It takes the slices: a road's model has marks by section, and no table.
 fn mark_in(words: &[u16], numbers: &[f64], j: usize) -> Mark
     requires { j < 131072 }
     ensures { result ≡ mark_in words.now numbers.now j }

@@ -25,7 +25,8 @@ pub fn profile_start(road: &LentRoad, i: usize) -> f64
     number(part(road.numbers, PROFILE_BASE, profile_count(road)), i)
 }
 
-// The cubics of a table whose base is given: from the first on as many as the two words at a place say.
+// The cubics of a table whose base is given: from the first on as many as the two words at a place say. It takes the slices, since a road's model
+// has no places.
 fn cubics_at<'a>(words: &[u16], numbers: &'a [f64], base: usize, at: usize) -> Cubics<'a>
     requires { (base < 65536) × (at < 196608) }
     ensures { result ≡ cubics_in words.now numbers.now base (get_or words.now at 0) (get_or words.now (at + 1) 0) }
