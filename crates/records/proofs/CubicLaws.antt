@@ -21,10 +21,6 @@ module _ (xs : List Float) where
   unfolding heights_of
   height_in_lem i h = table_at _ _ i no_height h
 
-  pub height-past : (i : ℕ) → length xs / 3 ≤ i → height_def_at (heights_of xs) i ≡ no_height
-  unfolding heights_of
-  height-past i h = table-past _ _ i no_height h
-
 -- ---- by the active cubic
 
 module _ (cs : List Cubic) (s : Float) where

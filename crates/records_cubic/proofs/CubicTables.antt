@@ -15,7 +15,3 @@ module _ (xs : List Float) where
   pub cubic_in_lem : (i : ℕ) → i < length xs / 5 → cubic_at (cubics_of xs) i ≡ cubic_from xs (i * 5)
   unfolding cubics_of
   cubic_in_lem i h = table_at _ _ i no_cubic h
-
-  pub cubic-past : (i : ℕ) → length xs / 5 ≤ i → cubic_at (cubics_of xs) i ≡ no_cubic
-  unfolding cubics_of
-  cubic-past i h = table-past _ _ i no_cubic h
