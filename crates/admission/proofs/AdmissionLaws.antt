@@ -14,7 +14,7 @@ use Rattle.admission_order.specs.Order.{ordered}
 use Rattle.admission.specs.Limits.{limited}
 use Rattle.line_samples.specs.Samples.{samples_needed, most_samples}
 use Rattle.admission.specs.Admission.{road_rows, admit_call, admitted}
-use Rattle.admission.proofs.RowLaws.{pass-checked, checked-pass, checked-first, pass-more}
+use Rattle.admission.proofs.RowLaws.{checked-pass, checked-first, pass-more}
 
 both : (a b : Bool) → a && b ≡ true → (a ≡ true) × (b ≡ true)
 both true b e = (refl, e)

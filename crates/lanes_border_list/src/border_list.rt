@@ -13,6 +13,8 @@ fn write_side(road: &LentRoad, section: usize, s: f64, right: bool, base: f64, l
     ensures { list.new ≡ side_list (borders_at (side_lanes road.now section right) (sign_of right) base s) (length (side_lanes road.now section right)) }
 {
     let mut inner = base;
+    // By places, and not by chunks_exact_mut: tried, and the proof did not close, since a loop's invariant has no name for what the chunks written
+    // so far hold.
     for k in 0..list.len() / 3 {
         let b = next_border(road, LanePlace { section, right, k }, s, inner);
         list[k * 3] = b.inner;
@@ -29,6 +31,7 @@ pub fn list_borders(road: &LentRoad, section: usize, s: f64, list: &mut [f64]) -
 {
     let left = lane_count(road, section, false);
     let right = lane_count(road, section, true);
+    // the C interface lends the list as flat f64, three a lane
     if list.len() / 3 < left + right {
         return false;
     }

@@ -3,14 +3,14 @@
 use mathlib.Core.Path.{◌≡◌, refl, sym, subst}
 use mathlib.Core.Bool.{Bool, true, false, cond}
 use mathlib.Core.List.{List}
-use Prim.Native.Nat.{ℕ, zero, suc, ◌+◌, ◌*◌, ◌^◌, ◌≤◌, ◌<◌, zero-le}
+use Prim.Native.Nat.{ℕ, zero, suc, ◌+◌, ◌*◌, ◌^◌, ◌≤◌, ◌<◌}
 use native.Mathlib.Nat.{le_trans, le_of_eq, mul-le-mul_right}
 use native.Mathlib.Omega.{arith}
-use lib.Dec.{T, lit≤}
+use lib.Dec.{lit≤}
 use lib.ListN.{length, get_or}
 use lib.Ieee.{Float, binary64, prec, low, le, of_bits, fits}
 use Rattle.float_laws.specs.Binary64.{f64, zero64}
-use Rattle.float_laws.proofs.Value.{mag, pl, mi, Real, parts→le}
+use Rattle.float_laws.proofs.Value.{mag, pl, mi, Real}
 use Rattle.float_laws.proofs.Size.{Within}
 use Rattle.float_laws.proofs.Whole.{Whole}
 use Rattle.std.specs.declared.option.Option.{Option}

@@ -1,6 +1,6 @@
 -- The pose call of the C interface. Document 01 has no such call: its rows are those of a call with samples (3 4 5 6), the geometry's own, and 7.
 use Rattle.std.specs.Prelude.{ℕ, List, [], ◌∷◌, ◌++◌, length, ltb, Float}
-use Rattle.refusals.specs.Answer.{Answer, value, refused, Row, row, checked}
+use Rattle.refusals.specs.Answer.{Answer, value, Row, row, checked}
 use Rattle.refusals.specs.declared.refusals.Refusal.TheVariants.{Structure}
 use Rattle.records.specs.Roads.{Road, road_of}
 use Rattle.admission_arguments.specs.Arguments.{station_row}

@@ -1,5 +1,5 @@
 -- The heights that a list of numbers holds, and the value and the slope by the active cubic. From the laws on tables.
-use Prim.Native.Nat.{ℕ, ◌*◌, ◌/◌, ◌<◌, ◌≤◌}
+use Prim.Native.Nat.{ℕ, ◌*◌, ◌/◌, ◌<◌}
 use mathlib.Core.Path.{◌≡◌}
 use mathlib.Core.List.{List}
 use lib.ListN.{length}
@@ -10,7 +10,7 @@ use Rattle.records_cubic.specs.declared.cubics.Cubic.{Cubic}
 use Rattle.records_cubic.specs.Cubics.{cubic_at, eval_at, slope_at}
 use Rattle.records.specs.Active.{active_in, value_in, slope_in}
 use Rattle.records.specs.Roads.{heights_of, height_def_at, height_def_from, no_height}
-use Rattle.records_lent.proofs.TableLaws.{length-table, table_at, table-past}
+use Rattle.records_lent.proofs.TableLaws.{length-table, table_at}
 
 module _ (xs : List Float) where
   pub height-count : length (heights_of xs) ≡ length xs / 3
@@ -20,10 +20,6 @@ module _ (xs : List Float) where
   pub height_in_lem : (i : ℕ) → i < length xs / 3 → height_def_at (heights_of xs) i ≡ height_def_from xs (i * 3)
   unfolding heights_of
   height_in_lem i h = table_at _ _ i no_height h
-
-  pub height-past : (i : ℕ) → length xs / 3 ≤ i → height_def_at (heights_of xs) i ≡ no_height
-  unfolding heights_of
-  height-past i h = table-past _ _ i no_height h
 
 -- ---- by the active cubic
 

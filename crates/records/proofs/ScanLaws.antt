@@ -8,7 +8,7 @@ use native.Mathlib.Nat.{le_of_suc-le-suc, eq-or-lt_of_le}
 use lib.Ieee.{Float, le}
 use Rattle.std.specs.declared.option.Option.TheVariants.{Some}
 use Rattle.records_lent.specs.Lists.{last_that}
-use Rattle.records_lent.proofs.TableLaws.{lt-suc, last_that-same}
+use Rattle.records_lent.proofs.TableLaws.{last_that-same}
 use Rattle.records.specs.Active.{last_start}
 
 pub last_start-same : (f g : ℕ → Float) (limit : Float) (n : ℕ) → ((i : ℕ) → i < n → f i ≡ g i) → last_start f limit n ≡ last_start g limit n
@@ -25,7 +25,7 @@ last_start-below f limit (suc n) i e = go (last_start-below f limit n i) (le (f 
   where
     go : (last_start f limit n ≡ Some i → i < n) → (b : Bool) → cond b (Some n) (last_start f limit n) ≡ Some i → i < suc n
     go below true h = let g = same_place h in omega arith
-    go below false h = lt-suc (below h)
+    go below false h = let l = below h in omega arith
 
 pub last_start-reached : (f : ℕ → Float) (limit : Float) (n i : ℕ) → last_start f limit n ≡ Some i → le (f i) limit ≡ true
 unfolding last_start last_that

@@ -1,53 +1,39 @@
 // A lane's heights in lent numbers.
-ghost use Rattle.std.specs.Prelude.{◌≡◌, length};
-ghost use Rattle.records.specs.Roads.{height_def_at};
-
 use crate::layout::HEIGHT_STRIDE;
 use crate::points::HeightDef;
-use std::marker::Model;
+use records_lent::{Record, Records};
 
-// Heights as a part of the lent numbers holds them, three numbers each. What is left over at its end is no height.
-// A type beside `Cubics` and not one over both: what a model is seen as cannot name what its parameter is seen as.
-#[derive(Drop)]
-pub struct Heights<'a> {
-    pub numbers: &'a [f64],
-}
+impl Record for HeightDef {
+    ghost use Rattle.std.proofs.Common.{rules};
+    ghost use Rattle.records.specs.Layout.{height_stride};
+    ghost use Rattle.records.specs.Roads.{height_def_from, no_height};
 
-impl<'a> Model for Heights<'a> {
-    ghost use Rattle.std.specs.Prelude.{List};
-    ghost use Rattle.records.specs.declared.points.HeightDef.{HeightDef as OneHeight};
-    ghost use Rattle.records.specs.Roads.{heights_of};
+    ghost from = { height_def_from };
 
-    ghost Value = { List OneHeight };
+    ghost none = { no_height };
 
-    ghost view = { λ heights. heights_of heights.numbers.now };
-}
+    ghost STRIDE = { height_stride };
 
-impl<'a> Heights<'a> {
-    pub fn len(&self) -> usize
-        ensures { result ≡ length self.now }
-    {
-        self.numbers.len() / HEIGHT_STRIDE
+    const STRIDE: usize = HEIGHT_STRIDE;
+
+    ghost some = { Prim.search rules };
+
+    fn read(numbers: &[f64], at: usize) -> Self {
+        HeightDef {
+            s_offset: numbers[at],
+            inner: numbers[at + 1],
+            outer: numbers[at + 2],
+        }
     }
 
-    // The i-th height; NaNs where there is none.
-    pub fn get(&self, i: usize) -> HeightDef
-        ensures { result ≡ height_def_at self.now i }
-    {
-        let part = self.numbers;
-        if i < part.len() / HEIGHT_STRIDE {
-            let k = i * HEIGHT_STRIDE;
-            HeightDef {
-                s_offset: part[k],
-                inner: part[k + 1],
-                outer: part[k + 2],
-            }
-        } else {
-            HeightDef {
-                s_offset: f64::NAN,
-                inner: f64::NAN,
-                outer: f64::NAN,
-            }
+    fn nothing() -> Self {
+        HeightDef {
+            s_offset: f64::NAN,
+            inner: f64::NAN,
+            outer: f64::NAN,
         }
     }
 }
+
+// Heights as a part of the lent numbers holds them.
+pub type Heights<'a> = Records<'a, HeightDef>;

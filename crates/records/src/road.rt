@@ -30,9 +30,7 @@ impl<'a> Model for LentRoad<'a> {
 fn flat<'a>(words: &[u16], numbers: &'a [f64], base: usize, count_at: usize) -> Cubics<'a>
     ensures { result ≡ cubics_in words.now numbers.now base 0 (get_or words.now count_at 0) }
 {
-    Cubics {
-        numbers: part(numbers, base, word(words, count_at) * CUBIC_STRIDE),
-    }
+    Cubics::new(part(numbers, base, word(words, count_at) * CUBIC_STRIDE))
 }
 
 impl<'a> LentRoad<'a> {

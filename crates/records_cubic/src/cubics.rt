@@ -1,11 +1,8 @@
 // A cubic along the road or across it, from its own start; and a list of cubics in lent numbers.
-ghost use Rattle.std.specs.Prelude.{◌≡◌, length};
-ghost use Rattle.records_cubic.specs.Cubics.{eval_at, slope_at, cubic_at};
+ghost use Rattle.std.specs.Prelude.{◌≡◌};
+ghost use Rattle.records_cubic.specs.Cubics.{eval_at, slope_at};
 
-use std::marker::Model;
-
-// The numbers of a cubic: start, a, b, c, d.
-const STRIDE: usize = 5;
+use records_lent::{Record, Records};
 
 #[derive(Clone, Copy)]
 pub struct Cubic {
@@ -34,51 +31,40 @@ impl Cubic {
     }
 }
 
-// Cubics as a part of the lent numbers holds them, five numbers each. What is left over at its end is no cubic.
-#[derive(Drop)]
-pub struct Cubics<'a> {
-    pub numbers: &'a [f64],
-}
+impl Record for Cubic {
+    ghost use Rattle.std.proofs.Common.{rules};
+    ghost use Rattle.records_cubic.specs.Cubics.{cubic_from, no_cubic};
 
-impl<'a> Model for Cubics<'a> {
-    ghost use Rattle.std.specs.Prelude.{List};
-    ghost use Rattle.records_cubic.specs.declared.cubics.Cubic.{Cubic as OneCubic};
-    ghost use Rattle.records_cubic.specs.Cubics.{cubics_of};
+    ghost from = { cubic_from };
 
-    ghost Value = { List OneCubic };
+    ghost none = { no_cubic };
 
-    ghost view = { λ cubics. cubics_of cubics.numbers.now };
-}
+    ghost STRIDE = { 5 };
 
-impl<'a> Cubics<'a> {
-    pub fn len(&self) -> usize
-        ensures { result ≡ length self.now }
-    {
-        self.numbers.len() / STRIDE
+    const STRIDE: usize = 5;
+
+    ghost some = { Prim.search rules };
+
+    fn read(numbers: &[f64], at: usize) -> Self {
+        Cubic {
+            start: numbers[at],
+            a: numbers[at + 1],
+            b: numbers[at + 2],
+            c: numbers[at + 3],
+            d: numbers[at + 4],
+        }
     }
 
-    // The i-th cubic; NaNs where there is none.
-    pub fn get(&self, i: usize) -> Cubic
-        ensures { result ≡ cubic_at self.now i }
-    {
-        let part = self.numbers;
-        if i < part.len() / STRIDE {
-            let k = i * STRIDE;
-            Cubic {
-                start: part[k],
-                a: part[k + 1],
-                b: part[k + 2],
-                c: part[k + 3],
-                d: part[k + 4],
-            }
-        } else {
-            Cubic {
-                start: f64::NAN,
-                a: f64::NAN,
-                b: f64::NAN,
-                c: f64::NAN,
-                d: f64::NAN,
-            }
+    fn nothing() -> Self {
+        Cubic {
+            start: f64::NAN,
+            a: f64::NAN,
+            b: f64::NAN,
+            c: f64::NAN,
+            d: f64::NAN,
         }
     }
 }
+
+// Cubics as a part of the lent numbers holds them.
+pub type Cubics<'a> = Records<'a, Cubic>;

@@ -74,8 +74,8 @@ pub fn lane_in<'a>(words: &[u16], numbers: &'a [f64], line: u32) -> LentLane<'a>
     LentLane {
         border: word(words, at) == 1,
         level: word(words, at + 1) == 1,
-        extents: Cubics { numbers: extents },
-        heights: Heights { numbers: heights },
+        extents: Cubics::new(extents),
+        heights: Heights::new(heights),
     }
 }
 
@@ -85,8 +85,8 @@ fn no_lane<'a>() -> LentLane<'a>
     LentLane {
         border: false,
         level: false,
-        extents: Cubics { numbers: &[] },
-        heights: Heights { numbers: &[] },
+        extents: Cubics::new(&[]),
+        heights: Heights::new(&[]),
     }
 }
 

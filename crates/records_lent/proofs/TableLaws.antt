@@ -77,11 +77,7 @@ module _ (p : ℕ → Bool) where
 
 -- ---- the last that passes: the tests below n alone decide
 
--- below n is below its successor
-pub lt-suc : {i n : ℕ} → i < n → i < suc n
-lt-suc h = omega arith
-
 pub last_that-same : (p q : ℕ → Bool) (n : ℕ) → ((i : ℕ) → i < n → p i ≡ q i) → last_that p n ≡ last_that q n
 unfolding last_that
 last_that-same p q zero h = refl
-last_that-same p q (suc n) h = rw (h n (omega arith), last_that-same p q n (λ i l. h i (lt-suc l)))
+last_that-same p q (suc n) h = rw (h n (omega arith), last_that-same p q n (λ i l. h i (omega arith)))

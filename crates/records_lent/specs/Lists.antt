@@ -1,10 +1,14 @@
 -- Lists as the tables of a road hold them.
-use Rattle.std.specs.Prelude.{ℕ, zero, suc, Bool, true, false, cond, ◌&&◌, ◌||◌, List, [], ◌∷◌, take, drop, Option, Some, None}
+use Rattle.std.specs.Prelude.{ℕ, zero, suc, ◌*◌, ◌/◌, Bool, true, false, cond, ◌&&◌, ◌||◌, List, [], ◌∷◌, length, take, drop, Float, Option, Some, None}
 
 -- the first n values of a function
 unfoldable pub tabulate : {A : Type 0} → (ℕ → A) → ℕ → List A
 tabulate f zero = []
 tabulate f (suc n) = f zero ∷ tabulate (λ k. f (suc k)) n
+
+-- the records that numbers hold, one each stride, read from its place on; what is left over at the end is none
+abbrev pub records_of : {A : Type 0} → (List Float → ℕ → A) → ℕ → List Float → List A
+records_of from stride xs = tabulate (λ i. from xs (i * stride)) (length xs / stride)
 
 -- count elements from a start on, fewer where the list ends before
 abbrev pub span : {A : Type 0} → List A → ℕ → ℕ → List A

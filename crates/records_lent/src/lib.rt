@@ -1,7 +1,9 @@
-// Numbers, words and parts of lent slices.
+// Numbers, words, parts and records of lent slices.
 // Every accessor is total: past the end of a slice a number is NaN, a word 0 and a part shorter, so no caller needs a bound.
 #![tactic(auto)]
 
 mod access;
+mod records;
 
 pub use access::{number, part, word};
+pub use records::{Record, Records};

@@ -32,15 +32,13 @@ fn cubics_at<'a>(words: &[u16], numbers: &'a [f64], base: usize, at: usize) -> C
     ensures { result ≡ cubics_in words.now numbers.now base (get_or words.now at 0) (get_or words.now (at + 1) 0) }
 {
     let first = base + word(words, at) * CUBIC_STRIDE;
-    Cubics {
-        numbers: part(numbers, first, word(words, at + 1) * CUBIC_STRIDE),
-    }
+    Cubics::new(part(numbers, first, word(words, at + 1) * CUBIC_STRIDE))
 }
 
 fn no_cubics<'a>() -> Cubics<'a>
     ensures { result ≡ [] }
 {
-    Cubics { numbers: &[] }
+    Cubics::new(&[])
 }
 
 pub fn shapes<'a>(road: &LentRoad<'a>, i: usize) -> Cubics<'a>

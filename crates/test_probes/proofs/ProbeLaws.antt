@@ -7,10 +7,15 @@ use lib.Ieee.{Float}
 use lib.ListN.{length}
 use Rattle.std.specs.declared.option.Option.{Option}
 use Rattle.std.specs.declared.option.Option.TheVariants.{Some, None}
+use Rattle.records_cubic.specs.declared.cubics.Cubic.{Cubic}
 use Rattle.records_cubic.specs.Cubics.{cubics_of, cubic_at}
 use Rattle.records.specs.Active.{active_in, found_of, active_up_to}
 use Rattle.records_cubic.proofs.CubicTables.{cubic-count}
 use Rattle.records.proofs.ScanLaws.{last_start-below}
+
+-- of the list that was made of a part
+pub lent-active : (part : List Float) (s : Float) {cs : List Cubic} {f : Option ℕ} → cs ≡ cubics_of part → f ≡ active_in cs s → f ≡ active_in (cubics_of part) s
+lent-active part s made e = e ∙ ap (λ (cs : List Cubic). active_in cs s) made
 
 module _ (part : List Float) (s : Float) {f : Option ℕ} (e : f ≡ active_in (cubics_of part) s) where
   pub active-below : {i : ℕ} → f ≡ Some i → i < length part

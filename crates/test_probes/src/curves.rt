@@ -26,7 +26,7 @@ pub extern "C" fn probe_slope(start: f64, a: f64, b: f64, c: f64, d: f64, s: f64
 pub extern "C" fn probe_active(part: &[f64], s: f64) -> usize
     ensures { found_of result ≡ active_in (cubics_of part.now) s }
 {
-    match records_active::active(&Cubics { numbers: part }, s) {
+    match records_active::active(&Cubics::new(part), s) {
         Some(i) => i + 1,
         None => 0,
     }

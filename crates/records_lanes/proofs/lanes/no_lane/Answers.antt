@@ -1,9 +1,7 @@
 -- `no_lane`: no numbers, no cubics and no heights.
-use mathlib.Core.Path.{refl}
-use Rattle.records_cubic.specs.Cubics.{cubics_of}
-use Rattle.records.specs.Roads.{heights_of}
+use Rattle.records_lent.specs.Lists.{tabulate}
 use Rattle.records_lanes.proofs.lanes.no_lane.Goals as goal
 
 pub returns : goal.returns
-unfolding cubics_of heights_of
-returns c = refl
+unfolding tabulate
+returns c = rw (c.new.ensures, c.new-2.ensures)

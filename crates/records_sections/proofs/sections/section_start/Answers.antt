@@ -1,7 +1,7 @@
 -- `section_start`: the i-th of the starts, or NaN.
 use mathlib.Core.Path.{◌∙◌, ap, sym}
 use lib.ListN.{length}
-use Rattle.records.specs.Roads.{Road, section_of}
+use Rattle.records.specs.Roads.{Road}
 use Rattle.records.proofs.RoadLaws.{section-starts}
 use Rattle.records_sections.proofs.sections.section_start.Goals as goal
 

@@ -1,8 +1,7 @@
 -- `no_cubics`: no numbers, no cubics.
-use mathlib.Core.Path.{refl}
-use Rattle.records_cubic.specs.Cubics.{cubics_of}
+use Rattle.records_lent.specs.Lists.{tabulate}
 use Rattle.records_shapes.proofs.profiles.no_cubics.Goals as goal
 
 pub returns : goal.returns
-unfolding cubics_of
-returns c = refl
+unfolding tabulate
+returns c = c.new.ensures

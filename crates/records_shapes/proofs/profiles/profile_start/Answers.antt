@@ -1,7 +1,7 @@
 -- `profile_start`: the i-th of the starts, or NaN.
 use mathlib.Core.Path.{◌∙◌, ap, sym}
 use lib.ListN.{length}
-use Rattle.records.specs.Roads.{Road, profile_at}
+use Rattle.records.specs.Roads.{Road}
 use Rattle.records.proofs.RoadLaws.{profile-starts}
 use Rattle.records_shapes.proofs.profiles.profile_start.Goals as goal
 

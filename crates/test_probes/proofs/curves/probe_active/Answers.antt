@@ -1,20 +1,24 @@
 -- `probe_active`: the place is below the part's length, so that one more fits.
 use native.Mathlib.Omega.{arith}
-use Rattle.test_probes.proofs.ProbeLaws.{active-below, active-some, active-none}
+use Rattle.records_cubic.specs.Cubics.{cubics_of}
+use Rattle.test_probes.proofs.ProbeLaws.{lent-active, active-below, active-some, active-none}
 use Rattle.test_probes.proofs.curves.probe_active.Goals as goal
 
 pub overflow_add-result : goal.overflow_add-result
+unfolding cubics_of
 overflow_add-result c =
     let a = c.args in
-    let l = active-below a.part.now a.s c.active.ensures c.in-Some.is in
+    let l = active-below a.part.now a.s (lent-active a.part.now a.s c.new.ensures c.active.ensures) c.in-Some.is in
     omega arith
 
 pub returns-in-Some : goal.returns-in-Some
+unfolding cubics_of
 returns-in-Some c =
     let a = c.args in
-    active-some a.part.now a.s c.active.ensures c.in-Some.is
+    active-some a.part.now a.s (lent-active a.part.now a.s c.new.ensures c.active.ensures) c.in-Some.is
 
 pub returns-in-None : goal.returns-in-None
+unfolding cubics_of
 returns-in-None c =
     let a = c.args in
-    active-none a.part.now a.s c.active.ensures c.in-None.is
+    active-none a.part.now a.s (lent-active a.part.now a.s c.new.ensures c.active.ensures) c.in-None.is
