@@ -14,6 +14,8 @@ pub struct Vector {
     pub z: f32,
 }
 
+// The operators have one shape and stand apart: no macro of this repository may write an impl, and one function over a closure would say in its contract what the closure gives for each of x, y and z, which is longer than these bodies.
+
 // The place that v leads to.
 impl Add<Vector> for Point {
     type Output = Point;

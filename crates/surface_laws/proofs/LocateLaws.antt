@@ -11,7 +11,7 @@ use lib.ListN.{length}
 use borrow.Author.Tests.{leb-true}
 use Rattle.float_laws.specs.Binary64.{zero64}
 use Rattle.float_laws.proofs.Value.{mag, pl, mi, Real, le→units}
-use Rattle.float_laws.proofs.Interval.{in-of_le, le→parts, from_zero}
+use Rattle.float_laws.proofs.Interval.{in-of_le, from_zero}
 use Rattle.float_laws.proofs.Size.{reach-within}
 use Rattle.refusals.specs.Answer.{value, checked}
 use Rattle.records.specs.Roads.{Road, road_of}

@@ -5,7 +5,7 @@ use native.Mathlib.Nat.{le_trans, eq-zero-or-pos}
 use mathlib.Core.Logic.{⊎_elim}
 use native.Mathlib.Omega.{arith}
 use mathlib.Core.Path.{◌≡◌, refl, ap, ◌∙◌, subst}
-use mathlib.Core.Bool.{Bool, true, false, not, cond, ◌&&◌, ◌||◌}
+use mathlib.Core.Bool.{Bool, true, false, not, cond, ◌&&◌}
 use lib.Dec.{T}
 use lib.Ieee.{Float, nan, inf, fin, binary32, size, round, units, odd, of_bits, fits, le, lt, eq, mul, div}
 use lib.Ieee.Fits.{add-fits, mul-fits}
