@@ -21,9 +21,9 @@ use Rattle.reader_lines.specs.declared.names_line.Head.{Head}
 use Rattle.reader_lines.specs.declared.values_line.Values.{Values}
 use Rattle.reader_lines.specs.declared.columns.Order.{Order}
 use Rattle.reader_lines.specs.declared.columns.Cells.{Cells}
-use Rattle.reader_store.specs.Layout.{count_place, put_at, count_kept, numbers_below, wants_kept}
+use Rattle.reader_store.specs.Layout.{count_place, put_at, count_kept, rule_of, numbers_below, wants_kept}
 use Rattle.reader_store.specs.Progress.{start_progress, unsound_progress, ended_progress}
-use Rattle.reader_store.specs.Keep.{kept_words, kept_progress}
+use Rattle.reader_store.specs.Keep.{ruled_progress, kept_words, kept_progress}
 use Rattle.reader_store.specs.declared.progress.Progress.{Progress}
 use Rattle.reader_calls.specs.Reading.{Outcome, done, stop, by_outcome, lines_from, table_at, counted_progress, tables_from, zeros, zero_numbers, by_values, by_head}
 use Rattle.reader_laws.specs.Lines.{Lines, lines, broken, after, by_lines, lines_at, table_lines, tables_lines, by_row, by_names}
@@ -92,10 +92,15 @@ module _ (t : ℕ) (all : List Cells) (P : ℕ → Progress → List ℕ → Typ
   right-lines progress ws = right-from all 0 progress ws (zero-add (length all)) (λ i. ap (λ (n : ℕ). get_or all n no_cells) (sym (zero-add i)))
 
 -- a table that follows no rule leaves the progress alone
-pub plain-track : (t : ℕ) → ((k : ℕ) (cells : Cells) (progress : Progress) (ws : List ℕ) → kept_progress t k cells progress ws ≡ progress) → (rows : List Cells) (k : ℕ) (progress : Progress) (ws : List ℕ) → track_after t k rows progress ws ≡ progress
-unfolding track_after
-plain-track t f [] k progress ws = refl
-plain-track t f (r ∷ rs) k progress ws = plain-track t f rs (k + 1) (kept_progress t k r progress ws) (kept_words t k r progress ws) ∙ f k r progress ws
+module _ (t : ℕ) (none : rule_of t ≡ None) where
+  plain-line : (k : ℕ) (cells : Cells) (progress : Progress) (ws : List ℕ) → kept_progress t k cells progress ws ≡ progress
+  unfolding kept_progress ruled_progress
+  plain-line k cells progress ws = rw none
+
+  pub plain-track : (rows : List Cells) (k : ℕ) (progress : Progress) (ws : List ℕ) → track_after t k rows progress ws ≡ progress
+  unfolding track_after
+  plain-track [] k progress ws = refl
+  plain-track (r ∷ rs) k progress ws = plain-track rs (k + 1) (kept_progress t k r progress ws) (kept_words t k r progress ws) ∙ plain-line k r progress ws
 
 words-low : (t : ℕ) → t < 16 → (rows : List Cells) (k : ℕ) (progress : Progress) (ws : List ℕ) → Low 7 (words_after t k rows progress ws) ws
 unfolding words_after
