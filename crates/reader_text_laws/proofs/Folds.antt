@@ -11,6 +11,7 @@ use lib.Seq.{get_or-set_other}
 use lib.Dec.{eqb, ltb}
 use lib.Ieee.{Float}
 use borrow.Author.Tests.{eqb-true, eq-eqb}
+use Rattle.std.proofs.lemmas.Bool.{false≢true}
 use Rattle.reader_schema.specs.Schema.{name_of, limit_of}
 use Rattle.reader_cells.specs.Cells.{byte_at, name_span}
 use Rattle.reader_lines.specs.Columns.{no_cells}
@@ -195,7 +196,7 @@ module _ (t : ℕ) (small : t < 16) where
 
   counted-line : (n : ℕ) (progress : Progress) → t ≡ 0 → (counted_progress t n progress).sound ≡ true → 0 < n
   unfolding counted_progress
-  counted-line zero progress z e = let y : (cond (eqb t 0 && true) (unsound_progress progress) progress).sound ≡ true = e in let x : ◌≡◌ {A = Bool} false true = ap (λ (b : Bool). (cond (b && true) (unsound_progress progress) progress).sound) (sym (eq-eqb t 0 z)) ∙ y in let w : ◌≡◌ {A = ℕ} 0 1 = cc in absurd (omega arith)
+  counted-line zero progress z e = absurd (false≢true (ap (λ (b : Bool). (cond (b && true) (unsound_progress progress) progress).sound) (sym (eq-eqb t 0 z)) ∙ e))
   counted-line (suc n) progress z e = omega arith
 
   abbrev TableBy : Progress → List ℕ → List ℕ → Lines → Outcome → Type 0
