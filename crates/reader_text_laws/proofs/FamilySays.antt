@@ -1,5 +1,5 @@
 -- A text of right form is sound to the reader exactly where its lines' references and order are right (`sound-is-family`).
-use Prim.Native.Nat.{ℕ, suc, ◌+◌, ◌-◌, ◌*◌, ◌%◌, ◌<◌, ◌≤◌}
+use Prim.Native.Nat.{ℕ, zero, suc, ◌+◌, ◌-◌, ◌*◌, ◌%◌, ◌<◌, ◌≤◌}
 use native.Mathlib.Omega.{arith}
 use native.Mathlib.Nat.{eq-or-lt_of_le, le_of_suc-le-suc, mod-eq_of_lt}
 use mathlib.Core.Path.{◌≡◌, refl, sym, ◌∙◌, ap, subst}
@@ -8,14 +8,14 @@ use mathlib.Core.List.{List}
 use mathlib.Core.Logic.{⊎_elim}
 use lib.ListN.{length, get_or}
 use lib.Ieee.{Float}
-use Rattle.std.specs.Prelude.{Option, Some, is_some}
+use Rattle.std.specs.Prelude.{Option, Some, None, is_some}
 use Rattle.std.proofs.lemmas.Option.{same_Some}
 use Rattle.reader_lines.specs.Columns.{cell_of, no_cells}
 use Rattle.reader_lines.specs.declared.columns.Cells.{Cells}
 use Rattle.reader_store.specs.Layout.{rule_of}
 use Rattle.reader_store.specs.Progress.{strip_line, start_progress}
 use Rattle.reader_store.specs.Parents.{index_at, counted}
-use Rattle.reader_store.specs.Keep.{strip_named, mark_put, ruled_progress, kept_progress}
+use Rattle.reader_store.specs.Keep.{strip_named, mark_put}
 use Rattle.reader_store.specs.declared.layout.Family.TheVariants as families
 use Rattle.reader_store.specs.declared.parents.Ranked.{Ranked}
 use Rattle.reader_store.specs.declared.progress.Progress.{Progress}
@@ -191,10 +191,6 @@ module _ (text : List ℕ) (l n : ℕ) (st : ℕ → State) (rd : Reading text l
 
 -- ---- a right family
 
-plain : ((k : ℕ) (cells : Cells) (progress : Progress) (ws : List ℕ) → (kept_progress 0 k cells progress ws ≡ progress) × (kept_progress 1 k cells progress ws ≡ progress) × (kept_progress 2 k cells progress ws ≡ progress) × (kept_progress 3 k cells progress ws ≡ progress) × (kept_progress 4 k cells progress ws ≡ progress) × (kept_progress 5 k cells progress ws ≡ progress) × (kept_progress 6 k cells progress ws ≡ progress) × (kept_progress 10 k cells progress ws ≡ progress) × (kept_progress 15 k cells progress ws ≡ progress))
-unfolding kept_progress ruled_progress rule_of
-plain k cells progress ws = (refl, refl, refl, refl, refl, refl, refl, refl, refl)
-
 module _ (text : List ℕ) (l m n at count : ℕ) (progress : Progress) (ws : List ℕ) (ns : List Float) (vs : List ℕ) (form : tables_from 16 0 text 0 0 start_progress (zeros l) (zero_numbers m) (zeros n) ≡ done at count progress ws ns vs) (words_long : 1891 ≤ length (zeros l)) (numbers_long : 8449 ≤ length (zero_numbers m)) where
   abbrev T' : ℕ → List Cells
   T' t = lines_of text t
@@ -217,8 +213,8 @@ module _ (text : List ℕ) (l m n at count : ℕ) (progress : Progress) (ws : Li
   extend : (u : ℕ) → ((t : ℕ) → t < u → Sound t) → Sound u → (t : ℕ) → t < suc u → Sound t
   extend u f s t h = ⊎_elim (λ e. subst Sound (sym e) s) (λ l. f t l) (eq-or-lt_of_le (le_of_suc-le-suc h))
 
-  plain-sound : (t : ℕ) → ((k : ℕ) (cells : Cells) (progress : Progress) (ws : List ℕ) → kept_progress t k cells progress ws ≡ progress) → (st' t).progress.sound ≡ true → Sound t
-  plain-sound t f s = ap (λ (x : Progress). x.sound) (plain-track t f (T' t) 0 (st' t).progress (st' t).words) ∙ s
+  plain-sound : (t : ℕ) → rule_of t ≡ None → (st' t).progress.sound ≡ true → Sound t
+  plain-sound t e s = ap (λ (x : Progress). x.sound) (plain-track t e (T' t) 0 (st' t).progress (st' t).words) ∙ s
 
   module _ (family : Family T') where
     go_on : (t : ℕ) → t < 16 → Sound t → (st' (suc t)).progress.sound ≡ true
@@ -339,158 +335,38 @@ module _ (text : List ℕ) (l m n at count : ℕ) (progress : Progress) (ws : Li
             there_if (mark_named text l n 14 st' (rd' 14 f) (omega arith) (get_or (T' 14) k no_cells))
             (mark-there (T' 7) (length (T' 6)) (st' 14).words z c w (get_or (T' 14) k no_cells) ∙ ap (λ (o : Option Ranked). is_some o) (lane-is (T' 7) (length (T' 6)) (st' 14).words z c w (get_or (T' 14) k no_cells) q.0 q.1 q.2))
 
-    upto-0 : (t : ℕ) → t < 0 → Sound t
-    upto-0 t h = absurd (omega arith)
+    -- table by table: one is sound where those before it are
+    each : (t : ℕ) → t < 16 → ((v : ℕ) → v < t → Sound v) → (st' t).progress.sound ≡ true → Sound t
+    unfolding rule_of
+    each zero h f s = plain-sound 0 refl s
+    each (suc zero) h f s = plain-sound 1 refl s
+    each (suc (suc zero)) h f s = plain-sound 2 refl s
+    each (suc (suc (suc zero))) h f s = plain-sound 3 refl s
+    each (suc (suc (suc (suc zero)))) h f s = plain-sound 4 refl s
+    each (suc (suc (suc (suc (suc zero))))) h f s = plain-sound 5 refl s
+    each (suc (suc (suc (suc (suc (suc zero)))))) h f s = plain-sound 6 refl s
+    each (suc (suc (suc (suc (suc (suc (suc zero))))))) h f s = sound-7 f s
+    each (suc (suc (suc (suc (suc (suc (suc (suc zero)))))))) h f s = sound-8 f s
+    each (suc (suc (suc (suc (suc (suc (suc (suc (suc zero))))))))) h f s = sound-9 f s
+    each (suc (suc (suc (suc (suc (suc (suc (suc (suc (suc zero)))))))))) h f s = plain-sound 10 refl s
+    each (suc (suc (suc (suc (suc (suc (suc (suc (suc (suc (suc zero))))))))))) h f s = sound-11 f s
+    each (suc (suc (suc (suc (suc (suc (suc (suc (suc (suc (suc (suc zero)))))))))))) h f s = sound-12 f s
+    each (suc (suc (suc (suc (suc (suc (suc (suc (suc (suc (suc (suc (suc zero))))))))))))) h f s = sound-13 f s
+    each (suc (suc (suc (suc (suc (suc (suc (suc (suc (suc (suc (suc (suc (suc zero)))))))))))))) h f s = sound-14 f s
+    each (suc (suc (suc (suc (suc (suc (suc (suc (suc (suc (suc (suc (suc (suc (suc zero))))))))))))))) h f s = plain-sound 15 refl s
+    each (suc (suc (suc (suc (suc (suc (suc (suc (suc (suc (suc (suc (suc (suc (suc (suc t)))))))))))))))) h f s = absurd (omega arith)
 
-    begun-0 : (st' 0).progress.sound ≡ true
-    begun-0 = ap (λ (s : State). s.progress.sound) (state-first text l m n at count progress ws ns vs form words_long numbers_long)
+    -- the state after a sound table is sound
+    begun : (t : ℕ) → t ≤ 16 → ((v : ℕ) → v < t → Sound v) → (st' t).progress.sound ≡ true
+    begun zero h f = ap (λ (s : State). s.progress.sound) (state-first text l m n at count progress ws ns vs form words_long numbers_long)
+    begun (suc t) h f = go_on t (omega arith) (f t (omega arith))
 
-    table-0 : Sound 0
-    table-0 = plain-sound 0 (λ k cells x us. (plain k cells x us).0) begun-0
-
-    upto-1 : (t : ℕ) → t < 1 → Sound t
-    upto-1 = extend 0 upto-0 table-0
-
-    begun-1 : (st' 1).progress.sound ≡ true
-    begun-1 = go_on 0 (omega arith) table-0
-
-    table-1 : Sound 1
-    table-1 = plain-sound 1 (λ k cells x us. (plain k cells x us).1) begun-1
-
-    upto-2 : (t : ℕ) → t < 2 → Sound t
-    upto-2 = extend 1 upto-1 table-1
-
-    begun-2 : (st' 2).progress.sound ≡ true
-    begun-2 = go_on 1 (omega arith) table-1
-
-    table-2 : Sound 2
-    table-2 = plain-sound 2 (λ k cells x us. (plain k cells x us).2) begun-2
-
-    upto-3 : (t : ℕ) → t < 3 → Sound t
-    upto-3 = extend 2 upto-2 table-2
-
-    begun-3 : (st' 3).progress.sound ≡ true
-    begun-3 = go_on 2 (omega arith) table-2
-
-    table-3 : Sound 3
-    table-3 = plain-sound 3 (λ k cells x us. (plain k cells x us).3) begun-3
-
-    upto-4 : (t : ℕ) → t < 4 → Sound t
-    upto-4 = extend 3 upto-3 table-3
-
-    begun-4 : (st' 4).progress.sound ≡ true
-    begun-4 = go_on 3 (omega arith) table-3
-
-    table-4 : Sound 4
-    table-4 = plain-sound 4 (λ k cells x us. (plain k cells x us).4) begun-4
-
-    upto-5 : (t : ℕ) → t < 5 → Sound t
-    upto-5 = extend 4 upto-4 table-4
-
-    begun-5 : (st' 5).progress.sound ≡ true
-    begun-5 = go_on 4 (omega arith) table-4
-
-    table-5 : Sound 5
-    table-5 = plain-sound 5 (λ k cells x us. (plain k cells x us).5) begun-5
-
-    upto-6 : (t : ℕ) → t < 6 → Sound t
-    upto-6 = extend 5 upto-5 table-5
-
-    begun-6 : (st' 6).progress.sound ≡ true
-    begun-6 = go_on 5 (omega arith) table-5
-
-    table-6 : Sound 6
-    table-6 = plain-sound 6 (λ k cells x us. (plain k cells x us).6) begun-6
-
-    upto-7 : (t : ℕ) → t < 7 → Sound t
-    upto-7 = extend 6 upto-6 table-6
-
-    begun-7 : (st' 7).progress.sound ≡ true
-    begun-7 = go_on 6 (omega arith) table-6
-
-    table-7 : Sound 7
-    table-7 = sound-7 upto-7 begun-7
-
-    upto-8 : (t : ℕ) → t < 8 → Sound t
-    upto-8 = extend 7 upto-7 table-7
-
-    begun-8 : (st' 8).progress.sound ≡ true
-    begun-8 = go_on 7 (omega arith) table-7
-
-    table-8 : Sound 8
-    table-8 = sound-8 upto-8 begun-8
-
-    upto-9 : (t : ℕ) → t < 9 → Sound t
-    upto-9 = extend 8 upto-8 table-8
-
-    begun-9 : (st' 9).progress.sound ≡ true
-    begun-9 = go_on 8 (omega arith) table-8
-
-    table-9 : Sound 9
-    table-9 = sound-9 upto-9 begun-9
-
-    upto-10 : (t : ℕ) → t < 10 → Sound t
-    upto-10 = extend 9 upto-9 table-9
-
-    begun-10 : (st' 10).progress.sound ≡ true
-    begun-10 = go_on 9 (omega arith) table-9
-
-    table-10 : Sound 10
-    table-10 = plain-sound 10 (λ k cells x us. (plain k cells x us).7) begun-10
-
-    upto-11 : (t : ℕ) → t < 11 → Sound t
-    upto-11 = extend 10 upto-10 table-10
-
-    begun-11 : (st' 11).progress.sound ≡ true
-    begun-11 = go_on 10 (omega arith) table-10
-
-    table-11 : Sound 11
-    table-11 = sound-11 upto-11 begun-11
-
-    upto-12 : (t : ℕ) → t < 12 → Sound t
-    upto-12 = extend 11 upto-11 table-11
-
-    begun-12 : (st' 12).progress.sound ≡ true
-    begun-12 = go_on 11 (omega arith) table-11
-
-    table-12 : Sound 12
-    table-12 = sound-12 upto-12 begun-12
-
-    upto-13 : (t : ℕ) → t < 13 → Sound t
-    upto-13 = extend 12 upto-12 table-12
-
-    begun-13 : (st' 13).progress.sound ≡ true
-    begun-13 = go_on 12 (omega arith) table-12
-
-    table-13 : Sound 13
-    table-13 = sound-13 upto-13 begun-13
-
-    upto-14 : (t : ℕ) → t < 14 → Sound t
-    upto-14 = extend 13 upto-13 table-13
-
-    begun-14 : (st' 14).progress.sound ≡ true
-    begun-14 = go_on 13 (omega arith) table-13
-
-    table-14 : Sound 14
-    table-14 = sound-14 upto-14 begun-14
-
-    upto-15 : (t : ℕ) → t < 15 → Sound t
-    upto-15 = extend 14 upto-14 table-14
-
-    begun-15 : (st' 15).progress.sound ≡ true
-    begun-15 = go_on 14 (omega arith) table-14
-
-    table-15 : Sound 15
-    table-15 = plain-sound 15 (λ k cells x us. (plain k cells x us).8) begun-15
-
-    upto-16 : (t : ℕ) → t < 16 → Sound t
-    upto-16 = extend 15 upto-15 table-15
-
-    begun-16 : (st' 16).progress.sound ≡ true
-    begun-16 = go_on 15 (omega arith) table-15
+    upto : (u : ℕ) → u ≤ 16 → (t : ℕ) → t < u → Sound t
+    upto zero h t l = absurd (omega arith)
+    upto (suc u) h t l = let f = upto u (omega arith) in extend u f (each u (omega arith) f (begun u (omega arith) f)) t l
 
     pub family-sound : progress.sound ≡ true
-    family-sound = ap (λ (s : State). s.progress.sound) (sym (state-end text l m n at count progress ws ns vs form words_long numbers_long)) ∙ begun-16
+    family-sound = ap (λ (s : State). s.progress.sound) (sym (state-end text l m n at count progress ws ns vs form words_long numbers_long)) ∙ begun 16 (omega arith) (upto 16 (omega arith))
 
   pub sound-is-family : (progress.sound ≡ true → Family T') × (Family T' → progress.sound ≡ true)
   sound-is-family = (

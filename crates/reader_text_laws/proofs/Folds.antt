@@ -11,6 +11,7 @@ use lib.Seq.{get_or-set_other}
 use lib.Dec.{eqb, ltb}
 use lib.Ieee.{Float}
 use borrow.Author.Tests.{eqb-true, eq-eqb}
+use Rattle.std.proofs.lemmas.Bool.{false≢true}
 use Rattle.reader_schema.specs.Schema.{name_of, limit_of}
 use Rattle.reader_cells.specs.Cells.{byte_at, name_span}
 use Rattle.reader_lines.specs.Columns.{no_cells}
@@ -21,9 +22,9 @@ use Rattle.reader_lines.specs.declared.names_line.Head.{Head}
 use Rattle.reader_lines.specs.declared.values_line.Values.{Values}
 use Rattle.reader_lines.specs.declared.columns.Order.{Order}
 use Rattle.reader_lines.specs.declared.columns.Cells.{Cells}
-use Rattle.reader_store.specs.Layout.{count_place, put_at, count_kept, numbers_below, wants_kept}
+use Rattle.reader_store.specs.Layout.{count_place, put_at, count_kept, rule_of, numbers_below, wants_kept}
 use Rattle.reader_store.specs.Progress.{start_progress, unsound_progress, ended_progress}
-use Rattle.reader_store.specs.Keep.{kept_words, kept_progress}
+use Rattle.reader_store.specs.Keep.{ruled_progress, kept_words, kept_progress}
 use Rattle.reader_store.specs.declared.progress.Progress.{Progress}
 use Rattle.reader_calls.specs.Reading.{Outcome, done, stop, by_outcome, lines_from, table_at, counted_progress, tables_from, zeros, zero_numbers, by_values, by_head}
 use Rattle.reader_laws.specs.Lines.{Lines, lines, broken, after, by_lines, lines_at, table_lines, tables_lines, by_row, by_names}
@@ -92,10 +93,15 @@ module _ (t : ℕ) (all : List Cells) (P : ℕ → Progress → List ℕ → Typ
   right-lines progress ws = right-from all 0 progress ws (zero-add (length all)) (λ i. ap (λ (n : ℕ). get_or all n no_cells) (sym (zero-add i)))
 
 -- a table that follows no rule leaves the progress alone
-pub plain-track : (t : ℕ) → ((k : ℕ) (cells : Cells) (progress : Progress) (ws : List ℕ) → kept_progress t k cells progress ws ≡ progress) → (rows : List Cells) (k : ℕ) (progress : Progress) (ws : List ℕ) → track_after t k rows progress ws ≡ progress
-unfolding track_after
-plain-track t f [] k progress ws = refl
-plain-track t f (r ∷ rs) k progress ws = plain-track t f rs (k + 1) (kept_progress t k r progress ws) (kept_words t k r progress ws) ∙ f k r progress ws
+module _ (t : ℕ) (none : rule_of t ≡ None) where
+  plain-line : (k : ℕ) (cells : Cells) (progress : Progress) (ws : List ℕ) → kept_progress t k cells progress ws ≡ progress
+  unfolding kept_progress ruled_progress
+  plain-line k cells progress ws = rw none
+
+  pub plain-track : (rows : List Cells) (k : ℕ) (progress : Progress) (ws : List ℕ) → track_after t k rows progress ws ≡ progress
+  unfolding track_after
+  plain-track [] k progress ws = refl
+  plain-track (r ∷ rs) k progress ws = plain-track rs (k + 1) (kept_progress t k r progress ws) (kept_words t k r progress ws) ∙ plain-line k r progress ws
 
 words-low : (t : ℕ) → t < 16 → (rows : List Cells) (k : ℕ) (progress : Progress) (ws : List ℕ) → Low 7 (words_after t k rows progress ws) ws
 unfolding words_after
@@ -190,7 +196,7 @@ module _ (t : ℕ) (small : t < 16) where
 
   counted-line : (n : ℕ) (progress : Progress) → t ≡ 0 → (counted_progress t n progress).sound ≡ true → 0 < n
   unfolding counted_progress
-  counted-line zero progress z e = let y : (cond (eqb t 0 && true) (unsound_progress progress) progress).sound ≡ true = e in let x : ◌≡◌ {A = Bool} false true = ap (λ (b : Bool). (cond (b && true) (unsound_progress progress) progress).sound) (sym (eq-eqb t 0 z)) ∙ y in let w : ◌≡◌ {A = ℕ} 0 1 = cc in absurd (omega arith)
+  counted-line zero progress z e = absurd (false≢true (ap (λ (b : Bool). (cond (b && true) (unsound_progress progress) progress).sound) (sym (eq-eqb t 0 z)) ∙ e))
   counted-line (suc n) progress z e = omega arith
 
   abbrev TableBy : Progress → List ℕ → List ℕ → Lines → Outcome → Type 0

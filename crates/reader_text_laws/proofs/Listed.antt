@@ -10,7 +10,7 @@ use lib.Dec.{eqb, ltb, leb}
 use borrow.Author.Tests.{ltb-true, lt-leb, ne_eqb}
 use Rattle.records_lent.specs.Lists.{all_below}
 use Rattle.records_lent.proofs.TestLaws.{all-at}
-use Rattle.std.proofs.lemmas.Option.{same_Some}
+use Rattle.std.proofs.lemmas.Option.{none-some, same_Some}
 use Rattle.reader_schema.specs.Schema.{name_of, limit_of, counts, word_count, kinds, column_kind, place_of}
 use Rattle.reader_cells.specs.Cells.{byte_at, span_of, name_span, hex_at, whole_at, listed_at, cell_at}
 use Rattle.reader_cells.specs.declared.names.Span.{Span}
@@ -56,7 +56,7 @@ cell-listed text at kind v q h e = go (ltb (place_of kind (name_span text at).va
       where
         by : (b : Bool) → ltb (place_of kind (name_span text at).value) (word_count kind) ≡ b → cond b (Some (span_of (place_of kind (name_span text at).value) (name_span text at).next)) None ≡ Some (span_of v q) → v < word_count kind
         by true f g = let z : place_of kind (name_span text at).value ≡ v = ap (λ (s : Span). s.value) (same_Some _ _ g) in subst (λ (n : ℕ). n < word_count kind) z (ltb-true (place_of kind (name_span text at).value) (word_count kind) f)
-        by false f g = let z : ◌≡◌ {A = ℕ} 0 1 = cc in absurd (omega arith)
+        by false f g = absurd (none-some (span_of v q) g)
 
 set-either : (xs : List ℕ) (d v c : ℕ) (P : ℕ → Type 0) → (c ≡ d → P v) → P (get_or xs c 0) → P (get_or (set xs d v) c 0)
 set-either [] d v c P f p = p

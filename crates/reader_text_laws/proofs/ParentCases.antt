@@ -6,6 +6,7 @@ use mathlib.Core.Bool.{Bool, true, false, ◌&&◌, cond}
 use borrow.Author.Tests.{lt-ltb, le-ltb, eq-eqb, ne_eqb, lt-leb, ltb-false, leb-false}
 use lib.Dec.{eqb, ltb, leb}
 use Rattle.std.specs.Prelude.{Option, Some, None, is_some, unwrap_or, option_map}
+use Rattle.std.proofs.lemmas.Bool.{false≢true}
 use Rattle.std.proofs.lemmas.Option.{none-some, same_Some}
 use Rattle.reader_store.specs.Parents.{index_at, counted, side_of, lane_among}
 use Rattle.reader_store.specs.declared.parents.Ranked.{Ranked}
@@ -23,7 +24,7 @@ there e = e ∙ ap (λ (p : Option Ranked). Some (found p)) (sym e)
 
 pub there_if : (o : Option Ranked) → is_some o ≡ true → There o
 there_if (Some x) e = refl
-there_if None e = let z : ◌≡◌ {A = ℕ} 0 1 = cc in absurd (omega arith)
+there_if None e = absurd (false≢true e)
 
 -- what a value that is mapped was
 pub map_some : {A B P : Type 0} (f : A → B) (o : Option A) (y : B) → option_map f o ≡ Some y → ((x : A) → o ≡ Some x → f x ≡ y → P) → P

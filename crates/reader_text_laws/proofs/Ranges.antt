@@ -39,7 +39,7 @@ pub record Under (ws : List ℕ) (k : ℕ) (parent : Counted) (progress : Progre
   pub words : under_words ws k (Some parent) progress ≡ added ws k parent
   pub held : under_progress (Some parent) progress ≡ held_by parent progress
 
--- it has one
+-- a sound line has a parent that is there
 pub under-there : {P : Type 0} (parent : Option Counted) (progress : Progress) → (under_progress parent progress).sound ≡ true → ((p : Counted) → parent ≡ Some p → P) → P
 unfolding under_progress
 under-there (Some parent) progress e go = go parent refl
