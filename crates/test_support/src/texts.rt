@@ -1,9 +1,9 @@
 // A text that is put together piece by piece.
-ghost use Rattle.std.specs.Prelude.{◌≡◌, ◌≤◌, ℕ, List, [], ◌++◌, take};
-ghost use Rattle.test_support.specs.declared.texts.TheConstants.{TEXT_ROOM};
+ghost use Rattle.std.specs.Prelude.{◌≡◌, ℕ, List, [], ◌++◌};
 ghost use Rattle.test_support.specs.Texts.{appended, part_of, word_bytes, piece_of};
 
 use crate::lines::Line;
+use arrayvec::ArrayVec;
 use std::marker::Model;
 
 // Some more than the longest job, so that a text may be too long for one.
@@ -12,17 +12,14 @@ const TEXT_ROOM: usize = 66000;
 // What does not fit is left off.
 #[derive(Drop)]
 pub struct Text {
-    bytes: [u8; TEXT_ROOM],
-    count: usize,
+    bytes: ArrayVec<u8, TEXT_ROOM>,
 }
 
 // Clauses see the bytes that stand there.
 impl Model for Text {
     ghost Value = { List ℕ };
 
-    ghost view = { λ t. take t.count t.bytes };
-
-    ghost invariant = { λ t. t.count ≤ TEXT_ROOM };
+    ghost view = { λ t. t.bytes.items };
 }
 
 // The sixteen bytes of a line's numbers, the most significant of each first.
@@ -63,30 +60,28 @@ impl Text {
         ensures { result ≡ [] }
     {
         Text {
-            bytes: [0; TEXT_ROOM],
-            count: 0,
+            bytes: ArrayVec::new(),
         }
     }
 
     pub fn as_slice(&self) -> &[u8]
         ensures { result.now ≡ self.now }
     {
-        &self.bytes[..self.count]
+        self.bytes.as_slice()
     }
 
     pub fn clear(&mut self)
         ensures { self.new ≡ [] }
     {
-        self.count = 0;
+        self.bytes.clear();
     }
 
     pub fn append(&mut self, piece: &[u8])
         ensures { self.new ≡ appended self.old piece.now }
     {
-        let n = piece.len().min(TEXT_ROOM - self.count);
-        let end = self.count + n;
-        self.bytes[self.count..end].copy_from_slice(&piece[..n]);
-        self.count = end;
+        let n = piece.len().min(self.bytes.remaining_capacity());
+        // what is given to it fits
+        let _ = self.bytes.try_extend_from_slice(&piece[..n]);
     }
 
     // Appends what a line says, of itself and of another text.

@@ -2,8 +2,8 @@
 use Rattle.std.proofs.Common.{ℕ, ◌≤◌, ◌<◌, List, ◌++◌, ap, arith, append_assoc}
 use Rattle.refusals.specs.Refusal.{number_of}
 use Rattle.program_output.proofs.LineLaws.{number-short, number-long}
-use Rattle.program_output.proofs.text.Text.push_number.Goals as goal
-use Rattle.program_output.proofs.text.Text.push_number.Goals.{then-n-ge10, else-n-ge10}
+use Rattle.program_output.proofs.text.push_number.Goals as goal
+use Rattle.program_output.proofs.text.push_number.Goals.{then-n-ge10, else-n-ge10}
 
 pub returns : goal.returns
 returns c =

@@ -2,23 +2,23 @@
 use Rattle.std.proofs.Common.{arith, append_assoc, length-append, ap, subst}
 use Rattle.refusals.specs.Answer.{answered}
 use Rattle.program_output.specs.Lines.{FiniteAnswer, output_line}
-use Rattle.program_output.proofs.LineLaws.{length-hex}
-use Rattle.program_output.proofs.text.Text.push_want.Goals as goal
+use Rattle.reader_hex.proofs.HexWritten.{hex-length}
+use Rattle.program_output.proofs.lines.push_want.Goals as goal
 
 pub push_word-requires-2-clause-room : goal.push_word-requires-2-clause-room
-push_word-requires-2-clause-room c = rw c.push_word.ensures (simp length-append (omega (arith, length-hex)))
+push_word-requires-2-clause-room c = rw c.push_word.ensures (simp length-append (omega (arith, hex-length)))
 
 pub push_point-requires-clause-room : goal.push_point-requires-clause-room
-push_point-requires-clause-room c = rw (c.push_word-2.ensures, c.push_word.ensures) (simp length-append (omega (arith, length-hex)))
+push_point-requires-clause-room c = rw (c.push_word-2.ensures, c.push_word.ensures) (simp length-append (omega (arith, hex-length)))
 
 pub push_point-requires-clause-finite_point : goal.push_point-requires-clause-finite_point
 push_point-requires-clause-finite_point c = subst FiniteAnswer (ap answered c.in-Ok.is) c.requires.finite_answer
 
 pub push_bytes-requires : goal.push_bytes-requires
-push_bytes-requires c = rw (c.push_word-2.ensures, c.push_word.ensures) (simp length-append (omega (arith, length-hex)))
+push_bytes-requires c = rw (c.push_word-2.ensures, c.push_word.ensures) (simp length-append (omega (arith, hex-length)))
 
 pub push_number-requires : goal.push_number-requires
-push_number-requires c = rw (c.push_bytes.ensures, c.push_word-2.ensures, c.push_word.ensures) (simp length-append (omega (arith, length-hex)))
+push_number-requires c = rw (c.push_bytes.ensures, c.push_word-2.ensures, c.push_word.ensures) (simp length-append (omega (arith, hex-length)))
 
 pub returns-in-Ok : goal.returns-in-Ok
 unfolding output_line
