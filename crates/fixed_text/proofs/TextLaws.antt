@@ -1,5 +1,5 @@
 -- Pieces of a text.
-use Rattle.std.proofs.Common.{◌≡◌, ℕ, ◌+◌, ◌-◌, ◌≤◌, min, Bool, true, false, leb, List, ◌++◌, length, take, sym, refl, ap, ◌∙◌, arith, length-append, take_all, leb-false, leb-true, length-take-le}
+use Rattle.std.proofs.Common.{◌≡◌, ℕ, ◌+◌, ◌-◌, ◌≤◌, min, Bool, true, false, leb, List, ◌++◌, length, take, sym, refl, ap, ◌∙◌, arith, take_all, leb-false, leb-true, length-take-le}
 use Rattle.std.proofs.lemmas.Slice.{take-put_mid}
 use borrow.Rule.Slice.PartMut.{put_mid}
 use lib.Seq.{take-append-add}
@@ -11,11 +11,6 @@ take-fitting room n piece e = go (leb (length piece) room) refl
     go : (b : Bool) → leb (length piece) room ≡ b → take n piece ≡ take room piece
     go true h = let u = leb-true (length piece) room h in take_all n piece (omega arith) ∙ sym (take_all room piece (omega arith))
     go false h = let u = leb-false (length piece) room h in let f : n ≡ room = omega arith in rw f
-
--- what fits is put behind the text whole
-pub appended-fits : (room : ℕ) (text piece : List ℕ) → length text + length piece ≤ room → appended room text piece ≡ text ++ piece
-unfolding appended
-appended-fits room text piece l = take_all room (text ++ piece) (omega (arith, length-append text piece))
 
 -- n bytes of a piece are put behind the first count of a text's bytes
 pub appended-is : (room count n : ℕ) (bytes piece : List ℕ) → length bytes ≡ room → count ≤ room → n ≡ min (length piece) (room - count)

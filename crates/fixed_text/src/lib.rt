@@ -1,7 +1,7 @@
 // Bytes that are put together piece by piece, in memory of a fixed size of their own.
 #![tactic(auto)]
 
-ghost use Rattle.std.specs.Prelude.{◌≡◌, ◌≤◌, ◌+◌, ℕ, List, [], ◌∷◌, ◌++◌, length, take};
+ghost use Rattle.std.specs.Prelude.{◌≡◌, ◌≤◌, ◌+◌, [], ◌∷◌, ◌++◌, length};
 ghost use Rattle.fixed_text.specs.Texts.{appended};
 
 use std::marker::Model;

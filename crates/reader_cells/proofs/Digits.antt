@@ -154,9 +154,3 @@ fits b n m v d h o top k l =
     let p : b ^ (n + 1) ≤ b ^ m = pow-le-pow_right o (omega arith) in
     let q = more-below b n v d k l in
     omega (arith, p, q, top)
-
-pub four-digits : (n v : ℕ) → n ≤ 4 → v < 10 ^ n → v < 10000
-four-digits n v h k =
-    let o : 0 < 10 = omega arith in
-    let p : 10 ^ n ≤ 10 ^ 4 = pow-le-pow_right o h in
-    omega (arith, p, k)

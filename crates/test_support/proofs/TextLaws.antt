@@ -1,23 +1,7 @@
 -- Pieces of a text.
-use Rattle.std.proofs.Common.{◌≡◌, ℕ, ◌+◌, ◌-◌, ◌≤◌, min, Bool, true, false, leb, List, [], ◌++◌, length, take, drop, sym, refl, ap, ◌∙◌, arith, length-drop, drop-drop, drop_of_length-le, take_all, leb-false, leb-true, length-take-le}
-use lib.Seq.{take-nil, take-append-add}
-use Rattle.test_support.specs.Texts.{appended, part_of, word_bytes}
-
-take-fitting : (room n : ℕ) (piece : List ℕ) → n ≡ min (length piece) room → take n piece ≡ take room piece
-take-fitting room n piece e = go (leb (length piece) room) refl
-  where
-    go : (b : Bool) → leb (length piece) room ≡ b → take n piece ≡ take room piece
-    go true h = let u = leb-true (length piece) room h in take_all n piece (omega arith) ∙ sym (take_all room piece (omega arith))
-    go false h = let u = leb-false (length piece) room h in let f : n ≡ room = omega arith in rw f
-
--- so much of a piece as there is room for, behind a text
-pub appended-is : (text piece : List ℕ) (n : ℕ) → length text ≤ 66000 → n ≡ min (length piece) (66000 - length text) → text ++ take n piece ≡ appended text piece
-unfolding appended
-appended-is text piece n fits e =
-    let all : length text + (66000 - length text) ≡ 66000 = omega arith in
-    ap (λ (r : List ℕ). text ++ r) (take-fitting (66000 - length text) n piece e)
-    ∙ sym (take-append-add text piece (66000 - length text))
-    ∙ ap (λ (k : ℕ). take k (text ++ piece)) all
+use Rattle.std.proofs.Common.{◌≡◌, ℕ, ◌+◌, ◌-◌, ◌≤◌, min, Bool, true, false, leb, List, [], ◌++◌, length, take, drop, sym, refl, arith, length-drop, drop-drop, drop_of_length-le, take_all, leb-false, leb-true}
+use lib.Seq.{take-nil}
+use Rattle.test_support.specs.Texts.{part_of, word_bytes}
 
 -- the part that there is of a list, cut to the list's length
 pub part-is : (l : List ℕ) (first last e s : ℕ) → e ≡ min (length l) last → s ≡ min e first → take (e - s) (drop s l) ≡ part_of l first last

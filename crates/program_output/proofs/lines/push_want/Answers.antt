@@ -14,11 +14,10 @@ push_point-requires-clause-room c = rw (c.push_word-2.ensures, c.push_word.ensur
 pub push_point-requires-clause-finite_point : goal.push_point-requires-clause-finite_point
 push_point-requires-clause-finite_point c = subst FiniteAnswer (ap answered c.in-Ok.is) c.requires.finite_answer
 
-pub push_bytes-requires : goal.push_bytes-requires
-push_bytes-requires c = rw (c.push_word-2.ensures, c.push_word.ensures) (simp length-append (omega (arith, hex-length)))
-
 pub push_number-requires : goal.push_number-requires
-push_number-requires c = rw (c.push_bytes.ensures, c.push_word-2.ensures, c.push_word.ensures) (simp length-append (omega (arith, hex-length)))
+push_number-requires c =
+    let dash = c.append.ensures.fits (rw (c.push_word-2.ensures, c.push_word.ensures) (simp length-append (omega (arith, hex-length)))) in
+    rw (dash, c.push_word-2.ensures, c.push_word.ensures) (simp length-append (omega (arith, hex-length)))
 
 pub returns-in-Ok : goal.returns-in-Ok
 unfolding output_line
@@ -26,4 +25,6 @@ returns-in-Ok c = rw (c.push_point.ensures, c.push_word-2.ensures, c.push_word.e
 
 pub returns-in-Err : goal.returns-in-Err
 unfolding output_line
-returns-in-Err c = rw (c.push_number.ensures, c.push_bytes.ensures, c.push_word-2.ensures, c.push_word.ensures, c.in-Err.is) (simp append_assoc)
+returns-in-Err c =
+    let dash = c.append.ensures.fits (rw (c.push_word-2.ensures, c.push_word.ensures) (simp length-append (omega (arith, hex-length)))) in
+    rw (c.push_number.ensures, dash, c.push_word-2.ensures, c.push_word.ensures, c.in-Err.is) (simp append_assoc)
