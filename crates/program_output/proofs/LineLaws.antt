@@ -9,14 +9,10 @@ use Rattle.refusals.specs.Answer.{Answer, value, refused}
 use Rattle.records.specs.declared.points.Point.{Point}
 use Rattle.surface_points.specs.declared.points.SurfacePoint32.{SurfacePoint32}
 use Rattle.reader_hex.specs.Digits.{glyph_of, hex_of, decimal_of}
+use Rattle.reader_hex.proofs.HexWritten.{hex-length}
 use Rattle.program_output.specs.Lines.{number_line, point_line, answer_line, output_line}
 
 -- ---- digits
-
-pub length-hex : (k n : ℕ) → length (hex_of k n) ≡ k
-unfolding hex_of
-length-hex zero n = refl
-length-hex (suc k) n = let e = length-hex k (n / 16) in simp length-append (omega arith)
 
 -- a number's digits before a place, one place on
 pub hex-turn : (digits place n : ℕ) → 0 < place → place ≤ digits
@@ -52,16 +48,16 @@ length-number n = number-bits (ltb n 10) n
 pub length-point : (p : Point) → length (point_line p) ≡ 27
 unfolding point_line
 length-point p =
-    let a = length-hex 8 (to_bits binary32 p.x) in
-    let b = length-hex 8 (to_bits binary32 p.y) in
-    let c = length-hex 8 (to_bits binary32 p.z) in
+    let a = hex-length 8 (to_bits binary32 p.x) in
+    let b = hex-length 8 (to_bits binary32 p.y) in
+    let c = hex-length 8 (to_bits binary32 p.z) in
     simp length-append (omega arith)
 
 length-line : (s t : ℕ) (a : Answer SurfacePoint32) → length (output_line s t a) ≡ 34 + length (answer_line a)
 unfolding output_line
 length-line s t a =
-    let x = length-hex 16 s in
-    let y = length-hex 16 t in
+    let x = hex-length 16 s in
+    let y = hex-length 16 t in
     simp length-append (omega arith)
 
 length-answer : (a : Answer SurfacePoint32) → length (answer_line a) ≤ 27

@@ -1,4 +1,6 @@
 // A job text answered: read, its road's samples made, and a line for each want.
+//
+// Functions take the two lent slices and no road, as the calls do: which road they hold, if any, is what admission says.
 ghost use Rattle.std.specs.Prelude.{◌+◌, ◌*◌, ◌≤◌, ◌≡◌, ◌++◌, true, length};
 ghost use Rattle.refusals.specs.Refusal.{number_of};
 ghost use Rattle.records.specs.Layout.{want_stride, wants_needed};
@@ -9,7 +11,8 @@ ghost use Rattle.program_output.specs.declared.text.TheConstants.{OUTPUT_NEEDED}
 ghost use Rattle.program_output.specs.Lines.{refused_line};
 ghost use Rattle.program_output.specs.Output.{want_lines, wants_text, output_of, bytes_written, answered_in};
 
-use crate::text::{OUTPUT_NEEDED, Text};
+use crate::lines::push_want;
+use crate::text::{OUTPUT_NEEDED, Text, push_number};
 use records::layout::{NUMBERS_NEEDED, WANT_STRIDE, WANTS_NEEDED, WORDS_NEEDED};
 use refusals::Refusal;
 
@@ -18,8 +21,8 @@ fn refused(r: Refusal) -> Text
     ensures { result ≡ refused_line (number_of r) }
 {
     let mut text = Text::new();
-    text.push_bytes(b"refused ");
-    text.push_number(r);
+    text.append(b"refused ");
+    push_number(&mut text, r);
     text
 }
 
@@ -48,7 +51,7 @@ fn push_wants(
             reader_hex::of_bits(s),
             reader_hex::of_bits(t),
         );
-        text.push_want(s, t, answer);
+        push_want(text, s, t, answer);
     }
 }
 
@@ -63,7 +66,7 @@ fn wants_text(words: &[u16], numbers: &[f64], wants: &[u64], n: usize) -> Text
     let mut text = Text::new();
     match line_calls::samples(words, numbers, &mut samples) {
         Ok(count) => {
-            text.push_bytes(b"s t x y z\n");
+            text.append(b"s t x y z\n");
             push_wants(&mut text, words, numbers, &samples[..count * 4], wants, n);
         }
         // an admitted road has no more samples than there is room for

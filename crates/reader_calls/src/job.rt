@@ -1,4 +1,5 @@
-// A whole job text: rows 1 to 5, in their order.
+// A whole job text: rows 1 to 5, in their order. The three slices are handed along one by one and not as one struct: each clause says what becomes of
+// one of them, and admission is lent two.
 ghost use Rattle.std.specs.Prelude.{◌≡◌, length};
 ghost use Rattle.refusals.specs.Answer.{answered};
 ghost use Rattle.reader_calls.specs.Reading.{zeros, zero_numbers, reading_by, reading_of, verdict_of, words_held, numbers_held, wants_held};

@@ -1,4 +1,5 @@
 // The tables of a text, in their order, taken into zeroed slices. A reference or an order that is wrong is remembered and the form goes on.
+// The three slices are handed along one by one and not as one struct: each is lent on by itself, and reader_store takes them so.
 ghost use Rattle.std.specs.Prelude.{◌≡◌};
 ghost use Rattle.reader_schema.specs.Schema.{limit_of};
 ghost use Rattle.reader_schema.specs.Tables.{road_table, table_count};
@@ -20,7 +21,8 @@ pub struct Taken {
     pub progress: Progress,
 }
 
-// The lines of a table up to an empty one. A line is tested for its form (1) before the table's limit (2).
+// The lines of a table up to an empty one. A line is tested for its form (1) before the table's limit (2). A `for` up to the limit would end the table
+// at two places, since the empty line may also follow the last line that is allowed.
 fn lines(
     text: &[u8],
     from: usize,

@@ -65,13 +65,18 @@ unfolding decimal_from
 decimal-whole text from n v g h = let e : n ≡ 4 = omega arith in rw e
 
 module _ (text : List ℕ) (from : ℕ) {b : ℕ} (e : b ≡ byte_at text from) where
-  pub natural-zero : b ≡ 48 → natural_at text from ≡ span_of 0 (from + 1)
+  pub natural-zero : b ≡ 48 → natural_at text from ≡ Some (span_of 0 (from + 1))
   unfolding natural_at
   natural-zero h = rw (← e, eq-eqb b 48 h)
 
-  pub natural-is : (b ≡ 48 → ⊥) → natural_at text from ≡ decimal_from (4 - 0) text (from + 0) 0
-  unfolding natural_at
-  natural-is h = let z : from + 0 ≡ from = omega arith in rw (← e, ne_eqb b 48 h, z)
+  module _ {d : ℕ} (f : d ≡ digit_of b) where
+    pub natural-none : (b ≡ 48 → ⊥) → 10 ≤ d → natural_at text from ≡ None
+    unfolding natural_at
+    natural-none h l = rw (← e, ← f, ne_eqb b 48 h, le-leb 10 d l)
+
+    pub natural-is : (b ≡ 48 → ⊥) → d < 10 → natural_at text from ≡ Some (decimal_from (4 - 0) text (from + 0) 0)
+    unfolding natural_at
+    natural-is h l = let z : from + 0 ≡ from = omega arith in rw (← e, ← f, ne_eqb b 48 h, lt-leb 10 d l, z)
 
 -- an f64: its digits from the first on are its digits from the last on
 -- one digit more at the other end
@@ -149,9 +154,3 @@ fits b n m v d h o top k l =
     let p : b ^ (n + 1) ≤ b ^ m = pow-le-pow_right o (omega arith) in
     let q = more-below b n v d k l in
     omega (arith, p, q, top)
-
-pub four-digits : (n v : ℕ) → n ≤ 4 → v < 10 ^ n → v < 10000
-four-digits n v h k =
-    let o : 0 < 10 = omega arith in
-    let p : 10 ^ n ≤ 10 ^ 4 = pow-le-pow_right o h in
-    omega (arith, p, k)

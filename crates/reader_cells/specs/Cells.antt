@@ -27,24 +27,27 @@ decimal_from zero text at v = span_of v at
 decimal_from (suc n) text at v =
     cond (leb 10 (digit_of (byte_at text at))) (span_of v at) (decimal_from n text (at + 1) (v * 10 + digit_of (byte_at text at)))
 
--- "no leading zeros": a number that begins with 0 is 0 and ends there
-unfoldable pub natural_at : List ℕ → ℕ → Span
-natural_at text at = cond (eqb (byte_at text at) 48) (span_of 0 (at + 1)) (decimal_from 4 text at 0)
+-- "no leading zeros": a number that begins with 0 is 0 and ends there; none that begins with no digit
+unfoldable pub natural_at : List ℕ → ℕ → Option Span
+natural_at text at =
+    cond (eqb (byte_at text at) 48) (Some (span_of 0 (at + 1))) (cond (leb 10 (digit_of (byte_at text at))) None (Some (decimal_from 4 text at 0)))
 
 -- A whole number n is kept as whole_bias + n: of "up to 4 digits" the sum is never negative, and it keeps the numbers' order.
 abbrev pub whole_bias : ℕ
 whole_bias = 10000
 
--- "`-` if negative": zero is not, so `-0` is broken, and so is `-` alone; no digit at all is.
-abbrev pub negative : Span → Option Span
-negative n = cond (eqb n.value 0) None (Some (span_of (whole_bias - n.value) n.next))
+-- "`-` if negative": zero is not, so `-0` is broken
+abbrev pub negative : Option Span → Option Span
+negative (Some n) = cond (eqb n.value 0) None (Some (span_of (whole_bias - n.value) n.next))
+negative None = None
 
-abbrev pub positive : ℕ → Span → Option Span
-positive at n = cond (eqb n.next at) None (Some (span_of (whole_bias + n.value) n.next))
+abbrev pub positive : Option Span → Option Span
+positive (Some n) = Some (span_of (whole_bias + n.value) n.next)
+positive None = None
 
 -- "a whole number is decimal, up to 4 digits, no leading zeros, `-` if negative"
 unfoldable pub whole_at : List ℕ → ℕ → Option Span
-whole_at text at = cond (eqb (byte_at text at) 45) (negative (natural_at text (at + 1))) (positive at (natural_at text at))
+whole_at text at = cond (eqb (byte_at text at) 45) (negative (natural_at text (at + 1))) (positive (natural_at text at))
 
 -- "An f64 is its 16 lowercase hexadecimal digits": its bit pattern, kept as a number
 unfoldable pub hex_from : ℕ → List ℕ → ℕ → ℕ → Option Span

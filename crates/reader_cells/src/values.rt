@@ -1,6 +1,6 @@
 // The cells of a line: an f64, a whole number, one of a list's words. A cell is one number: an f64's bit pattern, a whole number with its bias, or a
 // word's place in its list; none where it is broken.
-ghost use Rattle.std.specs.Prelude.{◌≡◌, ◌<◌};
+ghost use Rattle.std.specs.Prelude.{◌≡◌, ◌<◌, IfSome};
 ghost use Rattle.reader_schema.specs.Schema.{kind_by};
 ghost use Rattle.reader_cells.specs.Cells.{natural_at, hex_at, whole_at, listed_at, cell_at};
 
@@ -16,31 +16,36 @@ const WHOLE_DIGITS: usize = 4;
 
 const PATTERN_DIGITS: usize = 16;
 
-// The decimal number at a place, up to four digits; a 0 stands alone.
-fn natural_at(text: &[u8], at: usize) -> Span
-    ensures { (result ≡ natural_at text.now at) × (result.value < 10000) }
+// The decimal number at a place, up to four digits; a 0 stands alone. None where no digit stands there.
+fn natural_at(text: &[u8], at: usize) -> Option<Span>
+    ensures value { result ≡ natural_at text.now at }
+    ensures below { IfSome result (λ n. n.value < 10000) }
 {
-    if byte_at(text, at) == b'0' {
-        return Span {
+    let first = byte_at(text, at);
+    if first == b'0' {
+        return Some(Span {
             value: 0,
             next: at + 1,
-        };
+        });
+    }
+    if 10 <= digit(first) {
+        return None;
     }
     let mut value: u64 = 0;
     for n in 0..WHOLE_DIGITS {
         let d = digit(byte_at(text, at + n)) as u64;
         if 10 <= d {
-            return Span {
+            return Some(Span {
                 value,
                 next: at + n,
-            };
+            });
         }
         value = value * 10 + d;
     }
-    Span {
+    Some(Span {
         value,
         next: at + WHOLE_DIGITS,
-    }
+    })
 }
 
 // Sixteen hexadecimal digits.
@@ -60,7 +65,7 @@ fn whole_at(text: &[u8], at: usize) -> Option<Span>
     ensures { result ≡ whole_at text.now at }
 {
     if byte_at(text, at) == b'-' {
-        let n = natural_at(text, at + 1);
+        let n = natural_at(text, at + 1)?;
         if n.value == 0 {
             return None;
         }
@@ -69,10 +74,7 @@ fn whole_at(text: &[u8], at: usize) -> Option<Span>
             next: n.next,
         });
     }
-    let n = natural_at(text, at);
-    if n.next == at {
-        return None;
-    }
+    let n = natural_at(text, at)?;
     Some(Span {
         value: WHOLE_BIAS + n.value,
         next: n.next,
@@ -104,7 +106,7 @@ pub fn cell_by_number(text: &[u8], at: usize, number: usize) -> Option<Span>
     }
 }
 
-// The same by what its column holds.
+// The cell at a place, by what its column holds.
 pub fn cell_at(text: &[u8], at: usize, kind: Kind) -> Option<Span>
     ensures { result ≡ cell_at text.now at (kind_by kind) }
 {

@@ -1,11 +1,10 @@
--- The one NaN: what is read from a NaN's pattern, the pattern that is written for it, and the code's test for it.
-use Prim.Native.Nat.{ℕ, ◌+◌, ◌*◌, ◌/◌}
+-- The one NaN: what is read from a NaN's pattern, and the code's test for it.
+use Prim.Native.Nat.{ℕ}
 use mathlib.Core.Path.{◌≡◌, refl, sym, subst}
 use mathlib.Core.Bool.{true, false, not}
 use native.Mathlib.Omega.{arith}
 use lib.Dec.{T}
-use lib.Ieee.{Float, Format, nan, inf, fin, ne, is_nan, ones, hid, to_bits}
-use lib.Ieee.Compare.{differs_from_itself}
+use lib.Ieee.{Float, nan, inf, fin, ne, is_nan}
 
 apart : true ≡ false → ⊥
 apart e = let q : ◌≡◌ {A = ℕ} 0 1 = cc in omega arith
@@ -15,10 +14,6 @@ unfolding is_nan
 nan_is nan h = refl
 nan_is (inf s) h = absurd (apart (sym h))
 nan_is (fin s m e) h = absurd (apart (sym h))
-
-pub nan-bits : (f : Format) (x : Float) → ne x x ≡ true → ones f * hid f + hid f / 2 ≡ to_bits f x
-unfolding to_bits
-nan-bits f x h = rw (differs_from_itself x (subst T (sym h) tt))
 
 pub no_nan : (x : Float) → ne x x ≡ false → T (not (is_nan x))
 unfolding ne is_nan

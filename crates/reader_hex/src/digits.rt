@@ -43,7 +43,7 @@ pub fn eight_at(text: &[u8], at: usize) -> Option<u64>
     digits_at::<8>(text, at)
 }
 
-// The same of sixteen.
+// The number of sixteen digits; none where a byte is no digit, or the text ends before.
 pub fn sixteen_at(text: &[u8], at: usize) -> Option<u64>
     ensures { result ≡ digits_at 16 text.now at }
 {

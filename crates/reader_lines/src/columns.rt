@@ -1,5 +1,6 @@
 // A table's columns: which are still to be named, in which order the text has them, and a line's cells by column.
-// Eight places serve every table. Past the eighth a read gives the default, and a write changes nothing.
+// Eight places serve every table. Past the eighth a read gives the default, and a write changes nothing. There are three structs and no generic
+// one: a generic struct holds no array of its parameter.
 ghost use Rattle.std.specs.Prelude.{◌≡◌, set};
 ghost use Rattle.reader_lines.specs.Columns.{no_order, no_cells, all_due, is_due, ordered_column, cell_of};
 

@@ -1,18 +1,20 @@
 -- Numbers: their digits, read where they stand, give them back. Each by induction on the digits, the last one taken off; a digit's byte gives the digit by trying all of them.
 use Prim.Native.Nat.{ℕ, zero, suc, ◌+◌, ◌-◌, ◌*◌, ◌/◌, ◌%◌, ◌^◌, ◌<◌, ◌≤◌}
 use native.Mathlib.Omega.{arith}
-use mathlib.Core.Path.{◌≡◌, refl, ◌∙◌, subst}
+use mathlib.Core.Path.{◌≡◌, refl, ap, ◌∙◌, subst}
 use mathlib.Core.Bool.{Bool, true, false, cond}
 use mathlib.Core.List.{List, [], ◌∷◌, ◌++◌, append_assoc}
 use lib.ListN.{length, drop, length-append}
-use lib.Dec.{ltb, eqb}
+use lib.Dec.{leb, ltb, eqb}
 use borrow.Author.Tests.{eqb-true, lt-leb, ltb-true, ltb-false, lt-ltb, le-ltb, ne_eqb}
 use Rattle.records_lent.specs.Lists.{all_below}
 use Rattle.records_lent.proofs.TestLaws.{all-at}
 use Rattle.reader_cells.specs.Cells.{byte_at, digit_of, span_of, decimal_from, natural_at, negative, positive, whole_at, hex_from, hex_at}
-use Rattle.std.specs.Prelude.{Some}
+use Rattle.reader_cells.specs.declared.names.Span.{Span}
+use Rattle.std.specs.Prelude.{Some, None}
 use Rattle.reader_lines.specs.ValuesLine.{stop_of}
 use Rattle.reader_hex.specs.Digits.{glyph_of, hex_of}
+use Rattle.reader_hex.proofs.HexWritten.{hex-length}
 use Rattle.reader_print_laws.specs.Printing.{decimals_of, whole_of}
 use Rattle.reader_print_laws.proofs.Places.{first, here, past, next}
 
@@ -24,11 +26,6 @@ glyph-test = refl
 
 glyph-read : (d : ℕ) → d < 16 → digit_of (glyph_of d) ≡ d
 glyph-read d h = eqb-true (digit_of (glyph_of d)) d (all-at (λ d. eqb (digit_of (glyph_of d)) d) 16 glyph-test d h)
-
-pub hex-length : (k n : ℕ) → length (hex_of k n) ≡ k
-unfolding hex_of
-hex-length zero n = refl
-hex-length (suc k) n = length-append (hex_of k (n / 16)) (glyph_of (n % 16) ∷ []) ∙ (let e = hex-length k (n / 16) in omega arith)
 
 -- one digit more
 hex-step : (m : ℕ) (text : List ℕ) (at v d : ℕ) → byte_at text at ≡ glyph_of d → d < 16 → hex_from (suc m) text at v ≡ hex_from m text (at + 1) (v * 16 + d)
@@ -119,21 +116,31 @@ decimal-end zero text at v r e = refl
 decimal-end (suc m) text at v zero e = rw e
 decimal-end (suc m) text at v (suc r) e = rw e
 
-natural-zero : (text : List ℕ) (at : ℕ) (rest : List ℕ) → drop at text ≡ decimals_of 4 0 ++ rest → natural_at text at ≡ span_of 0 (at + length (decimals_of 4 0))
+natural-zero : (text : List ℕ) (at : ℕ) (rest : List ℕ) → drop at text ≡ decimals_of 4 0 ++ rest → natural_at text at ≡ Some (span_of 0 (at + length (decimals_of 4 0)))
 unfolding natural_at decimals_of
 natural-zero text at rest e = rw (here text at e)
 
-natural-more : (n : ℕ) (text : List ℕ) (at r : ℕ) (rest : List ℕ) → 0 < n → n < 10000 → drop at text ≡ decimals_of 4 n ++ (stop_of r ∷ rest) → natural_at text at ≡ span_of n (at + length (decimals_of 4 n))
+-- a number that is not 0 has a first digit
+read-some : (text : List ℕ) (at n q : ℕ) → 0 < n → decimal_from 4 text at 0 ≡ span_of n q → cond (leb 10 (digit_of (byte_at text at))) None (Some (decimal_from 4 text at 0)) ≡ Some (span_of n q)
+unfolding decimal_from
+read-some text at n q p = go (leb 10 (digit_of (byte_at text at))) (decimal_from 3 text (at + 1) (0 * 10 + digit_of (byte_at text at)))
+  where
+    go : (b : Bool) (s : Span) → cond b (span_of 0 at) s ≡ span_of n q → cond b None (Some (cond b (span_of 0 at) s)) ≡ Some (span_of n q)
+    go true s e = let z : 0 ≡ n = ap (λ (t : Span). t.value) e in absurd (omega arith)
+    go false s e = ap (λ (t : Span). Some t) e
+
+natural-more : (n : ℕ) (text : List ℕ) (at r : ℕ) (rest : List ℕ) → 0 < n → n < 10000 → drop at text ≡ decimals_of 4 n ++ (stop_of r ∷ rest) → natural_at text at ≡ Some (span_of n (at + length (decimals_of 4 n)))
 unfolding natural_at
 natural-more n text at r rest p l e =
     let f = decimals-first 4 n (stop_of r ∷ rest) p l in
     let g = first text at e in
     let b = decimals-length 4 n in
     rw (ne_eqb (byte_at text at) 48 (λ z. omega arith))
+    (read-some text at n (at + length (decimals_of 4 n)) p
     (decimals-from 4 (4 - length (decimals_of 4 n)) 4 n text at (stop_of r ∷ rest) l (omega arith) e
-    ∙ decimal-end (4 - length (decimals_of 4 n)) text (at + length (decimals_of 4 n)) n r (here text (at + length (decimals_of 4 n)) (past text at (decimals_of 4 n) e)))
+    ∙ decimal-end (4 - length (decimals_of 4 n)) text (at + length (decimals_of 4 n)) n r (here text (at + length (decimals_of 4 n)) (past text at (decimals_of 4 n) e))))
 
-natural-read : (n : ℕ) (text : List ℕ) (at r : ℕ) (rest : List ℕ) → n < 10000 → drop at text ≡ decimals_of 4 n ++ (stop_of r ∷ rest) → natural_at text at ≡ span_of n (at + length (decimals_of 4 n))
+natural-read : (n : ℕ) (text : List ℕ) (at r : ℕ) (rest : List ℕ) → n < 10000 → drop at text ≡ decimals_of 4 n ++ (stop_of r ∷ rest) → natural_at text at ≡ Some (span_of n (at + length (decimals_of 4 n)))
 natural-read zero text at r rest l e = natural-zero text at (stop_of r ∷ rest) e
 natural-read (suc n) text at r rest l e = natural-more (suc n) text at r rest (omega arith) l e
 
@@ -155,7 +162,7 @@ unfolding whole_of whole_at
 whole-read cell text at r rest p l = go (ltb cell 10000) refl
   where
     go : (t : Bool) → ltb cell 10000 ≡ t → drop at text ≡ cond t (45 ∷ decimals_of 4 (10000 - cell)) (decimals_of 4 (cell - 10000)) ++ (stop_of r ∷ rest)
-        → cond (eqb (byte_at text at) 45) (negative (natural_at text (at + 1))) (positive at (natural_at text at)) ≡ Some (span_of cell (at + length (cond t (45 ∷ decimals_of 4 (10000 - cell)) (decimals_of 4 (cell - 10000)))))
+        → cond (eqb (byte_at text at) 45) (negative (natural_at text (at + 1))) (positive (natural_at text at)) ≡ Some (span_of cell (at + length (cond t (45 ∷ decimals_of 4 (10000 - cell)) (decimals_of 4 (cell - 10000)))))
     go true t e =
         let b = ltb-true cell 10000 t in
         let c : 10000 - (10000 - cell) ≡ cell = omega arith in
@@ -166,5 +173,4 @@ whole-read cell text at r rest p l = go (ltb cell 10000) refl
         let c : 10000 + (cell - 10000) ≡ cell = omega arith in
         let f = decimals-digit (cell - 10000) (stop_of r ∷ rest) (omega arith) in
         let g = first text at e in
-        let h = decimals-some 3 (cell - 10000) in
-        rw (ne_eqb (byte_at text at) 45 (λ z. omega arith), natural-read (cell - 10000) text at r rest (omega arith) e, ne_eqb (at + length (decimals_of 4 (cell - 10000))) at (λ z. omega arith), c)
+        rw (ne_eqb (byte_at text at) 45 (λ z. omega arith), natural-read (cell - 10000) text at r rest (omega arith) e, c)

@@ -9,7 +9,7 @@ use lib.Dec.{leb, eqb}
 use borrow.Author.Tests.{leb-false, eqb-false}
 use Rattle.reader_cells.specs.Cells.{byte_at, digit_of, span_of, decimal_from, natural_at, negative, positive, whole_at, hex_from, hex_at, cell_at}
 use Rattle.reader_cells.specs.declared.names.Span.{Span}
-use Rattle.std.specs.Prelude.{Some, None}
+use Rattle.std.specs.Prelude.{Option, Some, None}
 use Rattle.std.proofs.lemmas.Option.{none-some, same_Some}
 use Rattle.reader_cells.proofs.Digits.{more-below}
 
@@ -39,38 +39,37 @@ decimal-below (suc n) m u text at l = go (leb 10 (digit_of (byte_at text at))) r
     go true t ih = let o : 0 < 10 = omega arith in let p : 10 ^ m ≤ 10 ^ (m + suc n) = pow-le-pow_right o (omega arith) in omega arith
     go false t ih = let p : m + 1 + n ≡ m + suc n = omega arith in subst (λ (k : ℕ). (decimal_from n text (at + 1) (u * 10 + digit_of (byte_at text at))).value < 10 ^ k) p (ih (leb-false 10 (digit_of (byte_at text at)) t))
 
-natural-below : (text : List ℕ) (at : ℕ) → (natural_at text at).value < 10000
+natural-below : (text : List ℕ) (at : ℕ) (s : Span) → natural_at text at ≡ Some s → s.value < 10000
 unfolding natural_at
-natural-below text at = go (eqb (byte_at text at) 48)
+natural-below text at s = go (eqb (byte_at text at) 48) (leb 10 (digit_of (byte_at text at)))
   where
-    go : (b : Bool) → (cond b (span_of 0 (at + 1)) (decimal_from 4 text at 0)).value < 10000
-    go true = omega arith
-    go false = decimal-below 4 0 0 text at (omega arith)
+    go : (b c : Bool) → cond b (Some (span_of 0 (at + 1))) (cond c None (Some (decimal_from 4 text at 0))) ≡ Some s → s.value < 10000
+    go true c e = let p : 0 ≡ s.value = ap (λ (t : Span). t.value) (same_Some _ _ e) in omega arith
+    go false true e = absurd (none-some s e)
+    go false false e = subst (λ (t : Span). t.value < 10000) (same_Some _ _ e) (decimal-below 4 0 0 text at (omega arith))
 
 abbrev IsWhole : ℕ → Type 0
 IsWhole v = (1 ≤ v) × (v ≤ 19999)
 
-negative-whole : (s : Span) (v q : ℕ) → s.value < 10000 → negative s ≡ Some (span_of v q) → IsWhole v
-negative-whole s v q l = go (eqb s.value 0) refl
+negative-whole : (n : Option Span) (v q : ℕ) → ((s : Span) → n ≡ Some s → s.value < 10000) → negative n ≡ Some (span_of v q) → IsWhole v
+negative-whole None v q l e = no_value e
+negative-whole (Some s) v q l e = go (eqb s.value 0) refl e (l s refl)
   where
-    go : (b : Bool) → eqb s.value 0 ≡ b → cond b None (Some (span_of (10000 - s.value) s.next)) ≡ Some (span_of v q) → IsWhole v
-    go true t e = no_value e
-    go false t e = let z = eqb-false s.value 0 t in let p : 10000 - s.value ≡ v = value_is e in (omega arith, omega arith)
+    go : (b : Bool) → eqb s.value 0 ≡ b → cond b None (Some (span_of (10000 - s.value) s.next)) ≡ Some (span_of v q) → s.value < 10000 → IsWhole v
+    go true t e below = no_value e
+    go false t e below = let z = eqb-false s.value 0 t in let p : 10000 - s.value ≡ v = value_is e in (omega arith, omega arith)
 
-positive-whole : (at : ℕ) (s : Span) (v q : ℕ) → s.value < 10000 → positive at s ≡ Some (span_of v q) → IsWhole v
-positive-whole at s v q l = go (eqb s.next at)
-  where
-    go : (b : Bool) → cond b None (Some (span_of (10000 + s.value) s.next)) ≡ Some (span_of v q) → IsWhole v
-    go true e = no_value e
-    go false e = let p : 10000 + s.value ≡ v = value_is e in (omega arith, omega arith)
+positive-whole : (n : Option Span) (v q : ℕ) → ((s : Span) → n ≡ Some s → s.value < 10000) → positive n ≡ Some (span_of v q) → IsWhole v
+positive-whole None v q l e = no_value e
+positive-whole (Some s) v q l e = let below = l s refl in let p : 10000 + s.value ≡ v = value_is e in (omega arith, omega arith)
 
 whole-whole : (text : List ℕ) (at v q : ℕ) → whole_at text at ≡ Some (span_of v q) → IsWhole v
 unfolding whole_at
 whole-whole text at v q = go (eqb (byte_at text at) 45)
   where
-    go : (b : Bool) → cond b (negative (natural_at text (at + 1))) (positive at (natural_at text at)) ≡ Some (span_of v q) → IsWhole v
+    go : (b : Bool) → cond b (negative (natural_at text (at + 1))) (positive (natural_at text at)) ≡ Some (span_of v q) → IsWhole v
     go true = negative-whole (natural_at text (at + 1)) v q (natural-below text (at + 1))
-    go false = positive-whole at (natural_at text at) v q (natural-below text at)
+    go false = positive-whole (natural_at text at) v q (natural-below text at)
 
 -- a cell of a kind, where it is a number's
 abbrev pub Sized : ℕ → ℕ → Type 0

@@ -18,7 +18,8 @@ use Rattle.reader_hex.specs.Digits.{glyph_of, hex_of}
 use Rattle.reader_print_laws.specs.Printing.{words_of, decimals_of, whole_of, printed_word}
 use Rattle.reader_print_laws.specs.PrintReads.{CellFits}
 use Rattle.reader_print_laws.proofs.Places.{here, name-here}
-use Rattle.reader_print_laws.proofs.Numbers.{hex-length, hex-read, whole-read, decimals-some}
+use Rattle.reader_hex.proofs.HexWritten.{hex-length}
+use Rattle.reader_print_laws.proofs.Numbers.{hex-read, whole-read, decimals-some}
 
 -- ---- no space, no LF, bytes
 

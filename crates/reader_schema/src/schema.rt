@@ -20,7 +20,8 @@ struct Table {
     limit: u16,
 }
 
-// The tables, in their order: their names, and the most lines of each.
+// The tables by number, in their order: their names, and the most lines of each. What is sought for each cell, a list's place and a column's kind, is kept
+// apart below: a constant is made anew where it is read.
 const TABLES: [Table; TABLE_COUNT] = [
     // road
     Table {
@@ -225,7 +226,7 @@ const KEYWORDS: [u64; KEYWORD_WORDS] = [
     0x33, // 3
 ];
 
-// Where a list starts among the words, and how many words it has.
+// Where a list starts among the words, and how many words it has. One array for tables and keywords: a list is its number in both.
 #[derive(Clone, Copy)]
 struct List {
     from: u8,
@@ -280,7 +281,7 @@ const CUBIC: [Kind; COLUMNS_MOST] = [Side, Bit, Term, Number, Number, Number, Nu
 
 const MARK: [Kind; COLUMNS_MOST] = [Whole, Whole, Number, Number, Whole, Number, Number, Number];
 
-// A table; past the last one none, of no lines.
+// A table; past the last one none, of no lines. This and `list_of` are not one generic function: that would take the constant by reference.
 fn table_of(table: usize) -> Table
     ensures { (result.name ≡ name_of table) × (result.limit ≡ limit_of table) }
 {
@@ -337,7 +338,8 @@ pub fn count_of(list: usize) -> u8
     list_of(list).len
 }
 
-// What a column of a table holds: past the last column, or the last table, an f64.
+// What a column of a table holds: past the last column, or the last table, an f64. A match, since one array of all tables' kinds would be made anew for
+// each cell.
 pub fn kind_of(table: usize, column: usize) -> Kind
     ensures { kind_by result ≡ column_kind table column }
 {

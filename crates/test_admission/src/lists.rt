@@ -1,12 +1,11 @@
 // Lines of the list, in turn: each changes the road or what is lent of it, or asks.
 //
 // tools/lists/src/bin/admission/main.rs says what each letter means.
-use crate::calls::answer;
+use crate::calls::Call;
 use reader_hex::of_bits;
 use records::layout::{NUMBERS_NEEDED, WORDS_NEEDED};
 use std::io;
-use std::io::Read;
-use test_support::{LINE_LENGTH, Line, line_of, put};
+use test_support::{ApplyLine, Line, apply_list, put};
 
 // What is lent may be a little more than a road needs.
 #[derive(Clone, Copy)]
@@ -70,11 +69,10 @@ impl Replay {
     }
 
     // What a call answers, with as much of each slice lent as is asked for and there is.
-    fn asked(&self, letter: u8) -> u64 {
+    fn asked(&self, call: Call) -> u64 {
         let mut samples = [0.0; 8004];
         let lent = self.lent;
-        answer(
-            letter,
+        call.answer(
             &self.road.words[..lent.words.min(1894)],
             &self.road.numbers[..lent.numbers.min(8452)],
             &mut samples[..lent.samples.min(8004)],
@@ -82,8 +80,8 @@ impl Replay {
     }
 
     // A case. The next one begins with the base, and lends all.
-    fn run(&mut self, rt: &impl Print, line: Line) -> io::Result<()> {
-        let got = self.asked(line.letter);
+    fn run(&mut self, rt: &impl Print, call: Call, line: Line) -> io::Result<()> {
+        let got = self.asked(call);
         self.road = self.base;
         self.lent = Lent::ALL;
         self.cases = self.cases.wrapping_add(1);
@@ -94,7 +92,8 @@ impl Replay {
         Ok(())
     }
 
-    // A change; false where the letter, a place or a value is unknown.
+    // A change; false where the letter, a place or a value is unknown. A letter is matched here and nowhere else, so no enum of changes
+    // stands between it and what it does.
     fn changed(&mut self, line: Line) -> bool {
         match line.letter {
             b'w' => match u16::try_from(line.b) {
@@ -118,16 +117,15 @@ impl Replay {
             _ => false,
         }
     }
+}
 
+impl ApplyLine for Replay {
     fn apply(&mut self, rt: &impl Print, line: Option<Line>) -> io::Result<()> {
         let known = match line {
-            Some(
-                line @ Line {
-                    letter: b'a' | b's',
-                    ..
-                },
-            ) => return self.run(rt, line),
-            Some(line) => self.changed(line),
+            Some(line) => match Call::named(line.letter) {
+                Some(call) => return self.run(rt, call, line),
+                None => self.changed(line),
+            },
             None => false,
         };
         if !known {
@@ -137,14 +135,9 @@ impl Replay {
     }
 }
 
-// Bytes after the last whole line are a line that breaks the form.
 pub(crate) fn run(rt: &(impl Input + Print + Alloc)) -> io::Result<()> {
-    let mut list = Vec::new(rt.alloc());
-    rt.reader().read_to_end(&mut list)?;
     let mut replay = Replay::new();
-    for line in list.chunks(LINE_LENGTH) {
-        replay.apply(rt, line_of(line))?;
-    }
+    apply_list(rt, &mut replay)?;
     println!(rt;
         "{} cases, {} differ, {} broken lines",
         replay.cases, replay.differ, replay.broken

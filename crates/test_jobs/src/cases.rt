@@ -41,7 +41,7 @@ fn seen_of(read: Result<usize, Refusal>) -> Seen
     }
 }
 
-// As much is lent as is asked for and there is.
+// As much is lent as is asked for and there is. The three slices are those that `read` takes: no road lies there before it.
 fn case_in(
     text: &[u8],
     words: &mut [u16],

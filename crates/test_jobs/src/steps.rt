@@ -8,9 +8,8 @@
 //     r v k   the case numbered k is run, with v wants lent; then the text is empty
 use crate::cases::{Lent, case_of};
 use records::layout::{NUMBERS_NEEDED, WORDS_NEEDED};
-use std::io::Read;
 use std::{io, mem};
-use test_support::{LINE_LENGTH, Line, Text, line_of};
+use test_support::{ApplyLine, Line, Text, apply_list, extend};
 
 #[derive(Drop)]
 struct Replay {
@@ -56,7 +55,10 @@ impl Replay {
         self.cases = self.cases.wrapping_add(1);
         println!(rt; "{number} {} {} {:016x}", seen.answer, seen.wants, case.sum)
     }
+}
 
+impl ApplyLine for Replay {
+    // A letter is matched here and nowhere else, so no enum of steps stands between it and what it does.
     fn apply(&mut self, rt: &impl Print, line: Option<Line>) -> io::Result<()> {
         match line {
             Some(
@@ -65,7 +67,7 @@ impl Replay {
                     ..
                 },
             ) => {
-                self.text.extend(line, self.base.as_slice());
+                extend(&mut self.text, line, self.base.as_slice());
             }
             Some(Line { letter: b'b', .. }) => self.keep(),
             Some(Line { letter: b'l', a, b }) => {
@@ -79,13 +81,8 @@ impl Replay {
     }
 }
 
-// Bytes after the last whole line are a line that breaks the form.
 pub(crate) fn run(rt: &(impl Input + Print + Alloc)) -> io::Result<()> {
-    let mut list = Vec::new(rt.alloc());
-    rt.reader().read_to_end(&mut list)?;
     let mut replay = Replay::new();
-    for line in list.chunks(LINE_LENGTH) {
-        replay.apply(rt, line_of(line))?;
-    }
+    apply_list(rt, &mut replay)?;
     println!(rt; "{} cases, {} broken lines", replay.cases, replay.broken)
 }

@@ -1,4 +1,4 @@
-// Across a road: its height and its lanes. A side is right unless its flag is 0.
+// Across a road, which the C interface lends as its two slices: its height and its lanes. A side is right unless its flag is 0.
 ghost use Rattle.std.specs.Prelude.{◌≡◌, not, length, eqb};
 ghost use Rattle.records.specs.Roads.{lent_road, section_index};
 ghost use Rattle.lanes.specs.Lateral.{shape_of, cross_height, height_toward};

@@ -1,4 +1,4 @@
-// Along a road: its reference line.
+// Along a road, which the C interface lends as its two slices: its reference line.
 ghost use Rattle.std.specs.Prelude.{◌≡◌};
 ghost use Rattle.records.specs.Roads.{lent_road};
 ghost use Rattle.line_pose.specs.Poses.{pose_of, pose_list};

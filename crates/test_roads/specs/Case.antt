@@ -13,6 +13,10 @@ use Rattle.line_calls.specs.SampleCall.{samples_call, samples_list}
 use Rattle.lanes.specs.Lateral.{height_toward}
 use Rattle.lanes_heights.specs.Heights.{across_at}
 use Rattle.lanes_heights.specs.declared.across.Across.{Across}
+use Rattle.test_roads.specs.declared.answers.Question.{Question}
+use Rattle.test_roads.specs.declared.answers.Question.TheVariants.{LinePose, LaneAcross, HeightToward, LaneName, LentNumber}
+use Rattle.test_roads.specs.declared.answers.Fill.{Fill}
+use Rattle.test_roads.specs.declared.answers.Fill.TheVariants.{Borders, Samples}
 use Rattle.lanes_calls.specs.LaneCalls.{borders_call, borders_list, lane_named_call}
 
 -- the word that is written for a number: zeros alike, NaNs alike
@@ -41,28 +45,33 @@ name_number (value (Some n)) = of_int binary64 n
 name_number (value None) = zero64
 name_number (refused number) = nan
 
-module _ (letter a b part : ℕ) (words : List ℕ) (numbers : List Float) (lent : List Float) where
-  -- p: geometry, s. h: s, lane. t: s, t. l: s, t. Any other: a place of the lent slice.
-  unfoldable pub answer_part : Float
-  unfolding lane_across
-  answer_part =
-      cond (letter == 112) (pose_part (pose_of (road_of words numbers) lent a (from_bits binary64 b)) part)
-      (cond (letter == 104) (across_part (lane_across (road_of words numbers) (from_bits binary64 a) b) part)
-      (cond (letter == 116) (height_toward (road_of words numbers) (from_bits binary64 a) (from_bits binary64 b) (toward_of part))
-      (cond (letter == 108) (name_number (lane_named_call words numbers (from_bits binary64 a) (from_bits binary64 b))) (slice_index_or lent ((a + part) % 2 ^ 64) nan))))
+-- the question of a letter
+unfoldable pub question_of : ℕ → Option Question
+question_of letter =
+    cond (letter == 112) (Some LinePose)
+    (cond (letter == 104) (Some LaneAcross) (cond (letter == 116) (Some HeightToward) (cond (letter == 108) (Some LaneName) (cond (letter == 101) (Some LentNumber) None))))
+
+-- the number at a place of an answer; a and b are a geometry and s, s and a lane, or s and t, and a is a place of the lent slice
+abbrev pub answer_part : Question → ℕ → ℕ → ℕ → List ℕ → List Float → List Float → Float
+answer_part LinePose a b part words numbers lent = pose_part (pose_of (road_of words numbers) lent a (from_bits binary64 b)) part
+answer_part LaneAcross a b part words numbers lent = across_part (lane_across (road_of words numbers) (from_bits binary64 a) b) part
+answer_part HeightToward a b part words numbers lent =
+    height_toward (road_of words numbers) (from_bits binary64 a) (from_bits binary64 b) (toward_of part)
+answer_part LaneName a b part words numbers lent = name_number (lane_named_call words numbers (from_bits binary64 a) (from_bits binary64 b))
+answer_part LentNumber a b part words numbers lent = slice_index_or lent ((a + part) % 2 ^ 64) nan
 
 -- ---- calls that write into the lent slice
 
--- n + 2^63, in 64 bits, for n samples or lanes, else the number of the refusal
-abbrev pub count_word : Answer ℕ → ℕ
-count_word (value n) = (n + 2 ^ 63) % 2 ^ 64
-count_word (refused number) = number
+-- what is written for a letter
+unfoldable pub fill_of : ℕ → Option Fill
+fill_of letter = cond (letter == 98) (Some Borders) (cond (letter == 115) (Some Samples) None)
 
-module _ (letter s : ℕ) (words : List ℕ) (numbers : List Float) where
-  -- the borders at s for the letter b, the samples for any other
-  unfoldable pub filled_of : ℕ → Answer ℕ
-  filled_of len = cond (letter == 98) (borders_call words numbers (from_bits binary64 s) len) (samples_call words numbers len)
+-- the borders at s, or the samples
+abbrev pub filled_of : Fill → ℕ → List ℕ → List Float → ℕ → Answer ℕ
+filled_of Borders s words numbers len = borders_call words numbers (from_bits binary64 s) len
+filled_of Samples s words numbers len = samples_call words numbers len
 
-  -- the slice afterwards
-  unfoldable pub filled_list : List Float → List Float
-  filled_list xs = cond (letter == 98) (borders_list words numbers (from_bits binary64 s) xs) (samples_list words numbers xs)
+-- the slice afterwards
+abbrev pub filled_list : Fill → ℕ → List ℕ → List Float → List Float → List Float
+filled_list Borders s words numbers xs = borders_list words numbers (from_bits binary64 s) xs
+filled_list Samples s words numbers xs = samples_list words numbers xs

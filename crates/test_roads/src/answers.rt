@@ -1,14 +1,15 @@
-// What the crates answer, number by number.
+// What the crates answer, number by number. A part is the place of a number in an answer, so it stays a number.
+//
+// Calls take the two lent slices and no road: whether one lies there is what they test.
 ghost use Rattle.std.specs.Prelude.{◌≡◌, length};
-ghost use Rattle.refusals.specs.Answer.{answered};
 ghost use Rattle.line_pose.specs.Poses.{pose_of};
 ghost use Rattle.lanes_calls.specs.LaneCalls.{lane_named_call};
-ghost use Rattle.test_roads.specs.Case.{pose_part, across_part, lane_across, toward_of, count_word, name_number, answer_part, filled_of, filled_list};
+ghost use Rattle.test_support.specs.Answers.{count_word};
+ghost use Rattle.test_roads.specs.Case.{pose_part, across_part, lane_across, toward_of, name_number, question_of, answer_part, fill_of, filled_of, filled_list};
 
 use reader_hex::of_bits;
 use records::{LanePlace, LentRoad};
-use refusals::Refusal;
-use test_support::Line;
+use test_support::{Line, count_word};
 
 // x, y and heading of a pose.
 fn pose_part(road: &LentRoad, samples: &[f64], geometry: u64, s: f64, part: u64) -> f64
@@ -60,41 +61,95 @@ fn name(words: &[u16], numbers: &[f64], s: f64, t: f64) -> f64
     }
 }
 
-// The part of an answer that a line asks for; lent holds the samples, or what was last written into it.
-#[tactic(auto, unfolding(crate::specs::Case::answer_part))]
-pub(crate) fn answer(line: Line, part: u64, words: &[u16], numbers: &[f64], lent: &[f64]) -> f64
-    ensures { result ≡ answer_part line.letter line.a line.b part words.now numbers.now lent.now }
-{
-    let road = LentRoad::new(words, numbers);
-    let x = of_bits(line.a);
-    let y = of_bits(line.b);
-    match line.letter {
-        b'p' => pose_part(&road, lent, line.a, y, part),
-        b'h' => across_part(&road, x, line.b, part),
-        b't' => lanes_shape::height_toward(&road, x, y, toward(part)),
-        b'l' => name(words, numbers, x, y),
-        _ => records_lent::number(lent, line.a.wrapping_add(part) as usize),
+// What a line asks of a road: the answer is some numbers.
+#[derive(Clone, Copy)]
+pub(crate) enum Question {
+    LinePose,
+    LaneAcross,
+    HeightToward,
+    LaneName,
+    LentNumber,
+}
+
+impl Question {
+    // The question of a letter.
+    #[tactic(auto, unfolding(crate::specs::Case::question_of))]
+    pub(crate) fn named(letter: u8) -> Option<Question>
+        ensures { result ≡ question_of letter }
+    {
+        match letter {
+            b'p' => Some(Question::LinePose),
+            b'h' => Some(Question::LaneAcross),
+            b't' => Some(Question::HeightToward),
+            b'l' => Some(Question::LaneName),
+            b'e' => Some(Question::LentNumber),
+            _ => None,
+        }
+    }
+
+    // How many numbers its answer has.
+    pub(crate) fn count(self, line: Line) -> u64 {
+        match self {
+            Question::LinePose => 3,
+            Question::LaneAcross => 4,
+            Question::HeightToward => 2,
+            Question::LaneName => 1,
+            Question::LentNumber => line.b,
+        }
+    }
+
+    // The number at a place of the answer; lent holds the samples, or what was last written into it.
+    pub(crate) fn answer(
+        self,
+        line: Line,
+        part: u64,
+        words: &[u16],
+        numbers: &[f64],
+        lent: &[f64],
+    ) -> f64
+        ensures { result ≡ answer_part self line.a line.b part words.now numbers.now lent.now }
+    {
+        let road = LentRoad::new(words, numbers);
+        let x = of_bits(line.a);
+        let y = of_bits(line.b);
+        match self {
+            Question::LinePose => pose_part(&road, lent, line.a, y, part),
+            Question::LaneAcross => across_part(&road, x, line.b, part),
+            Question::HeightToward => lanes_shape::height_toward(&road, x, y, toward(part)),
+            Question::LaneName => name(words, numbers, x, y),
+            Question::LentNumber => records_lent::number(lent, line.a.wrapping_add(part) as usize),
+        }
     }
 }
 
-// A count of samples or lanes as n + 2^63, a refusal as its number.
-fn count_bits(answer: Result<usize, Refusal>) -> u64
-    ensures { result ≡ count_word (answered answer) }
-{
-    match answer {
-        Ok(n) => (n as u64).wrapping_add(0x8000_0000_0000_0000),
-        Err(why) => u64::from(u32::from(why)),
-    }
+// What a line has written into the lent slice.
+#[derive(Clone, Copy)]
+pub(crate) enum Fill {
+    Borders,
+    Samples,
 }
 
-// Writes the borders at s for the letter b, the samples for any other, and answers how many.
-#[tactic(auto, unfolding(crate::specs::Case::filled_of, crate::specs::Case::filled_list))]
-pub(crate) fn fill(letter: u8, s: u64, words: &[u16], numbers: &[f64], lent: &mut [f64]) -> u64
-    ensures value { result ≡ count_word (filled_of letter s words.now numbers.now (length lent.old)) }
-    ensures lent_after { lent.new ≡ filled_list letter s words.now numbers.now lent.old }
-{
-    if letter == b'b' {
-        return count_bits(lanes_calls::borders(words, numbers, of_bits(s), lent));
+impl Fill {
+    // What is written for a letter.
+    #[tactic(auto, unfolding(crate::specs::Case::fill_of))]
+    pub(crate) fn named(letter: u8) -> Option<Fill>
+        ensures { result ≡ fill_of letter }
+    {
+        match letter {
+            b'b' => Some(Fill::Borders),
+            b's' => Some(Fill::Samples),
+            _ => None,
+        }
     }
-    count_bits(line_calls::samples(words, numbers, lent))
+
+    // Writes the borders at s, or the samples, and answers how many.
+    pub(crate) fn write(self, s: u64, words: &[u16], numbers: &[f64], lent: &mut [f64]) -> u64
+        ensures value { result ≡ count_word (filled_of self s words.now numbers.now (length lent.old)) }
+        ensures lent_after { lent.new ≡ filled_list self s words.now numbers.now lent.old }
+    {
+        match self {
+            Fill::Borders => count_word(lanes_calls::borders(words, numbers, of_bits(s), lent)),
+            Fill::Samples => count_word(line_calls::samples(words, numbers, lent)),
+        }
+    }
 }

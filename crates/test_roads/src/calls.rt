@@ -1,7 +1,9 @@
 // What the calls of the surface layer answer, as a row of numbers: 0 and the answer's own, or the number of the refusal. Zeros fill the row.
+//
+// Calls take the two lent slices and no road: whether one lies there is what they test.
 ghost use Rattle.std.specs.Prelude.{◌≡◌};
 ghost use Rattle.refusals.specs.Answer.{answered};
-ghost use Rattle.test_roads.specs.CallNumbers.{row_of, station_numbers, axes_numbers, point_numbers, mark_of, position_numbers, id_number, call_numbers};
+ghost use Rattle.test_roads.specs.CallNumbers.{row_of, station_numbers, axes_numbers, point_numbers, mark_of, position_numbers, id_number, call_of, call_numbers};
 
 use reader_hex::of_bits;
 use records::RefPoint;
@@ -83,28 +85,78 @@ fn id(n: u64) -> i32
     if n % 2 == 1 { -1 - k } else { k }
 }
 
-// The row of the call that a line asks for; with is its third argument: the id of a lane, or a guess.
-#[tactic(auto, unfolding(crate::specs::CallNumbers::call_numbers))]
-pub(crate) fn call(
-    line: Line,
-    with: u64,
-    words: &[u16],
-    numbers: &[f64],
-    samples: &[f64],
-) -> [f64; 10]
-    ensures { result ≡ call_numbers line.letter line.a line.b with words.now numbers.now samples.now }
-{
-    let x = of_bits(line.a);
-    let y = of_bits(line.b);
-    match line.letter {
-        b'q' => row(surface_calls::station(words, numbers, samples, x).map(station_numbers)),
-        b'a' => row(surface_calls::axes(words, numbers, samples, x).map(axes_numbers)),
-        b'u' => row(surface_calls::surface(words, numbers, samples, x, y).map(point_numbers)),
-        b'v' => row(surface_calls::lane_surface(words, numbers, samples, id(with), x, y).map(
-            point_numbers,
-        )),
-        _ => row(surface_calls::locate(words, numbers, samples, x, y, of_bits(with)).map(
-            position_numbers,
-        )),
+// A call that a line asks for.
+#[derive(Clone, Copy)]
+pub(crate) enum Call {
+    Station,
+    Axes,
+    Surface,
+    LaneSurface,
+    Locate,
+}
+
+impl Call {
+    // The call of a letter.
+    #[tactic(auto, unfolding(crate::specs::CallNumbers::call_of))]
+    pub(crate) fn named(letter: u8) -> Option<Call>
+        ensures { result ≡ call_of letter }
+    {
+        match letter {
+            b'q' => Some(Call::Station),
+            b'a' => Some(Call::Axes),
+            b'u' => Some(Call::Surface),
+            b'v' => Some(Call::LaneSurface),
+            b'x' => Some(Call::Locate),
+            _ => None,
+        }
+    }
+
+    // How many numbers of its row are its answer.
+    pub(crate) fn count(self) -> usize {
+        match self {
+            Call::Station => 9,
+            Call::Axes => 10,
+            Call::Surface | Call::LaneSurface | Call::Locate => 5,
+        }
+    }
+
+    // The row of its answer; with is the line's third argument: the id of a lane, or a guess.
+    pub(crate) fn row(
+        self,
+        line: Line,
+        with: u64,
+        words: &[u16],
+        numbers: &[f64],
+        samples: &[f64],
+    ) -> [f64; 10]
+        ensures { result ≡ call_numbers self line.a line.b with words.now numbers.now samples.now }
+    {
+        let x = of_bits(line.a);
+        let y = of_bits(line.b);
+        match self {
+            Call::Station => row(surface_calls::station(words, numbers, samples, x).map(
+                station_numbers,
+            )),
+            Call::Axes => row(surface_calls::axes(words, numbers, samples, x).map(axes_numbers)),
+            Call::Surface => row(surface_calls::surface(words, numbers, samples, x, y).map(
+                point_numbers,
+            )),
+            Call::LaneSurface => row(surface_calls::lane_surface(
+                words,
+                numbers,
+                samples,
+                id(with),
+                x,
+                y,
+            ).map(point_numbers)),
+            Call::Locate => row(surface_calls::locate(
+                words,
+                numbers,
+                samples,
+                x,
+                y,
+                of_bits(with),
+            ).map(position_numbers)),
+        }
     }
 }

@@ -1,8 +1,8 @@
 // Lines of the list, in turn: each puts a word or a number into memory, sets what calls share, or asks.
 //
 // tools/lists/src/bin/roads/main.rs says what each letter means.
-use crate::answers::{answer, fill};
-use crate::calls::call;
+use crate::answers::{Fill, Question};
+use crate::calls::Call;
 use crate::patterns::pattern;
 use reader_hex::of_bits;
 use records::layout::{NUMBERS_NEEDED, WORDS_NEEDED};
@@ -26,27 +26,6 @@ fn show_number(rt: &impl Print, x: f64) -> io::Result<()> {
     print!(rt; "{:016x} ", pattern(x))
 }
 
-// How many numbers the answer to a letter has; none where the letter is unknown.
-fn count(line: Line) -> u64 {
-    match line.letter {
-        b'e' => line.b,
-        b'p' => 3,
-        b'h' => 4,
-        b't' => 2,
-        b'l' => 1,
-        _ => 0,
-    }
-}
-
-// How many numbers of a call's row are its answer.
-fn call_count(letter: u8) -> usize {
-    match letter {
-        b'q' => 9,
-        b'a' => 10,
-        _ => 5,
-    }
-}
-
 impl Replay {
     fn new() -> Self {
         Replay {
@@ -58,13 +37,13 @@ impl Replay {
         }
     }
 
-    // False where the letter is unknown.
-    fn show_known(&self, rt: &impl Print, line: Line) -> io::Result<bool> {
-        let n = count(line);
+    // False where no number is asked for.
+    fn show_answer(&self, rt: &impl Print, question: Question, line: Line) -> io::Result<bool> {
+        let n = question.count(line);
         for part in 0..n {
             show_number(
                 rt,
-                answer(line, part, &self.words, &self.numbers, &self.lent),
+                question.answer(line, part, &self.words, &self.numbers, &self.lent),
             )?;
         }
         if n != 0 {
@@ -74,14 +53,8 @@ impl Replay {
     }
 
     // How many samples or lanes were written, and the slice's first numbers, as many as the line asks for.
-    fn show_filled(&mut self, rt: &impl Print, line: Line) -> io::Result<()> {
-        let filled = fill(
-            line.letter,
-            line.a,
-            &self.words,
-            &self.numbers,
-            &mut self.lent,
-        );
+    fn show_filled(&mut self, rt: &impl Print, fill: Fill, line: Line) -> io::Result<()> {
+        let filled = fill.write(line.a, &self.words, &self.numbers, &mut self.lent);
         print!(rt; "{filled:016x} ")?;
         for part in 0..line.b {
             show_number(rt, number(&self.lent, part as usize))?;
@@ -89,33 +62,48 @@ impl Replay {
         println!(rt; "")
     }
 
-    fn show_call(&self, rt: &impl Print, line: Line) -> io::Result<()> {
+    fn show_call(&self, rt: &impl Print, call: Call, line: Line) -> io::Result<()> {
         let samples = records_lent::part(&self.lent, 0, self.samples);
-        let row = call(line, self.with, &self.words, &self.numbers, samples);
-        for x in row.iter().take(call_count(line.letter)) {
+        let row = call.row(line, self.with, &self.words, &self.numbers, samples);
+        for x in row.iter().take(call.count()) {
             show_number(rt, *x)?;
         }
         println!(rt; "")
     }
 
-    // A change or a question; false where the letter, a place or a value is unknown.
-    fn apply(&mut self, rt: &impl Print, line: Line) -> io::Result<bool> {
+    // A change; false where the letter, a place or a value is unknown. A letter is matched here and nowhere else, so no enum of changes
+    // stands between it and what it does.
+    fn changed(&mut self, line: Line) -> bool {
         match line.letter {
             b'w' => match u16::try_from(line.b) {
-                Ok(word) => return Ok(put(&mut self.words, line.a, word)),
-                Err(_) => return Ok(false),
+                Ok(word) => put(&mut self.words, line.a, word),
+                Err(_) => false,
             },
-            b'n' => return Ok(put(&mut self.numbers, line.a, of_bits(line.b))),
-            b'f' => return Ok(put(&mut self.lent, line.a, of_bits(line.b))),
+            b'n' => put(&mut self.numbers, line.a, of_bits(line.b)),
+            b'f' => put(&mut self.lent, line.a, of_bits(line.b)),
             b'c' => {
                 self.with = line.a;
                 self.samples = line.b as usize;
+                true
             }
-            b's' | b'b' => self.show_filled(rt, line)?,
-            b'q' | b'a' | b'u' | b'v' | b'x' => self.show_call(rt, line)?,
-            _ => return self.show_known(rt, line),
+            _ => false,
         }
-        Ok(true)
+    }
+
+    // A question or a change; false where it is unknown.
+    fn apply(&mut self, rt: &impl Print, line: Line) -> io::Result<bool> {
+        if let Some(question) = Question::named(line.letter) {
+            return self.show_answer(rt, question, line);
+        }
+        if let Some(fill) = Fill::named(line.letter) {
+            self.show_filled(rt, fill, line)?;
+            return Ok(true);
+        }
+        if let Some(call) = Call::named(line.letter) {
+            self.show_call(rt, call, line)?;
+            return Ok(true);
+        }
+        Ok(self.changed(line))
     }
 }
 

@@ -1,3 +1,4 @@
+pub mod Answers
 pub mod Lines
 pub mod Sums
 pub mod Texts

@@ -1,12 +1,7 @@
--- A text that is put together piece by piece. Read `appended` and `piece_of` first.
+-- The pieces of a text that is put together as lines say. Read `piece_of` first.
 use Rattle.std.specs.Prelude.{ℕ, ◌-◌, cond, List, [], ◌++◌, take, drop, ◌==◌}
 use Rattle.std.specs.Int.{w64, to_be_bytes}
 use Rattle.test_support.specs.declared.lines.Line.{Line}
-use Rattle.test_support.specs.declared.texts.TheConstants.{TEXT_ROOM}
-
--- a piece behind a text; what does not fit is left off
-unfoldable pub appended : List ℕ → List ℕ → List ℕ
-appended text piece = take TEXT_ROOM (text ++ piece)
 
 -- the bytes from `first` up to `last` of a list, those of them that there are
 unfoldable pub part_of : List ℕ → ℕ → ℕ → List ℕ

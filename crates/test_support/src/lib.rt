@@ -1,12 +1,17 @@
-// For the programs that replay lists: the lines of a list, a text put together as its lines say, a checksum of lent memory.
+// For the programs that replay lists: the lines of a list, a text put together as its lines say, a count as a line writes it, a checksum of
+// lent memory.
 #![tactic(auto)]
 
+mod answers;
 mod lines;
+mod replays;
 mod slots;
 mod sums;
 mod texts;
 
+pub use answers::count_word;
 pub use lines::{LINE_LENGTH, Line, line_of};
+pub use replays::{ApplyLine, apply_list};
 pub use slots::put;
 pub use sums::checksum;
-pub use texts::Text;
+pub use texts::{Text, extend};

@@ -1,29 +1,15 @@
-// A text that is put together piece by piece.
-ghost use Rattle.std.specs.Prelude.{◌≡◌, ◌≤◌, ℕ, List, [], ◌++◌, take};
+// A text that is put together as lines say.
+ghost use Rattle.std.specs.Prelude.{◌≡◌, ◌++◌};
+ghost use Rattle.fixed_text.specs.Texts.{appended};
 ghost use Rattle.test_support.specs.declared.texts.TheConstants.{TEXT_ROOM};
-ghost use Rattle.test_support.specs.Texts.{appended, part_of, word_bytes, piece_of};
+ghost use Rattle.test_support.specs.Texts.{part_of, word_bytes, piece_of};
 
 use crate::lines::Line;
-use std::marker::Model;
 
 // Some more than the longest job, so that a text may be too long for one.
 const TEXT_ROOM: usize = 66000;
 
-// What does not fit is left off.
-#[derive(Drop)]
-pub struct Text {
-    bytes: [u8; TEXT_ROOM],
-    count: usize,
-}
-
-// Clauses see the bytes that stand there.
-impl Model for Text {
-    ghost Value = { List ℕ };
-
-    ghost view = { λ t. take t.count t.bytes };
-
-    ghost invariant = { λ t. t.count ≤ TEXT_ROOM };
-}
+pub type Text = fixed_text::Text<TEXT_ROOM>;
 
 // The sixteen bytes of a line's numbers, the most significant of each first.
 fn words_of(line: Line) -> [u8; 16]
@@ -58,41 +44,9 @@ fn piece_of<'a>(line: Line, words: &'a [u8], base: &'a [u8]) -> &'a [u8]
     }
 }
 
-impl Text {
-    pub fn new() -> Self
-        ensures { result ≡ [] }
-    {
-        Text {
-            bytes: [0; TEXT_ROOM],
-            count: 0,
-        }
-    }
-
-    pub fn as_slice(&self) -> &[u8]
-        ensures { result.now ≡ self.now }
-    {
-        &self.bytes[..self.count]
-    }
-
-    pub fn clear(&mut self)
-        ensures { self.new ≡ [] }
-    {
-        self.count = 0;
-    }
-
-    pub fn append(&mut self, piece: &[u8])
-        ensures { self.new ≡ appended self.old piece.now }
-    {
-        let n = piece.len().min(TEXT_ROOM - self.count);
-        let end = self.count + n;
-        self.bytes[self.count..end].copy_from_slice(&piece[..n]);
-        self.count = end;
-    }
-
-    // Appends what a line says, of itself and of another text.
-    pub fn extend(&mut self, line: Line, base: &[u8])
-        ensures { self.new ≡ appended self.old (piece_of line base.now) }
-    {
-        self.append(piece_of(line, &words_of(line), base));
-    }
+// Appends what a line says, of itself and of another text.
+pub fn extend(text: &mut Text, line: Line, base: &[u8])
+    ensures { text.new ≡ appended TEXT_ROOM text.old (piece_of line base.now) }
+{
+    text.append(piece_of(line, &words_of(line), base));
 }

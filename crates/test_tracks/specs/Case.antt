@@ -1,5 +1,5 @@
 -- What a line asks: a call on the track that was set, held against the answer that the line has. Read `verdict_of` first.
-use Rattle.std.specs.Prelude.{ℕ, ◌+◌, ◌%◌, ◌^◌, Bool, cond, ◌&&◌, List, [], ◌∷◌, length, drop, ◌==◌, from_bits, nat_eq, slice_index, slice_index_or, Float}
+use Rattle.std.specs.Prelude.{ℕ, ◌+◌, ◌%◌, ◌^◌, Bool, cond, ◌&&◌, List, [], ◌∷◌, length, drop, ◌==◌, from_bits, nat_eq, slice_index, slice_index_or, Float, Option, Some, None}
 use Rattle.std.specs.Float.{binary32, nan}
 use Rattle.float_laws.specs.Binary32.{zero32}
 use Rattle.refusals.specs.Answer.{Answer, value, refused}
@@ -12,7 +12,7 @@ use Rattle.tracks.specs.Projections.{projection_list}
 use Rattle.tracks_calls.specs.TrackCalls.{tangents_call, tangents_list, track_pose_call, project_call}
 use Rattle.test_tracks.specs.Patterns.{pattern_of}
 use Rattle.test_tracks.specs.declared.calls.Verdict.{Verdict}
-use Rattle.test_tracks.specs.declared.calls.Verdict.TheVariants.{Tangents, Pose, Project, Broken}
+use Rattle.test_tracks.specs.declared.calls.Verdict.TheVariants.{Tangents, Pose, Project}
 
 -- ---- an answer as a number and a list
 
@@ -71,13 +71,13 @@ module _ (letter : ℕ) (track : List Float) (list : List Float) (row : List ℕ
   abbrev pub asks_tangents : Bool
   asks_tangents = letter == 103 && length row == length list + 1
 
-  -- g: tangents. p: pose. j: project. Broken for any other letter, or another number of words.
-  unfoldable pub verdict_of : Verdict
+  -- g: tangents. p: pose. j: project. None for any other letter, or another number of words.
+  unfoldable pub verdict_of : Option Verdict
   unfolding tangents_agree pose_agrees project_agrees
   verdict_of =
-      cond asks_tangents (Tangents (tangents_agree track list row))
-      (cond (letter == 112 && length row == 8) (Pose (pose_agrees track row))
-      (cond (letter == 106 && length row == 9) (Project (project_agrees track row)) Broken))
+      cond asks_tangents (Some (Tangents (tangents_agree track list row)))
+      (cond (letter == 112 && length row == 8) (Some (Pose (pose_agrees track row)))
+      (cond (letter == 106 && length row == 9) (Some (Project (project_agrees track row))) None))
 
   -- the lent list afterwards
   unfoldable pub list_told : List Float

@@ -1,10 +1,52 @@
 // What a call answers, as a number and a list of f32: a refusal is its number and zeros.
-ghost use Rattle.std.specs.Prelude.{◌≡◌};
+ghost use Rattle.std.specs.Prelude.{◌≡◌, ◌+◌, length};
 ghost use Rattle.refusals.specs.Answer.{answered};
-ghost use Rattle.test_tracks.specs.Case.{answer_number, count_number, pose_numbers, project_numbers};
+ghost use Rattle.test_tracks.specs.Case.{agrees_of, answer_number, count_number, pose_numbers, project_numbers};
 
+use crate::patterns::pattern;
 use refusals::Refusal;
+use std::io;
 use tracks::{Projection, TrackPose};
+
+#[derive(Clone, Copy)]
+pub(crate) struct Answer<'a> {
+    pub(crate) number: u32,
+    pub(crate) numbers: &'a [f32],
+}
+
+impl Answer<'_> {
+    // Whether the row is the number and the patterns of the f32.
+    fn agrees(&self, row: &[u32]) -> bool
+        requires { length row.now ≡ length self.now.numbers.now + 1 }
+        ensures { result ≡ agrees_of self.now.number self.now.numbers.now row.now }
+    {
+        let Answer { number, numbers } = *self;
+        (row[0] == number) & (0..numbers.len()).all(|i| pattern(numbers[i]) == row[i + 1])
+    }
+
+    // Writes the answer, then the line that it differs from.
+    fn show(&self, rt: &impl Print, line: &[u8]) -> io::Result<()> {
+        print!(rt; "differs, here {:08x}", self.number)?;
+        for x in self.numbers {
+            print!(rt; " {:08x}", pattern(*x))?;
+        }
+        print!(rt; ": ")?;
+        rt.write_all(line)?;
+        println!(rt; "")
+    }
+
+    // Whether the row is the answer; a difference is shown. One that cannot be written is told to the caller all the same.
+    pub(crate) fn held_against(&self, rt: &impl Print, line: &[u8], row: &[u32]) -> bool
+        requires { length row.now ≡ length self.now.numbers.now + 1 }
+        ensures { result ≡ agrees_of self.now.number self.now.numbers.now row.now }
+    {
+        let same = self.agrees(row);
+        if !same {
+            let _ = self.show(rt, line);
+        }
+        same
+    }
+}
 
 // 2^31 and the number of points, so that it is no refusal's.
 pub(crate) fn tangents_number(answer: Result<usize, Refusal>) -> u32

@@ -1,7 +1,7 @@
 // Lines of the list, in turn: t sets the track, l the list that is lent for tangents, any other asks.
 //
 // tools/lists/src/bin/tracks/main.rs says what each letter means.
-use crate::calls::{Verdict, judge};
+use crate::calls::judge;
 use crate::tally::Tally;
 use crate::words::{numbers, words};
 use program_input::read_full;
@@ -26,7 +26,7 @@ fn step(
     tally: &mut Tally,
 ) -> Result<(), AllocError> {
     let Some(row) = words(alloc, line)? else {
-        tally.count(Verdict::Broken);
+        tally.count(None);
         return Ok(());
     };
     match byte_at(line, 0) {

@@ -27,12 +27,13 @@ pub(crate) struct Tally {
 }
 
 impl Tally {
-    pub(crate) fn count(&mut self, verdict: Verdict) {
+    // A line that no call was found for is broken.
+    pub(crate) fn count(&mut self, verdict: Option<Verdict>) {
         match verdict {
-            Verdict::Tangents(same) => self.tangents.count(same),
-            Verdict::Pose(same) => self.pose.count(same),
-            Verdict::Project(same) => self.project.count(same),
-            Verdict::Broken => self.broken = self.broken.wrapping_add(1),
+            Some(Verdict::Tangents(same)) => self.tangents.count(same),
+            Some(Verdict::Pose(same)) => self.pose.count(same),
+            Some(Verdict::Project(same)) => self.project.count(same),
+            None => self.broken = self.broken.wrapping_add(1),
         }
     }
 }

@@ -12,7 +12,7 @@ use Rattle.test_vectors.specs.Raise.{raised_of}
 use Rattle.test_vectors.specs.declared.functions.Function.{Function}
 use Rattle.test_vectors.specs.declared.functions.Function.TheVariants.{Root, Narrow, Sine, Cosine, Counts}
 use Rattle.test_vectors.specs.declared.replay.Verdict.{Verdict}
-use Rattle.test_vectors.specs.declared.replay.Verdict.TheVariants.{Broken, Agrees, Differs}
+use Rattle.test_vectors.specs.declared.replay.Verdict.TheVariants.{Agrees, Differs}
 
 -- the function of a letter among r n s c k
 unfoldable pub function_of : ℕ → Option Function
@@ -36,11 +36,11 @@ word_of Counts x = counts_word (counts_call x)
 abbrev pub compared : Function → ℕ → ℕ → Verdict
 compared function got expected = cond (got == expected) (Agrees function) (Differs function got)
 
-abbrev pub verdict_by : Option Function → Line → Verdict
-verdict_by (Some function) line = compared function (word_of function (from_bits binary64 line.a)) line.b
-verdict_by None line = Broken
+abbrev pub verdict_by : Option Function → Line → Option Verdict
+verdict_by (Some function) line = Some (compared function (word_of function (from_bits binary64 line.a)) line.b)
+verdict_by None line = None
 
--- a line that breaks the form, or that no function has the letter of, is broken
-abbrev pub verdict_of : Option Line → Verdict
+-- none of a line that breaks the form, or that no function has the letter of
+abbrev pub verdict_of : Option Line → Option Verdict
 verdict_of (Some line) = verdict_by (function_of line.letter) line
-verdict_of None = Broken
+verdict_of None = None

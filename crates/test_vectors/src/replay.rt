@@ -11,10 +11,9 @@ use std::io;
 use std::io::Read;
 use test_support::{LINE_LENGTH, Line, line_of};
 
-// Where a line is counted. Of a difference, what was answered here.
+// Where a whole line is counted. Of a difference, what was answered here.
 #[derive(Clone, Copy)]
 enum Verdict {
-    Broken,
     Agrees(Function),
     Differs(Function, u64),
 }
@@ -26,20 +25,17 @@ struct Tally {
     differ: u64,
 }
 
-fn judged(line: Option<Line>) -> Verdict
+// None where the line breaks the form, or its letter is no function's.
+fn judged(line: Option<Line>) -> Option<Verdict>
     ensures { result ≡ verdict_of line }
 {
-    let Some(line) = line else {
-        return Verdict::Broken;
-    };
-    let Some(function) = Function::named(line.letter) else {
-        return Verdict::Broken;
-    };
+    let line = line?;
+    let function = Function::named(line.letter)?;
     let got = function.answer(of_bits(line.a));
     if got == line.b {
-        Verdict::Agrees(function)
+        Some(Verdict::Agrees(function))
     } else {
-        Verdict::Differs(function, got)
+        Some(Verdict::Differs(function, got))
     }
 }
 
@@ -61,9 +57,9 @@ pub(crate) fn run(rt: &(impl Input + Print + Alloc)) -> io::Result<()> {
     let mut broken = 0u64;
     for line in list.chunks(LINE_LENGTH) {
         match judged(line_of(line)) {
-            Verdict::Broken => broken = broken.wrapping_add(1),
-            Verdict::Agrees(function) => tallies[function as usize].count(false),
-            Verdict::Differs(function, got) => {
+            None => broken = broken.wrapping_add(1),
+            Some(Verdict::Agrees(function)) => tallies[function as usize].count(false),
+            Some(Verdict::Differs(function, got)) => {
                 print!(rt; "differs, here {got:016x}: ")?;
                 rt.write_all(line)?;
                 tallies[function as usize].count(true);

@@ -27,7 +27,8 @@ unfolding wants_text
 returns-in-Ok c =
     let a = c.args in
     let own = made-part a.words.now a.numbers.now c.requires.numbers_value c.in-Ok.count (sym (ap answered c.in-Ok.is) ∙ c.samples.ensures.result_value) c.samples.ensures.samples_after in
-    rw (c.push_wants.ensures, c.push_bytes.ensures, c.new-text.ensures, own)
+    let names = c.append.ensures.fits (rw c.new-text.ensures (omega arith)) in
+    rw (c.push_wants.ensures, names, c.new-text.ensures, own)
 
 pub returns-in-Err : goal.returns-in-Err
 returns-in-Err c =

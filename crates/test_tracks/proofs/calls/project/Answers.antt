@@ -7,4 +7,4 @@ returns g c =
     let a = c.args in
     project-by a.track.now a.row.now
     (rw (c.number.ensures, c.number-2.ensures, c.number-3.ensures))
-    c.project-answer.ensures c.number_of.ensures c.project_numbers-numbers.ensures c.held_against.ensures
+    c.project-place.ensures c.number_of.ensures c.project_numbers.ensures c.held_against.ensures

@@ -6,4 +6,4 @@ pub returns : goal.returns
 returns g c =
     let a = c.args in
     let call = c.tangents.ensures in
-    record { value = tangents-by a.track.now a.row.now a.list.now call.result_value c.tangents_number-n.ensures call.list_after c.held_against.ensures; list_after = call.list_after }
+    record { value = tangents-by a.track.now a.row.now a.list.now call.result_value c.tangents_number-number.ensures call.list_after c.held_against.ensures; list_after = call.list_after }
