@@ -19,6 +19,9 @@ impl Record for HeightDef {
     ghost some = { Prim.search rules };
 
     fn read(numbers: &[f64], at: usize) -> Self {
+        if numbers.len() < at.saturating_add(Self::STRIDE) {
+            return Self::nothing();
+        }
         HeightDef {
             s_offset: numbers[at],
             inner: numbers[at + 1],

@@ -46,6 +46,9 @@ impl Record for Cubic {
     ghost some = { Prim.search rules };
 
     fn read(numbers: &[f64], at: usize) -> Self {
+        if numbers.len() < at.saturating_add(Self::STRIDE) {
+            return Self::nothing();
+        }
         Cubic {
             start: numbers[at],
             a: numbers[at + 1],

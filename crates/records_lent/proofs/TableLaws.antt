@@ -1,5 +1,5 @@
 -- The lists of `Lists`: a table's length and its lines, the elements of a span, where a test of `any_below` passes, and what `last_that` depends on. By induction.
-use Prim.Native.Nat.{ℕ, zero, suc, ◌+◌, ◌<◌, ◌≤◌}
+use Prim.Native.Nat.{ℕ, zero, suc, ◌+◌, ◌*◌, ◌/◌, ◌<◌, ◌≤◌}
 use native.Mathlib.Omega.{arith}
 use native.Mathlib.Nat.{le_of_suc-le-suc, not-suc-le-zero, eq-or-lt_of_le}
 use mathlib.Core.Path.{◌≡◌, refl, sym, ap, ◌∙◌}
@@ -8,8 +8,11 @@ use mathlib.Core.List.{List}
 use mathlib.Core.Logic.{⊎_elim}
 use lib.ListN.{length, get_or, drop, get_or-eq_default, length-take}
 use lib.Seq.{get_or-take, get_or-drop}
+use Rattle.std.proofs.Math.Nat.{div-mul-le_self, mul-le-mul_right}
 use Rattle.std.proofs.lemmas.Bool.{cases_lt}
-use Rattle.records_lent.specs.Lists.{tabulate, span, all_below, any_below, last_that}
+use Rattle.std.specs.Prelude.{Float}
+use borrow.Author.Tests.{le-leb}
+use Rattle.records_lent.specs.Lists.{tabulate, record_at, span, all_below, any_below, last_that}
 
 -- ---- tables
 
@@ -26,6 +29,16 @@ table_at f (suc n) (suc i) d h = table_at (λ k. f (suc k)) n i d (le_of_suc-le-
 
 pub table-past : {A : Type 0} (f : ℕ → A) (n i : ℕ) (d : A) → n ≤ i → get_or (tabulate f n) i d ≡ d
 table-past f n i d h = get_or-eq_default (tabulate f n) d (rw length-table h)
+
+-- ---- records
+
+-- a record that is counted is held whole
+pub record-held : {A : Type 0} (from : List Float → ℕ → A) (none : A) (stride : ℕ) (xs : List Float) (i : ℕ) → i < length xs / stride
+    → record_at from none stride xs (i * stride) ≡ from xs (i * stride)
+record-held from none stride xs i h = rw (le-leb (i * stride + stride) (length xs) (whole (mul-le-mul_right stride h) (div-mul-le_self (length xs) stride)))
+  where
+    whole : suc i * stride ≤ length xs / stride * stride → length xs / stride * stride ≤ length xs → i * stride + stride ≤ length xs
+    whole a b = omega arith
 
 -- ---- spans
 

@@ -1,6 +1,6 @@
 // Records in lent numbers, one after another.
-ghost use Rattle.std.specs.Prelude.{◌≡◌, ◌+◌, ◌≤◌, ◌<◌, ℕ, List, Float, length, get_or};
-ghost use Rattle.records_lent.specs.Lists.{records_of};
+ghost use Rattle.std.specs.Prelude.{◌≡◌, ◌<◌, ℕ, List, Float, length, get_or};
+ghost use Rattle.records_lent.specs.Lists.{record_at, records_of};
 
 use std::marker::{Model, PhantomData};
 
@@ -14,10 +14,9 @@ pub trait Record: Copy {
 
     const STRIDE: usize;
 
-    // The record whose numbers begin at a place.
+    // The record whose numbers begin at a place, nothing where they are not all there.
     fn read(numbers: &[f64], at: usize) -> Self
-        requires { at + STRIDE ≤ length numbers.now }
-        ensures { result ≡ from numbers.now at };
+        ensures { result ≡ record_at from none STRIDE numbers.now at };
 
     // What stands for a record where there is none.
     fn nothing() -> Self
