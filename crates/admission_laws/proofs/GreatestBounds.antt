@@ -1,7 +1,7 @@
 -- The greatest of a list's bounds bounds the list's value; and four values within theirs, by Horner at a place of at most 88, keep to what the same steps give on the bounds.
 use Prim.Native.Nat.{ℕ, zero, suc, ◌+◌, ◌-◌, ◌<◌, ◌≤◌, zero-le}
 use native.Mathlib.Omega.{arith}
-use native.Mathlib.Nat.{le_trans, le_of_eq, lt_of_le_of_lt, le_of_suc-le-suc, not-suc-le-zero, eq-or-lt_of_le}
+use native.Mathlib.Nat.{le_trans, le_of_eq, le_of_lt, lt-suc_self, lt_of_le_of_lt, le_of_suc-le-suc, not-suc-le-zero, eq-or-lt_of_le}
 use mathlib.Core.Path.{◌≡◌, refl, sym, subst}
 use mathlib.Core.Bool.{Bool, true, false, not, cond}
 use mathlib.Core.List.{List}
@@ -11,7 +11,7 @@ use lib.Dec.{T}
 use lib.Pow.{pow_pos}
 use lib.Ieee.{Float, binary64, of_bits, fits, le, lt, neg, mul}
 use lib.Ieee.Scale.{finite}
-use Rattle.float_laws.specs.Binary64.{◌⊕◌, ◌⊗◌, f64, zero64}
+use Rattle.float_laws.specs.Binary64.{◌⊕◌, ◌⊗◌, zero64}
 use Rattle.float_laws.proofs.Units.{rnd}
 use Rattle.float_laws.proofs.Value.{mag, pl, mi, Real, mag_is, le_trans', le_refl, lt→units, nlt→units, units→le, under}
 use Rattle.float_laws.proofs.Operation.{add-Is}
@@ -47,35 +47,26 @@ module _ (a b : Float) (wa : Within binary64 a a) (wb : Within binary64 b b) whe
   step-over : T (le a (cond (lt a b) b a)) × T (le b (cond (lt a b) b a))
   step-over = go (lt a b) (lt→units binary64 a b wa.value wb.value) (nlt→units binary64 a b wa.value wb.value)
     where
-      weaker : (m n : ℕ) → m < n → m ≤ n
-      weaker m n h = omega arith
-
       go :
           (c : Bool) → (T c → pl binary64 a + mi binary64 b < pl binary64 b + mi binary64 a) → (T (not c) → pl binary64 b + mi binary64 a ≤ pl binary64 a + mi binary64 b)
           → T (le a (cond c b a)) × T (le b (cond c b a))
-      go true h k = (units→le binary64 a b wa.value wb.value (weaker (pl binary64 a + mi binary64 b) (pl binary64 b + mi binary64 a) (h tt)), le_refl binary64 b wb.value)
+      go true h k = (units→le binary64 a b wa.value wb.value (le_of_lt (h tt)), le_refl binary64 b wb.value)
       go false h k = (le_refl binary64 a wa.value, units→le binary64 b a wb.value wa.value (k tt))
-
-later : (i n : ℕ) → i < n → i < suc n
-later i n h = omega arith
-
-last : (n : ℕ) → n < suc n
-last n = omega arith
 
 greatest-own : (f : ℕ → Float) (n : ℕ) → ((i : ℕ) → i < n → Within binary64 (f i) (f i)) → Within binary64 (greatest f n) (greatest f n)
 unfolding greatest
 greatest-own f zero h = zero-own
-greatest-own f (suc n) h = step-own (greatest f n) (f n) (greatest-own f n (λ i l. h i (later i n l))) (h n (last n))
+greatest-own f (suc n) h = step-own (greatest f n) (f n) (greatest-own f n (λ i l. h i (omega arith))) (h n (lt-suc_self n))
 
 greatest-over : (f : ℕ → Float) (n : ℕ) → ((i : ℕ) → i < n → Within binary64 (f i) (f i)) → (i : ℕ) → i < n → T (le (f i) (greatest f n))
 unfolding greatest
 greatest-over f zero h i l = absurd (not-suc-le-zero l)
 greatest-over f (suc n) h i l =
-    let wg = greatest-own f n (λ i l. h i (later i n l)) in
-    let wn = h n (last n) in
+    let wg = greatest-own f n (λ i l. h i (omega arith)) in
+    let wn = h n (lt-suc_self n) in
     let o = step-over (greatest f n) (f n) wg wn in
     ⊎_elim (λ (e : i ≡ n). subst (λ (k : ℕ). T (le (f k) (greatest f (suc n)))) (sym e) o.1)
-    (λ (m : i < n). le_trans' binary64 (f i) (greatest f n) (greatest f (suc n)) (h i l).value wg.value (step-own (greatest f n) (f n) wg wn).value (greatest-over f n (λ i l. h i (later i n l)) i m) o.0)
+    (λ (m : i < n). le_trans' binary64 (f i) (greatest f n) (greatest f (suc n)) (h i l).value wg.value (step-own (greatest f n) (f n) wg wn).value (greatest-over f n (λ i l. h i (omega arith)) i m) o.0)
     (eq-or-lt_of_le (le_of_suc-le-suc l))
 
 -- ---- the value of a list
