@@ -4,19 +4,16 @@ use Prim.Native.Nat.{ℕ, ◌<◌}
 use mathlib.Core.Bool.{true}
 use mathlib.Core.List.{List, ◌++◌}
 use lib.ListN.{length}
-use lib.Dec.{leb, leb→le}
 use lib.Ieee.{Float}
 use Rattle.arithmetic_sine.specs.Sine.{sine_range}
 use Rattle.records.specs.Roads.{road_of, geom_index}
 use Rattle.admission_structure.specs.Structure.{structured}
 use Rattle.admission_structure.proofs.StructureLaws.{structured-is}
-use Rattle.admission.specs.Limits.{limited}
-use Rattle.records_lent.proofs.TestLaws.{true-T}
 use Rattle.admission_laws.proofs.Fitting.{Fitting, road-fits}
 use Rattle.admission_laws.proofs.RoadBounds.{OnRoad}
 use Rattle.admission.specs.Admission.{admitted}
 use Rattle.admission.proofs.AdmissionLaws.{admitted-structured, admitted-limited, admitted-samples}
-use Rattle.line_samples.specs.Samples.{most_samples, samples_needed, samples_of}
+use Rattle.line_samples.specs.Samples.{samples_of}
 use Rattle.line_pose.specs.Poses.{pose_of}
 use Rattle.admission_laws.proofs.Geometry.{PoseWithin}
 use Rattle.admission_laws.proofs.PoseBounds.{pose-far, station-pose-within}

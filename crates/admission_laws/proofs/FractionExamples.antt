@@ -1,5 +1,5 @@
 -- The words of specs/Fractions on numbers whose values everyone knows, by computation: with the numbers below 0 read as 0, say, most statements would still hold.
-use Prim.Native.Nat.{◌*◌, ◌<◌}
+use Prim.Native.Nat.{◌*◌}
 use native.Mathlib.Omega.{arith}
 use mathlib.Core.Path.{◌≡◌, refl}
 use mathlib.Core.Logic.{inl, inr, ⊎_elim}

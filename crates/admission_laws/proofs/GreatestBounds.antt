@@ -11,7 +11,7 @@ use lib.Dec.{T}
 use lib.Pow.{pow_pos}
 use lib.Ieee.{Float, binary64, of_bits, fits, le, lt, neg, mul}
 use lib.Ieee.Scale.{finite}
-use Rattle.float_laws.specs.Binary64.{◌⊕◌, ◌⊗◌, f64, zero64}
+use Rattle.float_laws.specs.Binary64.{◌⊕◌, ◌⊗◌, zero64}
 use Rattle.float_laws.proofs.Units.{rnd}
 use Rattle.float_laws.proofs.Value.{mag, pl, mi, Real, mag_is, le_trans', le_refl, lt→units, nlt→units, units→le, under}
 use Rattle.float_laws.proofs.Operation.{add-Is}
@@ -20,7 +20,6 @@ use Rattle.float_laws.proofs.Exact.{fixed}
 use Rattle.records_cubic.specs.declared.cubics.Cubic.{Cubic}
 use Rattle.std.specs.declared.option.Option.{Option}
 use Rattle.std.specs.declared.option.Option.TheVariants.{Some, None}
-use Rattle.records_lent.proofs.TableLaws.{lt-suc}
 use Rattle.records.specs.Active.{active_in, value_in}
 use Rattle.records.proofs.CubicLaws.{value_none}
 use Rattle.admission_bounds.specs.Bounds.{bound_at, greatest, greatest_bound}
@@ -57,17 +56,17 @@ module _ (a b : Float) (wa : Within binary64 a a) (wb : Within binary64 b b) whe
 greatest-own : (f : ℕ → Float) (n : ℕ) → ((i : ℕ) → i < n → Within binary64 (f i) (f i)) → Within binary64 (greatest f n) (greatest f n)
 unfolding greatest
 greatest-own f zero h = zero-own
-greatest-own f (suc n) h = step-own (greatest f n) (f n) (greatest-own f n (λ i l. h i (lt-suc l))) (h n (lt-suc_self n))
+greatest-own f (suc n) h = step-own (greatest f n) (f n) (greatest-own f n (λ i l. h i (omega arith))) (h n (lt-suc_self n))
 
 greatest-over : (f : ℕ → Float) (n : ℕ) → ((i : ℕ) → i < n → Within binary64 (f i) (f i)) → (i : ℕ) → i < n → T (le (f i) (greatest f n))
 unfolding greatest
 greatest-over f zero h i l = absurd (not-suc-le-zero l)
 greatest-over f (suc n) h i l =
-    let wg = greatest-own f n (λ i l. h i (lt-suc l)) in
+    let wg = greatest-own f n (λ i l. h i (omega arith)) in
     let wn = h n (lt-suc_self n) in
     let o = step-over (greatest f n) (f n) wg wn in
     ⊎_elim (λ (e : i ≡ n). subst (λ (k : ℕ). T (le (f k) (greatest f (suc n)))) (sym e) o.1)
-    (λ (m : i < n). le_trans' binary64 (f i) (greatest f n) (greatest f (suc n)) (h i l).value wg.value (step-own (greatest f n) (f n) wg wn).value (greatest-over f n (λ i l. h i (lt-suc l)) i m) o.0)
+    (λ (m : i < n). le_trans' binary64 (f i) (greatest f n) (greatest f (suc n)) (h i l).value wg.value (step-own (greatest f n) (f n) wg wn).value (greatest-over f n (λ i l. h i (omega arith)) i m) o.0)
     (eq-or-lt_of_le (le_of_suc-le-suc l))
 
 -- ---- the value of a list

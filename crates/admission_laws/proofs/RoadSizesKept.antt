@@ -1,5 +1,5 @@
 -- `RoadSizes` holds: each clause is a law of RoadBounds or of PoseBounds at the road that was admitted, its bound turned from an f64 to a whole number or a fraction.
-use Prim.Native.Nat.{ℕ, zero, suc, ◌+◌, ◌*◌, ◌^◌, ◌≤◌, ◌<◌}
+use Prim.Native.Nat.{ℕ, suc, ◌+◌, ◌*◌, ◌^◌, ◌≤◌, ◌<◌}
 use native.Mathlib.Omega.{arith}
 use mathlib.Core.Path.{◌≡◌, refl, sym, ◌∙◌, subst}
 use mathlib.Core.Bool.{true}
@@ -10,7 +10,6 @@ use lib.ListN.{length, drop}
 use Rattle.float_laws.specs.Binary64.{f64, zero64}
 use Rattle.float_laws.proofs.Value.{mag, pl, mi, Real, mag_is}
 use Rattle.float_laws.proofs.Interval.{In, le→parts}
-use Rattle.float_laws.proofs.Size.{Within}
 use Rattle.arithmetic_sine.specs.Sine.{sine_range}
 use Rattle.records_cubic.specs.Cubics.{cubic_at}
 use Rattle.records.specs.declared.points.GeomShape.{GeomShape}

@@ -5,21 +5,19 @@ use mathlib.Core.Path.{◌≡◌, refl, sym, ap, ◌∙◌, subst}
 use Prim.Native.Nat.{ℕ, zero, suc, ◌+◌, ◌-◌, ◌*◌, ◌^◌, ◌≤◌, ◌<◌}
 use native.Mathlib.Nat.{le_trans, le_of_eq, lt_of_le_of_lt, not-suc-le-zero, le_of_suc-le-suc}
 use native.Mathlib.Omega.{arith}
-use mathlib.Core.Bool.{Bool, true, false, not, cond}
+use mathlib.Core.Bool.{Bool, true, false, cond}
 use mathlib.Core.List.{List, ◌∷◌}
 use lib.ListN.{get_or}
-use lib.Dec.{T, T_not, lit<, lit≤}
+use lib.Dec.{T, lit<, lit≤}
 use lib.Pow.{pow_pos}
-use lib.Ieee.{Float, Format, prec, binary64, of_bits, fits, le, lt, add, sub}
+use lib.Ieee.{Float, Format, prec, binary64, of_bits, le, lt, add, sub}
 use lib.Ieee.Scale.{finite}
-use Rattle.float_laws.specs.Binary64.{◌⊕◌, ◌⊖◌, zero64}
+use Rattle.float_laws.specs.Binary64.{◌⊕◌, zero64}
 use Rattle.float_laws.proofs.Units.{rnd, rnd-err, rnd-le, rnd-pow, rnd-zero}
-use Rattle.float_laws.proofs.Value.{Real, pl, mi, le_trans', nle→le, units→le, lt→units, nlt→units, units→lt}
+use Rattle.float_laws.proofs.Value.{Real, pl, mi, lt→units, units→lt}
 use Rattle.float_laws.proofs.Operation.{add-Is, sub-Is}
 use Rattle.float_laws.proofs.Interval.{In, le→parts}
 use Rattle.float_laws.proofs.Size.{Within}
-use Rattle.float_laws.proofs.Order.{sub-mono}
-use Rattle.float_laws.proofs.Checker.{good-real}
 use Rattle.arithmetic_sine.specs.Sine.{one}
 use Rattle.records.specs.declared.points.GeomRec.{GeomRec}
 use Rattle.records.specs.declared.points.GeomShape.TheVariants.{Spiral}
@@ -28,7 +26,7 @@ use Rattle.line_samples.specs.Samples.{end_margin, goes_on, whole_step, step_at,
 use Rattle.line_samples.proofs.SpiralLaws.{samples-are, samples-next}
 use Rattle.admission_laws.proofs.Powers.{Plus, sub-plus}
 use Rattle.admission.specs.Limits.{greatest_place, greatest_heading, least_geom_length, greatest_geom_length}
-use Rattle.admission_laws.proofs.SampleBounds.{quarter-plus, nano-plus, not_below_zero_lem, length-plus, nano-below, sample-end, five-hundred, SampleWithin, sample-within}
+use Rattle.admission_laws.proofs.SampleBounds.{quarter-plus, not_below_zero_lem, length-plus, nano-below, sample-end, SampleWithin, sample-within}
 
 -- ---- one step, in any format: what is left is at least 2 ^ s units, and the distance changes by it
 gap : (u r n l v S E : ℕ) → u < r → r * 1 * 2 ≤ n * 2 + E * 1 → n ≡ l - v → v ≤ l → E + 2 * S ≤ 2 * v → u + S ≤ l

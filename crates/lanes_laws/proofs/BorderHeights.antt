@@ -28,8 +28,7 @@ use Rattle.lanes_laws.proofs.LateralBounds.{two-wide, height-most}
 use Rattle.lanes_borders.specs.Borders.{sign_of, border_width, width_of, base_at, side_lanes, borders_at, borders_of}
 use Rattle.lanes_heights.specs.Heights.{level_up_to, level_heights, tilted_heights, own_heights, heights_from, height_after, heights_at}
 use Rattle.lanes_borders.specs.declared.across.LaneBorders.{LaneBorders}
-use Rattle.lanes_borders.proofs.Outward.{Ahead}
-use Rattle.lanes_borders.proofs.BorderLaws.{eight, thirty_six, eighty, ExtentWithin, inner-within, outer-border-within, outer-ahead}
+use Rattle.lanes_borders.proofs.BorderLaws.{eight, thirty_six, eighty, ExtentWithin, inner-within, outer-border-within}
 use Rattle.lanes_laws.proofs.AdmittedRoad.{Admits, across-within, section-there, into, in-section}
 use Rattle.lanes_laws.proofs.RoadHeights.{toward-kept, own-kept}
 use Rattle.lanes_laws.proofs.WholeSizes.{AtMost, at_most-of, at_most-more, at_most-within, at_most-sum, at_most-difference}

@@ -1,7 +1,7 @@
 -- How large the heights across a road can be, from how large its records are. The premises are bounds on values, so whoever knows that a road is admitted can meet them.
 -- Profiles and lane heights by `along-within`; the cross section by Horner's rule, term by term.
 use mathlib.Core.Path.{◌≡◌, refl, sym, subst}
-use Prim.Native.Nat.{ℕ, ◌+◌, ◌-◌, ◌≤◌, ◌<◌}
+use Prim.Native.Nat.{ℕ, ◌+◌}
 use mathlib.Core.Bool.{Bool, true, false, cond}
 use mathlib.Core.List.{List}
 use lib.ListN.{length}

@@ -3,19 +3,19 @@
 use mathlib.Core.Path.{◌≡◌, refl, sym, ap, ◌∙◌, subst}
 use mathlib.Core.Logic.{◌⊎◌, inl, inr}
 use Prim.Native.Nat.{ℕ, ◌+◌, ◌-◌, ◌*◌, ◌^◌, ◌≤◌, ◌<◌, zero-le}
-use native.Mathlib.Nat.{le_trans, le_of_eq, mul-le-mul_right, mul-one, add_comm}
+use native.Mathlib.Nat.{le_trans, le_of_eq, mul-one, add_comm}
 use native.Mathlib.Omega.{arith}
 use mathlib.Core.Bool.{Bool, true, false, cond}
 use lib.Dec.{T}
 use lib.Pow.{pow_pos}
-use lib.Ieee.{Float, nan, inf, fin, Format, binary64, low, lt, le, add, sub, mul, fits, of_bits}
+use lib.Ieee.{Float, nan, inf, fin, Format, binary64, low, lt, le, sub, mul, fits, of_bits}
 use lib.Ieee.Fits.{add-fits}
 use lib.Ieee.Scale.{finite, overflow}
 use Rattle.float_laws.specs.Binary64.{◌⊕◌, ◌⊖◌, ◌⊗◌, f64, zero64}
 use Rattle.float_laws.proofs.Units.{rnd, rnd-same, rnd-zero}
 use Rattle.float_laws.proofs.Value.{mag, pl, mi, Real, mag_is, one_side, under, lt→units}
-use Rattle.float_laws.proofs.Operation.{Is, differ-le, mul-differ, add-Is, sub-Is, mul-Is}
-use Rattle.float_laws.proofs.Size.{Within, is-bounded, add-within, mul-within, le_of-within, within-mono, add-fin, mul-fin, nn, nn-of_le, add-nn, mul-nn, fin-of_le}
+use Rattle.float_laws.proofs.Operation.{Is, sub-Is, mul-Is}
+use Rattle.float_laws.proofs.Size.{Within, is-bounded, add-within, within-mono}
 use Rattle.float_laws.proofs.Exact.{fixed, add-grow-l}
 use Rattle.float_laws.proofs.Checker.{good-real}
 use Rattle.std.specs.declared.option.Option.{Option}
@@ -24,7 +24,7 @@ use Rattle.records_cubic.specs.Cubics.{cubic_at, eval_at}
 use Rattle.records.specs.Active.{active_in, value_in}
 use Rattle.records.specs.Roads.{Road, Strip, StripDef, absent, present, strip_at}
 use Rattle.arithmetic_ranges.specs.Ranges.{not_below_zero}
-use Rattle.lanes.specs.Lateral.{term_at, strip_height, outer_height, past_width, by_width, by_side, is_left, cross_by, cross_height}
+use Rattle.lanes.specs.Lateral.{strip_height, outer_height, past_width, by_width, by_side, is_left, cross_by, cross_height}
 use Rattle.lanes_laws.proofs.StationBounds.{zero-within}
 
 zero-real : Real binary64 zero64 × (mag binary64 zero64 ≤ 0)
