@@ -8,6 +8,7 @@ use mathlib.Core.List.{List, map}
 use lib.ListN.{length, get_or}
 use Rattle.records_lent.specs.Lists.{tabulate, all_below}
 use Rattle.records_lent.proofs.TableLaws.{all_none}
+use Rattle.records_lent.proofs.RangeLaws.{all-front}
 use Rattle.reader_lines.specs.Columns.{no_cells}
 use Rattle.reader_lines.specs.declared.columns.Cells.{Cells}
 use Rattle.reader_text_laws.specs.Said.{those, numbered}
@@ -46,16 +47,11 @@ all_split p f a zero = ap (all_below (λ j. p (f + j))) (add-zero a) ∙ sym (an
 all_split p f a (suc b) =
     ap (all_below (λ j. p (f + j))) (add-suc a b) ∙ both-same (all_split p f a b) (ap p (sym (add_assoc f a b))) ∙ and_assoc (all_below (λ j. p (f + j)) a) (all_below (λ j. p (f + a + j)) b) (p (f + a + b))
 
-all_first : (p : ℕ → Bool) (n : ℕ) → all_below p (suc n) ≡ p 0 && all_below (λ i. p (suc i)) n
-unfolding all_below
-all_first p zero = sym (and-true (p 0))
-all_first p (suc n) = ap (λ (x : Bool). x && p (suc n)) (all_first p n) ∙ and_assoc (p 0) (all_below (λ i. p (suc i)) n) (p (suc n))
-
 module _ {A : Type 0} (p : A → Bool) where
   pub every-table : (f : ℕ → A) (n : ℕ) → every p (tabulate f n) ≡ all_below (λ i. p (f i)) n
   unfolding every tabulate
   every-table f zero = sym (all_none (λ i. p (f i)))
-  every-table f (suc n) = ap (λ (x : Bool). p (f 0) && x) (every-table (λ i. f (suc i)) n) ∙ sym (all_first (λ i. p (f i)) n)
+  every-table f (suc n) = ap (λ (x : Bool). p (f 0) && x) (every-table (λ i. f (suc i)) n) ∙ sym (all-front (λ i. p (f i)) n)
 
   module _ (ok : ℕ → Bool) (rows : List Cells) where
     -- lines of a part, each by itself
