@@ -4,14 +4,12 @@
 
 mod answers;
 mod lines;
-mod replays;
 mod slots;
 mod sums;
 mod texts;
 
 pub use answers::count_word;
 pub use lines::{LINE_LENGTH, Line, line_of};
-pub use replays::{ApplyLine, apply_list};
 pub use slots::put;
 pub use sums::checksum;
 pub use texts::{Text, extend};
