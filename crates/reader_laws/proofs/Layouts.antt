@@ -7,6 +7,7 @@ use mathlib.Core.List.{List, [], ◌∷◌}
 use lib.ListN.{length, get_or, drop, length-take}
 use lib.Dec.{eqb}
 use lib.Ieee.{Float, nan}
+use Rattle.std.specs.Prelude.{Option, Some, None}
 use Rattle.records_lent.specs.Lists.{tabulate, span}
 use Rattle.records_lent.proofs.TableLaws.{span-at}
 use Rattle.records_cubic.specs.declared.cubics.Cubic.{Cubic}
@@ -14,12 +15,12 @@ use Rattle.records_cubic.specs.Cubics.{cubic_at}
 use Rattle.records_cubic.proofs.CubicTables.{cubic-count, cubic_in_lem}
 use Rattle.records.specs.declared.points.HeightDef.{HeightDef}
 use Rattle.records.specs.declared.points.Mark.{Mark}
-use Rattle.records.specs.Layout.{length_place, geom_count_at, elev_count_at, bank_count_at, offset_count_at, tshift_count_at, section_count_at, profile_count_at, geom_base, geom_stride, elev_base, bank_base, offset_base, tshift_base, section_base, extent_base, height_base, profile_base, shape_base, cubic_base, span_base, numbers_needed, cubic_stride, height_stride, span_stride, kind_words, section_words, section_stride, lane_words, lane_stride, profile_words, profile_stride, strip_words, strip_stride, section_mark_words, section_mark_stride, mark_words, mark_stride, words_needed, want_stride, wants_needed}
+use Rattle.records.specs.Layout.{length_place, profile_count_at, geom_base, geom_stride, elev_base, bank_base, offset_base, tshift_base, section_base, extent_base, height_base, profile_base, shape_base, cubic_base, span_base, numbers_needed, cubic_stride, height_stride, span_stride, kind_words, section_words, section_stride, lane_words, lane_stride, profile_words, profile_stride, strip_words, strip_stride, section_mark_words, section_mark_stride, mark_words, mark_stride, words_needed, want_stride, wants_needed}
 use Rattle.records.specs.Roads.{Lane, road_of, geom_shape_of, geom_in, unused_in, unused_of, lane_in, mark_in, section_in, profile_in, cubics_in, heights_in, height_def_at, column_in}
 use Rattle.records.proofs.CubicLaws.{height-count, height_in_lem}
 use Rattle.reader_schema.specs.Tables.{geom_table, elev_table, bank_table, offset_table, tshift_table, section_table, lane_table, extent_table, height_table, profile_table, shape_table, strip_table, cubic_table, mark_table, want_table}
 use Rattle.reader_schema.specs.Schema.{limits, limit_of}
-use Rattle.reader_store.specs.Layout.{number_lines, word_lines, number_row, number_place, word_row, word_place, base_of, stride_of}
+use Rattle.reader_store.specs.Layout.{number_lines, word_lines, number_row, number_place, word_row, word_place, count_place, base_of, stride_of}
 use Rattle.reader_store.specs.declared.layout.Family.{Family}
 use Rattle.reader_store.specs.declared.layout.Family.TheVariants.{Extent, Height, Shape, Cubic as CubicFamily, Mark as MarkFamily}
 use Rattle.reader_store.specs.Parents.{section_word}
@@ -125,12 +126,19 @@ column-place : (i column : ℕ) → 1303 + i * 11 + 1 + column * 2 ≡ 1304 + (i
 column-place i column = omega arith
 
 module _ (ws : List ℕ) (ns : List Float) where
-  -- the number and the word that a reader keeps for a column of line k
+  -- the number and the word that a reader keeps for a column of line k, and how many lines it keeps count of
   abbrev pub number_of : ℕ → ℕ → ℕ → Float
   number_of table k column = get_or ns ((number_lines table).first + k * (number_lines table).stride + (number_place table column - 1)) nan
 
   abbrev pub code_of : ℕ → ℕ → ℕ → ℕ
   code_of table k column = get_or ws ((word_lines table).first + k * (word_lines table).stride + (word_place table column - 1)) 0
+
+  abbrev pub counted_at : Option ℕ → ℕ
+  counted_at (Some place) = get_or ws place 0
+  counted_at None = 0
+
+  abbrev pub lines_of : ℕ → ℕ
+  lines_of table = counted_at (count_place table)
 
   -- five columns from a column on: start a b c d
   abbrev pub cubic_of : ℕ → ℕ → ℕ → Cubic
@@ -162,36 +170,36 @@ module _ (ws : List ℕ) (ns : List Float) where
   unfolding road_of number_lines word_lines number_place number_row
   length-join = refl
 
-  pub geoms-join : (road_of ws ns).geoms ≡ tabulate (geom_in ws ns) (get_or ws geom_count_at 0)
-  unfolding road_of
+  pub geoms-join : (road_of ws ns).geoms ≡ tabulate (geom_in ws ns) (lines_of 1)
+  unfolding road_of count_place
   geoms-join = refl
 
-  pub unused-list-join : (road_of ws ns).unused ≡ tabulate (unused_in ws ns) (get_or ws geom_count_at 0)
-  unfolding road_of
+  pub unused-list-join : (road_of ws ns).unused ≡ tabulate (unused_in ws ns) (lines_of 1)
+  unfolding road_of count_place
   unused-list-join = refl
 
-  pub elevations-join : (road_of ws ns).elevations ≡ cubics_in ws ns (number_lines 2).first 0 (get_or ws elev_count_at 0)
-  unfolding road_of number_lines
+  pub elevations-join : (road_of ws ns).elevations ≡ cubics_in ws ns (number_lines 2).first 0 (lines_of 2)
+  unfolding road_of number_lines count_place
   elevations-join = refl
 
-  pub superelevations-join : (road_of ws ns).superelevations ≡ cubics_in ws ns (number_lines 3).first 0 (get_or ws bank_count_at 0)
-  unfolding road_of number_lines
+  pub superelevations-join : (road_of ws ns).superelevations ≡ cubics_in ws ns (number_lines 3).first 0 (lines_of 3)
+  unfolding road_of number_lines count_place
   superelevations-join = refl
 
-  pub offsets-join : (road_of ws ns).offsets ≡ cubics_in ws ns (number_lines 4).first 0 (get_or ws offset_count_at 0)
-  unfolding road_of number_lines
+  pub offsets-join : (road_of ws ns).offsets ≡ cubics_in ws ns (number_lines 4).first 0 (lines_of 4)
+  unfolding road_of number_lines count_place
   offsets-join = refl
 
-  pub tshifts-join : (road_of ws ns).tshifts ≡ cubics_in ws ns (number_lines 5).first 0 (get_or ws tshift_count_at 0)
-  unfolding road_of number_lines
+  pub tshifts-join : (road_of ws ns).tshifts ≡ cubics_in ws ns (number_lines 5).first 0 (lines_of 5)
+  unfolding road_of number_lines count_place
   tshifts-join = refl
 
-  pub sections-join : (road_of ws ns).sections ≡ tabulate (section_in ws ns) (get_or ws section_count_at 0)
-  unfolding road_of
+  pub sections-join : (road_of ws ns).sections ≡ tabulate (section_in ws ns) (lines_of 6)
+  unfolding road_of count_place
   sections-join = refl
 
-  pub profiles-join : (road_of ws ns).profiles ≡ tabulate (profile_in ws ns) (get_or ws profile_count_at 0)
-  unfolding road_of
+  pub profiles-join : (road_of ws ns).profiles ≡ tabulate (profile_in ws ns) (lines_of 10)
+  unfolding road_of count_place
   profiles-join = refl
 
   -- a section: its start, its first lane and how many left and right ones; a lane counts under section_word + 1 or + 2

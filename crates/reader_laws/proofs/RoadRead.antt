@@ -94,23 +94,28 @@ module _ (text : List ℕ) (l m n at count : ℕ) (progress : Progress) (ws : Li
     cubics-read = ap (cubics_in ws ns base 0) (count_kept_lem text l m n at count progress ws ns vs read t p small own) ∙ cubics-all
 
   pub elevations-read : (road_of ws ns).elevations ≡ map (cubic_in 0) (lines_of text 2)
+  unfolding count_place
   elevations-read =
       elevations-join ws ns ∙ ap (λ (b : ℕ). cubics_in ws ns b 0 (get_or ws 1 0)) elev-five.first ∙ cubics-read 2 0 elev_base elev-five (omega arith) 1 counted.0
 
   pub superelevations-read : (road_of ws ns).superelevations ≡ map (cubic_in 0) (lines_of text 3)
+  unfolding count_place
   superelevations-read =
       superelevations-join ws ns ∙ ap (λ (b : ℕ). cubics_in ws ns b 0 (get_or ws 2 0)) bank-five.first ∙ cubics-read 3 0 bank_base bank-five (omega arith) 2 counted.1
 
   pub offsets-read : (road_of ws ns).offsets ≡ map (cubic_in 0) (lines_of text 4)
+  unfolding count_place
   offsets-read =
       offsets-join ws ns ∙ ap (λ (b : ℕ). cubics_in ws ns b 0 (get_or ws 3 0)) offset-five.first ∙ cubics-read 4 0 offset_base offset-five (omega arith) 3 counted.2
 
   pub tshifts-read : (road_of ws ns).tshifts ≡ map (cubic_in 0) (lines_of text 5)
+  unfolding count_place
   tshifts-read =
       tshifts-join ws ns ∙ ap (λ (b : ℕ). cubics_in ws ns b 0 (get_or ws 4 0)) tshift-five.first ∙ cubics-read 5 0 tshift_base tshift-five (omega arith) 4 counted.3
 
   -- as many sections and profiles as lines, and where they start
   pub sections-read : length (road_of ws ns).sections ≡ length (lines_of text 6)
+  unfolding count_place
   sections-read = ap (λ (xs : List Section). length xs) (sections-join ws ns) ∙ length-table (section_in ws ns) (get_or ws 5 0) ∙ count_kept_lem text l m n at count progress ws ns vs read 6 5 (omega arith) counted.4
 
   pub section_start-read : (i : ℕ) → i < length (lines_of text 6) → (section_of (road_of ws ns) i).start ≡ number_in (get_or (lines_of text 6) i no_cells) 0
@@ -118,6 +123,7 @@ module _ (text : List ℕ) (l m n at count : ℕ) (progress : Progress) (ws : Li
       ap (λ (x : Section). x.start) (section_in_lem ws ns i (subst (λ (k : ℕ). i < k) (sym (count_kept_lem text l m n at count progress ws ns vs read 6 5 (omega arith) counted.4)) h)) ∙ section_start-join ws ns i ∙ cell-read 6 i 0 0 (omega arith) h single.0
 
   pub profiles-read : length (road_of ws ns).profiles ≡ length (lines_of text 10)
+  unfolding count_place
   profiles-read = ap (λ (xs : List Profile). length xs) (profiles-join ws ns) ∙ length-table (profile_in ws ns) (get_or ws 6 0) ∙ count_kept_lem text l m n at count progress ws ns vs read 10 6 (omega arith) counted.5
 
   pub profile_start-read : (i : ℕ) → i < length (lines_of text 10) → (profile_at (road_of ws ns) i).s ≡ number_in (get_or (lines_of text 10) i no_cells) 0
@@ -144,11 +150,13 @@ module _ (text : List ℕ) (l m n at count : ℕ) (progress : Progress) (ws : Li
       ∙ unused-same (code_at ws ns 1 i 5) (code_of (cell_of (get_or (lines_of text 1) i no_cells) 5)) (number_of ws ns 1 i 6) (number_of ws ns 1 i 7) (number_in (get_or (lines_of text 1) i no_cells) 6) (number_in (get_or (lines_of text 1) i no_cells) 7) (kind-read i h) (cell-read 1 i 6 5 (omega arith) h geom-columns.5) (cell-read 1 i 7 6 (omega arith) h geom-columns.6)
 
   pub geoms-read : (road_of ws ns).geoms ≡ map geom_said (lines_of text 1)
+  unfolding count_place
   geoms-read =
       geoms-join ws ns ∙ ap (tabulate (records-roads.geom_in ws ns)) (count_kept_lem text l m n at count progress ws ns vs read 1 0 (omega arith) counted.6)
       ∙ table-map (lines_of text 1) (records-roads.geom_in ws ns) geom_said no_cells geom-read
 
   pub unused-all_read : (road_of ws ns).unused ≡ map unused_said (lines_of text 1)
+  unfolding count_place
   unused-all_read =
       unused-list-join ws ns ∙ ap (tabulate (records-roads.unused_in ws ns)) (count_kept_lem text l m n at count progress ws ns vs read 1 0 (omega arith) counted.6)
       ∙ table-map (lines_of text 1) (records-roads.unused_in ws ns) unused_said no_cells unused-read

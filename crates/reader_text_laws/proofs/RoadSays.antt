@@ -268,6 +268,7 @@ module _ (text : List ℕ) (l m n at count : ℕ) (progress : Progress) (ws : Li
       (marks-join ws ns i ∙ marks-say i h)
 
   pub sections-say : (road_of ws ns).sections ≡ numbered (section_said T) 0 (T 6)
+  unfolding count_place
   sections-say = sections-join ws ns ∙ ap (tabulate (section_in ws ns)) (count_kept_lem text l m n at count progress ws ns vs read 6 5 (omega arith) counted.0) ∙ table-numbered (section_in ws ns) (section_said T) (T 6) section-says
 
   -- ---- profiles
@@ -280,6 +281,7 @@ module _ (text : List ℕ) (l m n at count : ℕ) (progress : Progress) (ws : Li
       (cubics-part 11 1 shape_base shape-five (omega arith) (get_or ws (1271 + i * 2) 0) (get_or ws (1271 + i * 2 + 1) 0) (shape-part i h).fits ∙ ap (map (cubic_in 1)) (sym (those-part (under i) (T 11) (get_or ws (1271 + i * 2) 0) (get_or ws (1271 + i * 2 + 1) 0) (shape-part i h))))
 
   pub profiles-say : (road_of ws ns).profiles ≡ numbered (profile_said T) 0 (T 10)
+  unfolding count_place
   profiles-say = profiles-join ws ns ∙ ap (tabulate (profile_in ws ns)) (count_kept_lem text l m n at count progress ws ns vs read 10 6 (omega arith) counted.1) ∙ table-numbered (profile_in ws ns) (profile_said T) (T 10) profile-says
 
   -- ---- strips
