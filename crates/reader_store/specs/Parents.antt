@@ -11,6 +11,7 @@ use Rattle.reader_store.specs.declared.layout.Family.{Family}
 use Rattle.reader_store.specs.declared.layout.Family.TheVariants.{Lane, Shape, Cubic, Mark}
 use Rattle.reader_store.specs.declared.parents.Ranked.{Ranked}
 use Rattle.reader_store.specs.declared.parents.Counted.{Counted}
+use Rattle.reader_store.specs.declared.parents.SectionRecord.{SectionRecord}
 use Rattle.reader_store.specs.declared.parents.Side.{Side}
 use Rattle.reader_store.specs.declared.parents.Side.TheVariants.{Left, Right}
 
@@ -44,9 +45,14 @@ first_right = whole_bias - 1
 unfoldable pub side_of : ℕ → ℕ → ℕ → Option Side
 side_of left right id = cond (eqb id (left + first_left) && eqb right 0) (Some Left) (cond (eqb (id + right + 1) whole_bias) (Some Right) None)
 
--- the record of section s: its first lane, how many left, how many right
+-- where the record of section s begins
 abbrev pub section_word : ℕ → ℕ
 section_word s = section_words + section_stride * s
+
+-- the record of section s: its first lane, how many left, how many right
+abbrev pub section_record : List ℕ → ℕ → SectionRecord
+section_record ws s =
+    record { first = get_or ws (section_word s) 0; left = get_or ws (section_word s + 1) 0; right = get_or ws (section_word s + 2) 0 }
 
 -- which of its words counts a side
 abbrev pub side_word : Side → ℕ
