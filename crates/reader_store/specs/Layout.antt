@@ -128,6 +128,11 @@ one_more n = cond (ltb n greatest_word) (n + 1) n
 abbrev pub placed : {A : Type 0} → ℕ → ℕ → A → List A → List A
 placed line place v xs = cond (ltb 0 place) (set xs (line + (place - 1)) v) xs
 
+-- a list with the cells of the first n columns of such a line kept as f makes of each, by the places of the columns
+unfoldable pub cells_below : {A : Type 0} → (ℕ → A) → ℕ → List ℕ → Cells → ℕ → List A → List A
+cells_below f line places cells zero xs = xs
+cells_below f line places cells (suc n) xs = placed line (get_or places n 0) (f (cell_of cells n)) (cells_below f line places cells n xs)
+
 -- the numbers and the words with one cell of line k kept: an f64 as the float of its pattern, a word of a list as its place there
 unfoldable pub number_put : ℕ → ℕ → ℕ → ℕ → List Float → List Float
 number_put table k column v ns = placed ((number_lines table).first + k * (number_lines table).stride) (number_place table column) (of_bits binary64 v) ns

@@ -47,7 +47,7 @@ impl Lines {
 
 // Which of its line's numbers, or words, each column of a table is, counted from 1; 0 where it is none. Options in place of the numbers are laid out one to
 // a line, and read for each column took 100 µs of a text of 57,213 bytes where these took 94.
-type Row = [u8; COLUMNS_MOST];
+pub(crate) type Row = [u8; COLUMNS_MOST];
 
 const NO_PLACES: Row = [0; COLUMNS_MOST];
 
