@@ -73,10 +73,9 @@ const GEOM_CODES: Row = [0, 0, 0, 0, 0, 1, 0, 0];
 
 const LANE_CODES: Row = [0, 0, 1, 2, 0, 0, 0, 0];
 
-// Whose children the lines of a table are: a section's lanes, a lane's extents, its heights, a profile's shapes, a strip's cubics, a section's marks.
+// Whose children the lines of a table are, where a parent has a range of them: a lane's extents, its heights, a profile's shapes, a strip's cubics, a section's marks.
 #[derive(Clone, Copy, Debug, PartialEq, Eq)]
 pub enum Family {
-    Lane,
     Extent,
     Height,
     Shape,
@@ -84,21 +83,21 @@ pub enum Family {
     Mark,
 }
 
-// What the lines of a table are, beside their cells: strips, or children.
+// What the lines of a table are, beside their cells: strips, a section's lanes, by its record of them, or children in ranges.
 #[derive(Clone, Copy, Debug, PartialEq, Eq)]
 pub enum Rule {
     Strip,
+    Lane,
     Child(Family),
 }
 
 impl Family {
-    // Where the ranges (first, count) of the parents stand among the words. A section's lanes have a record of their own.
+    // Where the ranges (first, count) of the parents stand among the words.
     #[tactic(auto, unfolding(crate::specs::Layout::base_of, crate::specs::Layout::stride_of))]
     pub(crate) fn ranges(self) -> Lines
         ensures { (result.first ≡ base_of self) × (result.stride ≡ stride_of self) }
     {
         match self {
-            Family::Lane => Lines::spaced(0, 0),
             Family::Extent => Lines::spaced(LANE_WORDS + 2, LANE_STRIDE),
             Family::Height => Lines::spaced(LANE_WORDS + 4, LANE_STRIDE),
             Family::Shape => Lines::spaced(PROFILE_WORDS, PROFILE_STRIDE),
@@ -201,7 +200,7 @@ pub(crate) fn rule_of(table: usize) -> Option<Rule>
     ensures { result ≡ rule_of table }
 {
     match table {
-        LANE_TABLE => Some(Rule::Child(Family::Lane)),
+        LANE_TABLE => Some(Rule::Lane),
         EXTENT_TABLE => Some(Rule::Child(Family::Extent)),
         HEIGHT_TABLE => Some(Rule::Child(Family::Height)),
         SHAPE_TABLE => Some(Rule::Child(Family::Shape)),

@@ -8,7 +8,7 @@ ghost use Rattle.reader_store.specs.Keep.{added, under_progress, under_words, st
 use crate::columns::{put_numbers, put_wants, put_words};
 use crate::layout::{Family, Rule, count_place, rule_of};
 use crate::memory::{code, one_more, put_at, word};
-use crate::parents::{Counted, mark_lane, parent_of, ranked_at};
+use crate::parents::{Counted, lane_turn, mark_lane, parent_of, ranked_at};
 use crate::progress::{Progress, strip_of};
 use reader_cells::WHOLE_BIAS;
 use reader_lines::{Cells, put};
@@ -103,6 +103,10 @@ fn keep_ruled(
     match rule {
         None => progress,
         Some(Rule::Strip) => keep_strip(words, k, cells, progress),
+        Some(Rule::Lane) => {
+            let parent = lane_turn(words, cells.at(0), cells.at(1));
+            keep_under(words, k, parent, progress)
+        }
         Some(Rule::Child(family)) => {
             let parent = parent_of(words, family, cells, progress.strips);
             put_own(words, family, k, cells);

@@ -120,7 +120,7 @@ fn side_of(left: u16, right: u16, id: u64) -> Option<Side>
 
 // A lane under its section.
 #[tactic(auto, unfolding(crate::specs::Parents::lane_turn))]
-fn lane_turn(words: &[u16], section: u64, id: u64) -> Option<Counted>
+pub(crate) fn lane_turn(words: &[u16], section: u64, id: u64) -> Option<Counted>
     ensures { result ≡ lane_turn words.now section id }
 {
     let s = section_of(words, section)?;
@@ -216,7 +216,7 @@ fn index_of(words: &[u16], family: Family, cells: Cells, strips: Strips) -> Opti
         Family::Cubic => term_of(strips, a, b, cells.at(2)),
         Family::Shape => counted_of(a, word(words, PROFILE_COUNT_AT)),
         Family::Mark => mark_index(words, a, b),
-        Family::Lane | Family::Extent | Family::Height => lane_of(words, a, b),
+        Family::Extent | Family::Height => lane_of(words, a, b),
     }
 }
 
@@ -235,7 +235,7 @@ fn range_of(words: &[u16], at: Ranked, ranges: Lines) -> Counted
     }
 }
 
-// The parent of a line, by the table's family.
+// The parent of a line that its parent has a range of, by the table's family.
 #[tactic(auto, unfolding(crate::specs::Parents::parent_of, crate::specs::Parents::range_of))]
 pub(crate) fn parent_of(
     words: &[u16],
@@ -245,9 +245,6 @@ pub(crate) fn parent_of(
 ) -> Option<Counted>
     ensures { result ≡ parent_of words.now family cells strips }
 {
-    if family == Family::Lane {
-        return lane_turn(words, cells.at(0), cells.at(1));
-    }
     let at = index_of(words, family, cells, strips)?;
     Some(range_of(words, at, family.ranges()))
 }

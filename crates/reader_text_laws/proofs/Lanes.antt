@@ -47,7 +47,7 @@ lane_words_lem k cells us = refl
 lane_line_lem : (k : ℕ) (cells : Cells) (progress : Progress) (us : List ℕ)
     → (kept_words 7 k cells progress us ≡ under_words (words_below 7 k cells 8 us) k (lane_turn (words_below 7 k cells 8 us) (cell_of cells 0) (cell_of cells 1)) progress)
     × (kept_progress 7 k cells progress us ≡ under_progress (lane_turn (words_below 7 k cells 8 us) (cell_of cells 0) (cell_of cells 1)) progress)
-unfolding kept_words ruled_words own_words kept_progress ruled_progress rule_of parent_of
+unfolding kept_words ruled_words kept_progress ruled_progress rule_of
 lane_line_lem k cells progress us = (refl, refl)
 
 -- the first line of a section without lanes, and of one that has some
