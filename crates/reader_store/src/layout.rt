@@ -1,5 +1,6 @@
-// The layout of a lent road's memory by table: its places and strides are those of crate records. A function answers each question, with none where a table
-// has nothing of the kind; a struct for each table would name six things, most of them none.
+// The layout of a lent road's memory by table: its places and strides are those of crate records. A function answers each question. Where a
+// table has no numbers, or no words, its row has no place, so nothing is kept and where its lines stand is not asked: an Option there would say a second time
+// what the row says. A struct for each table would name six things, most of them none.
 ghost use Rattle.std.specs.Prelude.{◌≡◌, ◌+◌, ◌*◌, ◌<◌};
 ghost use Rattle.reader_store.specs.Layout.{spaced, number_lines, word_lines, number_row, word_row, count_place, rule_of, base_of, stride_of};
 

@@ -17,8 +17,8 @@ use Rattle.std.proofs.lemmas.Option.{option_and_then_some}
 use Rattle.reader_lines.specs.Columns.{cell_of, no_cells}
 use Rattle.reader_lines.specs.declared.columns.Cells.{Cells}
 use Rattle.reader_store.specs.Layout.{word_lines, one_more, code_of, word_row, word_place, word_put, words_below, rule_of}
-use Rattle.reader_store.specs.Parents.{index_at, section_at, side_of, side_word, lane_beside, lane_under, lane_turn, parent_of}
-use Rattle.reader_store.specs.Keep.{added, under_words, under_progress, own_words, ruled_words, ruled_progress, kept_words, kept_progress}
+use Rattle.reader_store.specs.Parents.{index_at, section_at, side_of, side_word, lane_beside, lane_under, lane_turn}
+use Rattle.reader_store.specs.Keep.{added, under_words, under_progress, ruled_words, ruled_progress, kept_words, kept_progress}
 use Rattle.reader_store.specs.declared.parents.Ranked.{Ranked}
 use Rattle.reader_store.specs.declared.parents.Counted.{Counted}
 use Rattle.reader_store.specs.declared.parents.Side.{Side}
