@@ -1,6 +1,6 @@
-// The layout of a lent road's memory by table: its places and strides are those of crate records. A function answers each question. Where a
-// table has no numbers, or no words, its row has no place, so nothing is kept and where its lines stand is not asked: an Option there would say a second time
-// what the row says. A struct for each table would name six things, most of them none.
+// The layout of a lent road's memory by table: its places and strides are those of crate records. A function answers each question; a struct for each table
+// would name six things, most of them none. Where a table has no numbers, or no words, its row has no place, and nothing is kept wherever its lines are said to
+// stand: an Option of where they stand would say a second time what the row says.
 ghost use Rattle.std.specs.Prelude.{◌≡◌, ◌+◌, ◌*◌, ◌<◌};
 ghost use Rattle.reader_store.specs.Layout.{spaced, number_lines, word_lines, number_row, word_row, count_place, rule_of, base_of, stride_of};
 
@@ -46,8 +46,8 @@ impl Lines {
     }
 }
 
-// Which of its line's numbers, or words, each column of a table is, counted from 1; 0 where it is none. Options in place of the numbers are laid out one to
-// a line, and read for each column took 100 µs of a text of 57,213 bytes where these took 94.
+// Which of its line's numbers, or words, each column of a table is, counted from 1; 0 where it is none. The bar is the reading of a job in docs/PERFORMANCE.md,
+// 94 µs. Options in place of the numbers are laid out one to a line, and read for each column took 100 µs of a text of 57,213 bytes where these took 94.
 pub(crate) type Row = [u8; COLUMNS_MOST];
 
 const NO_PLACES: Row = [0; COLUMNS_MOST];

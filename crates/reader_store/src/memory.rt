@@ -4,7 +4,7 @@ ghost use Rattle.reader_store.specs.Layout.{code_of, one_more, put_at};
 
 use reader_lines::put;
 
-// A word as a word, since a count is put back with one more; crate records_lent's `word` answers a place or a count to go by.
+// Crate records_lent has a `word` that answers a place or a count as a usize; here a count is put back as a word, one more.
 pub(crate) fn word(words: &[u16], i: usize) -> u16
     ensures { result ≡ get_or words.now i 0 }
 {
