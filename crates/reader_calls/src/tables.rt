@@ -9,7 +9,7 @@ ghost use Rattle.reader_calls.specs.Parts.{Agrees};
 
 use reader_lines::Order;
 use reader_schema::tables::{ROAD_TABLE, TABLE_COUNT};
-use reader_store::Progress;
+use reader_store::{Progress, TableLine};
 use refusals::Refusal;
 
 #[derive(Clone, Copy, Debug, PartialEq, Eq)]
@@ -54,7 +54,12 @@ fn lines(
         if limit <= k {
             return Err(Refusal::Capacity);
         }
-        progress = reader_store::keep_line(words, numbers, wants, table, k, row.cells, progress);
+        let line = TableLine {
+            table,
+            k,
+            cells: row.cells,
+        };
+        progress = reader_store::keep_line(words, numbers, wants, line, progress);
         at = row.next;
         k += 1;
     }

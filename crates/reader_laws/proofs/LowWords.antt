@@ -16,9 +16,9 @@ use Rattle.reader_store.specs.Progress.{strip_line}
 use Rattle.reader_store.specs.Parents.{first_if, section_at, section_word, side_of, lane_beside, lane_under, lane_turn, index_of, range_of, parent_of}
 use Rattle.reader_store.specs.Keep.{added, in_order, under_words, strip_named, strips_kept, mark_kind, mark_place, mark_put, own_words, ruled_words, kept_words}
 use Rattle.reader_store.specs.declared.layout.Family.{Family}
-use Rattle.reader_store.specs.declared.layout.Family.TheVariants.{Lane, Extent, Height, Shape, Cubic, Mark}
+use Rattle.reader_store.specs.declared.layout.Family.TheVariants.{Extent, Height, Shape, Cubic, Mark}
 use Rattle.reader_store.specs.declared.layout.Rule.{Rule}
-use Rattle.reader_store.specs.declared.layout.Rule.TheVariants.{Strip, Child}
+use Rattle.reader_store.specs.declared.layout.Rule.TheVariants.{Strip, Lane, Child}
 use Rattle.reader_store.specs.declared.parents.Ranked.{Ranked}
 use Rattle.reader_store.specs.declared.parents.Counted.{Counted}
 use Rattle.reader_store.specs.declared.parents.Side.{Side}
@@ -105,7 +105,7 @@ module _ (b : ℕ) (most : b ≤ 71) (t : ℕ) (word-past : (c : ℕ) → 0 < wo
   first-past true p h = h
   first-past false p h = tt
 
-  -- the ranges of all families but a section's lanes stand past the sections' words
+  -- the ranges of all families stand past the sections' words
   range-past : (ws : List ℕ) (base stride : ℕ) → 71 ≤ base → (at : Option Ranked) → Past (option_map (range_of ws base stride) at)
   unfolding range_of
   range-past ws base stride h None = tt
@@ -122,8 +122,7 @@ module _ (b : ℕ) (most : b ≤ 71) (t : ℕ) (word-past : (c : ℕ) → 0 < wo
           (first-past (eqb (get_or ws (section_word s.index + 1) 0) 0 && eqb (get_or ws (section_word s.index + 2) 0) 0) (section_word s.index) (omega arith), omega arith)
 
   parent-past : (ws : List ℕ) (family : Family) (cells : Cells) (strips : List (Option ℕ)) → Past (parent_of ws family cells strips)
-  unfolding parent_of lane_turn base_of
-  parent-past ws Lane cells strips = lane-past ws (cell_of cells 1) (section_at ws (cell_of cells 0))
+  unfolding parent_of base_of
   parent-past ws Extent cells strips = range-past ws (base_of Extent) (stride_of Extent) (omega arith) (index_of ws Extent cells strips)
   parent-past ws Height cells strips = range-past ws (base_of Height) (stride_of Height) (omega arith) (index_of ws Height cells strips)
   parent-past ws Shape cells strips = range-past ws (base_of Shape) (stride_of Shape) (omega arith) (index_of ws Shape cells strips)
@@ -131,9 +130,11 @@ module _ (b : ℕ) (most : b ≤ 71) (t : ℕ) (word-past : (c : ℕ) → 0 < wo
   parent-past ws Mark cells strips = range-past ws (base_of Mark) (stride_of Mark) (omega arith) (index_of ws Mark cells strips)
 
   ruled_low : (rule : Option Rule) (k : ℕ) (cells : Cells) (progress : Progress) (ws : List ℕ) → Low b (ruled_words ws rule k cells progress) ws
-  unfolding ruled_words
+  unfolding ruled_words lane_turn
   ruled_low None k cells progress ws = low_same b ws
   ruled_low (Some Strip) k cells progress ws = strip-low ws cells progress
+  ruled_low (Some Lane) k cells progress ws =
+      under_low ws k (lane_turn ws (cell_of cells 0) (cell_of cells 1)) progress (lane-past ws (cell_of cells 1) (section_at ws (cell_of cells 0)))
   ruled_low (Some (Child family)) k cells progress ws =
       let parent = parent_of ws family cells progress.strips in
       low-then b (under_words (own_words ws family k cells) k parent progress) (own_words ws family k cells) ws

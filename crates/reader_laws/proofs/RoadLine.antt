@@ -12,16 +12,17 @@ use Rattle.reader_cells.specs.Cells.{byte_at, name_span}
 use Rattle.reader_lines.specs.NamesLine.{head_at}
 use Rattle.reader_lines.specs.ValuesLine.{values_at}
 use Rattle.std.specs.Prelude.{Option, Some, None, is_some}
+use Rattle.reader_lines.specs.Columns.{cell_of}
 use Rattle.reader_lines.specs.declared.names_line.Head.{Head}
 use Rattle.reader_lines.specs.declared.values_line.Values.{Values}
 use Rattle.reader_lines.specs.declared.columns.Order.{Order}
 use Rattle.reader_lines.specs.declared.columns.Cells.{Cells}
 use Rattle.reader_store.specs.Layout.{words_below, rule_of, numbers_below, wants_kept, count_kept}
 use Rattle.reader_store.specs.Progress.{strip_line, listed_as, start_progress, unsound_progress, ended_progress}
-use Rattle.reader_store.specs.Parents.{parent_of}
+use Rattle.reader_store.specs.Parents.{lane_turn, parent_of}
 use Rattle.reader_store.specs.Keep.{strip_named, in_order, under_progress, strip_progress, ruled_progress, kept_words, kept_progress}
 use Rattle.reader_store.specs.declared.layout.Rule.{Rule}
-use Rattle.reader_store.specs.declared.layout.Rule.TheVariants.{Strip, Child}
+use Rattle.reader_store.specs.declared.layout.Rule.TheVariants.{Strip, Lane, Child}
 use Rattle.reader_store.specs.declared.parents.Counted.{Counted}
 use Rattle.reader_store.specs.declared.progress.Progress.{Progress}
 use Rattle.reader_calls.specs.Reading.{Outcome, done, stop, by_outcome, lines_from, table_at, counted_progress, tables_from, zeros, zero_numbers, by_values, by_head}
@@ -48,6 +49,7 @@ unfolding ruled_progress strip_progress
 ruled-sound None k cells progress ws = λ e. e
 ruled-sound (Some Strip) k cells progress ws =
     by_cases (is_some (strip_line progress.strips (strip_named cells))) progress (unsound_progress progress) (record { sound = progress.sound; last = progress.last; strips = listed_as progress.strips (strip_named cells) k }) (never progress) (λ e. e)
+ruled-sound (Some Lane) k cells progress ws = under-sound (lane_turn ws (cell_of cells 0) (cell_of cells 1)) progress
 ruled-sound (Some (Child family)) k cells progress ws = under-sound (parent_of ws family cells progress.strips) progress
 
 pub kept-sound : (t k : ℕ) (cells : Cells) (progress : Progress) (ws : List ℕ) → (kept_progress t k cells progress ws).sound ≡ true → progress.sound ≡ true

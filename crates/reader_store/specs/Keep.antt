@@ -8,11 +8,11 @@ use Rattle.reader_lines.specs.Columns.{cell_of}
 use Rattle.reader_lines.specs.declared.columns.Cells.{Cells}
 use Rattle.reader_store.specs.Layout.{code_of, one_more, put_at, words_below, rule_of}
 use Rattle.reader_store.specs.Progress.{bit_in, strip_of, strip_line, listed_as, unsound_progress}
-use Rattle.reader_store.specs.Parents.{index_at, parent_of, mark_lane}
+use Rattle.reader_store.specs.Parents.{index_at, lane_turn, parent_of, mark_lane}
 use Rattle.reader_store.specs.declared.layout.Family.{Family}
 use Rattle.reader_store.specs.declared.layout.Family.TheVariants.{Mark}
 use Rattle.reader_store.specs.declared.layout.Rule.{Rule}
-use Rattle.reader_store.specs.declared.layout.Rule.TheVariants.{Strip, Child}
+use Rattle.reader_store.specs.declared.layout.Rule.TheVariants.{Strip, Lane, Child}
 use Rattle.reader_store.specs.declared.parents.Counted.{Counted}
 use Rattle.reader_store.specs.declared.progress.Progress.{Progress}
 
@@ -65,15 +65,17 @@ unfoldable pub own_words : List ℕ → Family → ℕ → Cells → List ℕ
 own_words ws Mark k cells = mark_put ws k cells
 own_words ws family k cells = ws
 
--- by the rule of the table: nothing more, a strip, or a line under its parent
+-- by the rule of the table: nothing more, a strip, a lane under its section, or a line under its parent
 unfoldable pub ruled_words : List ℕ → Option Rule → ℕ → Cells → Progress → List ℕ
 ruled_words ws None k cells progress = ws
 ruled_words ws (Some Strip) k cells progress = strips_kept ws cells progress
+ruled_words ws (Some Lane) k cells progress = under_words ws k (lane_turn ws (cell_of cells 0) (cell_of cells 1)) progress
 ruled_words ws (Some (Child family)) k cells progress = under_words (own_words ws family k cells) k (parent_of ws family cells progress.strips) progress
 
 unfoldable pub ruled_progress : List ℕ → Option Rule → ℕ → Cells → Progress → Progress
 ruled_progress ws None k cells progress = progress
 ruled_progress ws (Some Strip) k cells progress = strip_progress k cells progress
+ruled_progress ws (Some Lane) k cells progress = under_progress (lane_turn ws (cell_of cells 0) (cell_of cells 1)) progress
 ruled_progress ws (Some (Child family)) k cells progress = under_progress (parent_of ws family cells progress.strips) progress
 
 -- line k of a table, counted from 0, kept in the words, and what is remembered then

@@ -12,9 +12,9 @@ use Rattle.records.specs.Layout.{length_place, geom_base, geom_stride, elev_base
 use Rattle.reader_schema.specs.Tables.{road_table, geom_table, elev_table, bank_table, offset_table, tshift_table, section_table, lane_table, extent_table, height_table, profile_table, shape_table, strip_table, cubic_table, mark_table, want_table, columns_most}
 use Rattle.reader_store.specs.declared.layout.Lines.{Lines}
 use Rattle.reader_store.specs.declared.layout.Family.{Family}
-use Rattle.reader_store.specs.declared.layout.Family.TheVariants.{Lane, Extent, Height, Shape, Cubic, Mark}
+use Rattle.reader_store.specs.declared.layout.Family.TheVariants.{Extent, Height, Shape, Cubic, Mark}
 use Rattle.reader_store.specs.declared.layout.Rule.{Rule}
-use Rattle.reader_store.specs.declared.layout.Rule.TheVariants.{Strip, Child}
+use Rattle.reader_store.specs.declared.layout.Rule.TheVariants.{Strip, Lane, Child}
 use Rattle.reader_lines.specs.Columns.{cell_of}
 use Rattle.reader_lines.specs.declared.columns.Cells.{Cells}
 
@@ -85,10 +85,10 @@ count_place table =
     (cond (eqb table section_table) (Some section_count_at)
     (cond (eqb table profile_table) (Some profile_count_at) None))))))
 
--- what a table's lines are beside their cells: strips, or children of a family
+-- what a table's lines are beside their cells: strips, a section's lanes, by its record of them, or children of a family, by their parent's range
 unfoldable pub rule_of : ℕ → Option Rule
 rule_of table =
-    cond (eqb table lane_table) (Some (Child Lane))
+    cond (eqb table lane_table) (Some Lane)
     (cond (eqb table extent_table) (Some (Child Extent))
     (cond (eqb table height_table) (Some (Child Height))
     (cond (eqb table shape_table) (Some (Child Shape))
@@ -96,9 +96,8 @@ rule_of table =
     (cond (eqb table cubic_table) (Some (Child Cubic))
     (cond (eqb table mark_table) (Some (Child Mark)) None))))))
 
--- by family: where the range (first, count) of parent 0 stands among the words, and how many words further that of the next. A section's lanes have a record of their own.
+-- by family: where the range (first, count) of parent 0 stands among the words, and how many words further that of the next
 unfoldable pub base_of : Family → ℕ
-base_of Lane = 0
 base_of Extent = lane_words + 2
 base_of Height = lane_words + 4
 base_of Shape = profile_words
@@ -106,7 +105,6 @@ base_of Cubic = strip_words + 1
 base_of Mark = section_mark_words
 
 unfoldable pub stride_of : Family → ℕ
-stride_of Lane = 0
 stride_of Extent = lane_stride
 stride_of Height = lane_stride
 stride_of Shape = profile_stride
@@ -127,6 +125,11 @@ one_more n = cond (ltb n greatest_word) (n + 1) n
 -- a list with a value at a place, counted from 1, of the line that begins at `line`; 0 is no place
 abbrev pub placed : {A : Type 0} → ℕ → ℕ → A → List A → List A
 placed line place v xs = cond (ltb 0 place) (set xs (line + (place - 1)) v) xs
+
+-- a list with the cells of the first n columns of such a line kept as f makes of each, by the places of the columns
+unfoldable pub cells_below : {A : Type 0} → (ℕ → A) → ℕ → List ℕ → Cells → ℕ → List A → List A
+cells_below f line places cells zero xs = xs
+cells_below f line places cells (suc n) xs = placed line (get_or places n 0) (f (cell_of cells n)) (cells_below f line places cells n xs)
 
 -- the numbers and the words with one cell of line k kept: an f64 as the float of its pattern, a word of a list as its place there
 unfoldable pub number_put : ℕ → ℕ → ℕ → ℕ → List Float → List Float

@@ -1,5 +1,5 @@
 -- Document 01, "The job text": the parent of a line. "Lines of a child table follow their parents' order; a parent that does not exist is 3."
--- A whole number n is held as whole_bias + n, a word of a list as its place there. Read `parent_of` first, at the end.
+-- A whole number n is held as whole_bias + n, a word of a list as its place there. Read `lane_turn` and, at the end, `parent_of` first.
 use Rattle.std.specs.Prelude.{ℕ, ◌+◌, ◌-◌, ◌*◌, ◌%◌, Bool, ◌&&◌, cond, List, Option, Some, None, is_some, unwrap_or, option_map, option_and_then, get_or, eqb, ltb, leb}
 use Rattle.records.specs.Layout.{section_count_at, profile_count_at, section_words, section_stride, strip_stride}
 use Rattle.reader_cells.specs.Cells.{whole_bias}
@@ -8,9 +8,10 @@ use Rattle.reader_lines.specs.declared.columns.Cells.{Cells}
 use Rattle.reader_store.specs.Layout.{base_of, stride_of}
 use Rattle.reader_store.specs.Progress.{strip_of, strip_line}
 use Rattle.reader_store.specs.declared.layout.Family.{Family}
-use Rattle.reader_store.specs.declared.layout.Family.TheVariants.{Lane, Shape, Cubic, Mark}
+use Rattle.reader_store.specs.declared.layout.Family.TheVariants.{Shape, Cubic, Mark}
 use Rattle.reader_store.specs.declared.parents.Ranked.{Ranked}
 use Rattle.reader_store.specs.declared.parents.Counted.{Counted}
+use Rattle.reader_store.specs.declared.parents.SectionRecord.{SectionRecord}
 use Rattle.reader_store.specs.declared.parents.Side.{Side}
 use Rattle.reader_store.specs.declared.parents.Side.TheVariants.{Left, Right}
 
@@ -44,9 +45,14 @@ first_right = whole_bias - 1
 unfoldable pub side_of : ℕ → ℕ → ℕ → Option Side
 side_of left right id = cond (eqb id (left + first_left) && eqb right 0) (Some Left) (cond (eqb (id + right + 1) whole_bias) (Some Right) None)
 
--- the record of section s: its first lane, how many left, how many right
+-- where the record of section s begins
 abbrev pub section_word : ℕ → ℕ
 section_word s = section_words + section_stride * s
+
+-- the record of section s: its first lane, how many left, how many right
+abbrev pub section_record : List ℕ → ℕ → SectionRecord
+section_record ws s =
+    record { first = get_or ws (section_word s) 0; left = get_or ws (section_word s + 1) 0; right = get_or ws (section_word s + 2) 0 }
 
 -- which of its words counts a side
 abbrev pub side_word : Side → ℕ
@@ -132,7 +138,6 @@ range_of ws base stride at =
       count = base + at.index * stride + 1;
     }
 
--- the parent of a line, by the family of its table
+-- the parent of a line that its parent has a range of, by the family of its table
 unfoldable pub parent_of : List ℕ → Family → Cells → List (Option ℕ) → Option Counted
-parent_of ws Lane cells strips = lane_turn ws (cell_of cells 0) (cell_of cells 1)
 parent_of ws family cells strips = option_map (range_of ws (base_of family) (stride_of family)) (index_of ws family cells strips)

@@ -1,5 +1,6 @@
-// The layout of a lent road's memory by table: its places and strides are those of crate records. A function answers each question, with none where a table
-// has nothing of the kind; a struct for each table would name six things, most of them none.
+// The layout of a lent road's memory by table: its places and strides are those of crate records. A function answers each question; a struct for each table
+// would name six things, most of them none. Where a table has no numbers, or no words, its row has no place, and nothing is kept wherever its lines are said to
+// stand: an Option of where they stand would say a second time what the row says.
 ghost use Rattle.std.specs.Prelude.{◌≡◌, ◌+◌, ◌*◌, ◌<◌};
 ghost use Rattle.reader_store.specs.Layout.{spaced, number_lines, word_lines, number_row, word_row, count_place, rule_of, base_of, stride_of};
 
@@ -45,9 +46,9 @@ impl Lines {
     }
 }
 
-// Which of its line's numbers, or words, each column of a table is, counted from 1; 0 where it is none. Options in place of the numbers are laid out one to
-// a line, and read for each column took 100 µs of a text of 57,213 bytes where these took 94.
-type Row = [u8; COLUMNS_MOST];
+// Which of its line's numbers, or words, each column of a table is, counted from 1; 0 where it is none. The bar is the reading of a job in docs/PERFORMANCE.md,
+// 94 µs. Options in place of the numbers are laid out one to a line, and read for each column took 100 µs of a text of 57,213 bytes where these took 94.
+pub(crate) type Row = [u8; COLUMNS_MOST];
 
 const NO_PLACES: Row = [0; COLUMNS_MOST];
 
@@ -73,10 +74,9 @@ const GEOM_CODES: Row = [0, 0, 0, 0, 0, 1, 0, 0];
 
 const LANE_CODES: Row = [0, 0, 1, 2, 0, 0, 0, 0];
 
-// Whose children the lines of a table are: a section's lanes, a lane's extents, its heights, a profile's shapes, a strip's cubics, a section's marks.
+// Whose children the lines of a table are, where a parent has a range of them: a lane's extents, its heights, a profile's shapes, a strip's cubics, a section's marks.
 #[derive(Clone, Copy, Debug, PartialEq, Eq)]
 pub enum Family {
-    Lane,
     Extent,
     Height,
     Shape,
@@ -84,21 +84,21 @@ pub enum Family {
     Mark,
 }
 
-// What the lines of a table are, beside their cells: strips, or children.
+// What the lines of a table are, beside their cells: strips, a section's lanes, by its record of them, or children in ranges.
 #[derive(Clone, Copy, Debug, PartialEq, Eq)]
 pub enum Rule {
     Strip,
+    Lane,
     Child(Family),
 }
 
 impl Family {
-    // Where the ranges (first, count) of the parents stand among the words. A section's lanes have a record of their own.
+    // Where the ranges (first, count) of the parents stand among the words.
     #[tactic(auto, unfolding(crate::specs::Layout::base_of, crate::specs::Layout::stride_of))]
     pub(crate) fn ranges(self) -> Lines
         ensures { (result.first ≡ base_of self) × (result.stride ≡ stride_of self) }
     {
         match self {
-            Family::Lane => Lines::spaced(0, 0),
             Family::Extent => Lines::spaced(LANE_WORDS + 2, LANE_STRIDE),
             Family::Height => Lines::spaced(LANE_WORDS + 4, LANE_STRIDE),
             Family::Shape => Lines::spaced(PROFILE_WORDS, PROFILE_STRIDE),
@@ -201,7 +201,7 @@ pub(crate) fn rule_of(table: usize) -> Option<Rule>
     ensures { result ≡ rule_of table }
 {
     match table {
-        LANE_TABLE => Some(Rule::Child(Family::Lane)),
+        LANE_TABLE => Some(Rule::Lane),
         EXTENT_TABLE => Some(Rule::Child(Family::Extent)),
         HEIGHT_TABLE => Some(Rule::Child(Family::Height)),
         SHAPE_TABLE => Some(Rule::Child(Family::Shape)),

@@ -9,6 +9,7 @@ mod parents;
 mod progress;
 
 // The laws above speak of a table's rule and of a line's parent.
+pub use columns::TableLine;
 pub use layout::{Family, Rule};
 pub use lines::{end_table, keep_line};
 pub use parents::{Counted, Ranked, Side};

@@ -1,17 +1,17 @@
 // A line kept: its cells at their places, and the line under its parent.
 ghost use Rattle.std.specs.Prelude.{◌≡◌};
 ghost use Rattle.reader_schema.specs.Tables.{columns_most};
-ghost use Rattle.reader_store.specs.Layout.{numbers_below, wants_kept, count_kept};
+ghost use Rattle.reader_store.specs.Layout.{numbers_below, wants_kept, count_kept, rule_of};
 ghost use Rattle.reader_store.specs.Progress.{ended_progress};
 ghost use Rattle.reader_store.specs.Keep.{added, under_progress, under_words, strip_progress, strips_kept, mark_kind, mark_put, own_words, ruled_progress, ruled_words, kept_progress, kept_words};
 
-use crate::columns::{put_numbers, put_wants, put_words};
+use crate::columns::{TableLine, put_numbers, put_wants, put_words};
 use crate::layout::{Family, Rule, count_place, rule_of};
 use crate::memory::{code, one_more, put_at, word};
-use crate::parents::{Counted, mark_lane, parent_of, ranked_at};
+use crate::parents::{Counted, lane_turn, mark_lane, parent_of, ranked_at};
 use crate::progress::{Progress, strip_of};
 use reader_cells::WHOLE_BIAS;
-use reader_lines::{Cells, put};
+use reader_lines::put;
 use records::layout::{MARK_STRIDE, MARK_WORDS, STRIP_STRIDE, STRIP_WORDS};
 
 // Counts line k under its parent.
@@ -45,18 +45,18 @@ fn keep_under(words: &mut [u16], k: u16, parent: Option<Counted>, progress: Prog
 
 // Keeps a strip at its fixed place and remembers its line, if it was not there yet.
 #[tactic(auto, unfolding(crate::specs::Keep::strip_progress, crate::specs::Keep::strips_kept))]
-fn keep_strip(words: &mut [u16], k: u16, cells: Cells, progress: Progress) -> Progress
-    ensures value { result ≡ strip_progress k cells progress }
-    ensures words_after { words.new ≡ strips_kept words.old cells progress }
+fn keep_strip(words: &mut [u16], line: TableLine, progress: Progress) -> Progress
+    ensures value { result ≡ strip_progress line.k line.cells progress }
+    ensures words_after { words.new ≡ strips_kept words.old line.cells progress }
 {
-    let strip = strip_of(cells.at(0), cells.at(1));
+    let strip = strip_of(line.cells.at(0), line.cells.at(1));
     if progress.strips[strip].is_some() {
         return progress.unsound();
     }
-    let relative = (cells.at(2) % 2) as u16;
+    let relative = (line.cells.at(2) % 2) as u16;
     put(words, STRIP_WORDS + strip * STRIP_STRIDE, relative + 1);
     let mut strips = progress.strips;
-    strips[strip] = Some(k);
+    strips[strip] = Some(line.k);
     Progress { strips, ..progress }
 }
 
@@ -67,70 +67,67 @@ fn mark_kind(cell: u64) -> u16
     code(cell.saturating_sub(WHOLE_BIAS))
 }
 
-// Keeps line k's lane, by its place in its section, and its kind.
+// Keeps a mark's lane, by its place in its section, and its kind.
 #[tactic(auto, unfolding(crate::specs::Keep::mark_put))]
-fn put_mark(words: &mut [u16], k: u16, cells: Cells)
-    ensures { words.new ≡ mark_put words.old k cells }
+fn put_mark(words: &mut [u16], line: TableLine)
+    ensures { words.new ≡ mark_put words.old line.k line.cells }
 {
-    let lane = mark_lane(words, cells.at(0), cells.at(1)).unwrap_or(ranked_at(0));
-    let i = MARK_WORDS + k as usize * MARK_STRIDE;
+    let lane = mark_lane(words, line.cells.at(0), line.cells.at(1)).unwrap_or(ranked_at(0));
+    let i = MARK_WORDS + line.k as usize * MARK_STRIDE;
     put(words, i, code(lane.index as u64));
-    put(words, i + 1, mark_kind(cells.at(4)));
+    put(words, i + 1, mark_kind(line.cells.at(4)));
 }
 
 // Keeps a mark's own words; other lines under a parent have none.
 #[tactic(auto, unfolding(crate::specs::Keep::own_words))]
-fn put_own(words: &mut [u16], family: Family, k: u16, cells: Cells)
-    ensures { words.new ≡ own_words words.old family k cells }
+fn put_own(words: &mut [u16], family: Family, line: TableLine)
+    ensures { words.new ≡ own_words words.old family line.k line.cells }
 {
     if family == Family::Mark {
-        put_mark(words, k, cells);
+        put_mark(words, line);
     }
 }
 
-// Keeps line k under its parent, or as a strip, by the rule of its table. The parent is found before the line's own words are written.
+// Keeps a line under its parent, or as a strip, by the rule of its table. The parent is found before the line's own words are written.
 #[tactic(auto, unfolding(crate::specs::Keep::ruled_progress, crate::specs::Keep::ruled_words))]
-fn keep_ruled(
-    words: &mut [u16],
-    rule: Option<Rule>,
-    k: u16,
-    cells: Cells,
-    progress: Progress,
-) -> Progress
-    ensures value { result ≡ ruled_progress words.old rule k cells progress }
-    ensures words_after { words.new ≡ ruled_words words.old rule k cells progress }
+fn keep_ruled(words: &mut [u16], line: TableLine, progress: Progress) -> Progress
+    ensures value { result ≡ ruled_progress words.old (rule_of line.table) line.k line.cells progress }
+    ensures words_after { words.new ≡ ruled_words words.old (rule_of line.table) line.k line.cells progress }
 {
-    match rule {
+    let TableLine { table, k, cells } = line;
+    match rule_of(table) {
         None => progress,
-        Some(Rule::Strip) => keep_strip(words, k, cells, progress),
+        Some(Rule::Strip) => keep_strip(words, line, progress),
+        Some(Rule::Lane) => {
+            let parent = lane_turn(words, cells.at(0), cells.at(1));
+            keep_under(words, k, parent, progress)
+        }
         Some(Rule::Child(family)) => {
             let parent = parent_of(words, family, cells, progress.strips);
-            put_own(words, family, k, cells);
+            put_own(words, family, line);
             keep_under(words, k, parent, progress)
         }
     }
 }
 
-// Keeps line k of a table, counted from 0. A line that is out of its order or has no parent is remembered in the progress; its cells are kept all the same.
+// Keeps a line. One that is out of its order or has no parent is remembered in the progress; its cells are kept all the same.
 #[tactic(auto, unfolding(crate::specs::Keep::kept_progress, crate::specs::Keep::kept_words))]
 pub fn keep_line(
     words: &mut [u16],
     numbers: &mut [f64],
     wants: &mut [u64],
-    table: usize,
-    k: u16,
-    cells: Cells,
+    line: TableLine,
     progress: Progress,
 ) -> Progress
-    ensures value { result ≡ kept_progress table k cells progress words.old }
-    ensures words_after { words.new ≡ kept_words table k cells progress words.old }
-    ensures numbers_after { numbers.new ≡ numbers_below table k cells columns_most numbers.old }
-    ensures wants_after { wants.new ≡ wants_kept table k cells wants.old }
+    ensures value { result ≡ kept_progress line.table line.k line.cells progress words.old }
+    ensures words_after { words.new ≡ kept_words line.table line.k line.cells progress words.old }
+    ensures numbers_after { numbers.new ≡ numbers_below line.table line.k line.cells columns_most numbers.old }
+    ensures wants_after { wants.new ≡ wants_kept line.table line.k line.cells wants.old }
 {
-    put_numbers(numbers, table, k, cells);
-    put_wants(wants, table, k, cells);
-    put_words(words, table, k, cells);
-    keep_ruled(words, rule_of(table), k, cells, progress)
+    put_numbers(numbers, line);
+    put_wants(wants, line);
+    put_words(words, line);
+    keep_ruled(words, line, progress)
 }
 
 // Ends a table of k lines: keeps its count, where the layout has a word for it, and lets the next table's parents begin anew.

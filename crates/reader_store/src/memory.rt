@@ -4,6 +4,7 @@ ghost use Rattle.reader_store.specs.Layout.{code_of, one_more, put_at};
 
 use reader_lines::put;
 
+// Crate records_lent has a `word` that answers a place or a count as a usize; here a count is put back as a word, one more.
 pub(crate) fn word(words: &[u16], i: usize) -> u16
     ensures { result ≡ get_or words.now i 0 }
 {

@@ -1,6 +1,6 @@
 // The parent of a line: a lane's or a mark's section, an extent's or a height's lane, a shape's profile, a cubic's strip and term.
-ghost use Rattle.std.specs.Prelude.{◌≡◌};
-ghost use Rattle.reader_store.specs.Parents.{index_at, counted, section_at, side_of, lane_turn, lane_among, lane_index, mark_lane, mark_index, term_of, index_of, range_of, parent_of};
+ghost use Rattle.std.specs.Prelude.{◌≡◌, ◌<◌};
+ghost use Rattle.reader_store.specs.Parents.{index_at, counted, section_at, section_word, section_record, side_of, lane_turn, lane_among, lane_index, mark_lane, mark_index, term_of, index_of, range_of, parent_of};
 
 use crate::layout::{Family, Lines};
 use crate::memory::word;
@@ -67,6 +67,34 @@ fn section_of(words: &[u16], section: u64) -> Option<Ranked>
     counted_of(section, word(words, SECTION_COUNT_AT))
 }
 
+// A section's record among the words: its first lane, how many left, how many right.
+#[derive(Clone, Copy, Debug, PartialEq, Eq)]
+pub(crate) struct SectionRecord {
+    pub first: u16,
+    pub left: u16,
+    pub right: u16,
+}
+
+// Where the record of section s begins.
+fn section_word(s: u32) -> usize
+    ensures value { result ≡ section_word s }
+    ensures small { result < 1000000000000000 }
+{
+    SECTION_WORDS + SECTION_STRIDE * s as usize
+}
+
+// The record of section s.
+fn section_record(words: &[u16], s: u32) -> SectionRecord
+    ensures { result ≡ section_record words.now s }
+{
+    let at = section_word(s);
+    SectionRecord {
+        first: word(words, at),
+        left: word(words, at + 1),
+        right: word(words, at + 2),
+    }
+}
+
 // The sides that a lane adds to.
 #[derive(Clone, Copy, Debug, PartialEq, Eq)]
 pub enum Side {
@@ -92,30 +120,30 @@ fn side_of(left: u16, right: u16, id: u64) -> Option<Side>
 
 // A lane under its section.
 #[tactic(auto, unfolding(crate::specs::Parents::lane_turn))]
-fn lane_turn(words: &[u16], section: u64, id: u64) -> Option<Counted>
+pub(crate) fn lane_turn(words: &[u16], section: u64, id: u64) -> Option<Counted>
     ensures { result ≡ lane_turn words.now section id }
 {
     let s = section_of(words, section)?;
-    let first = SECTION_WORDS + SECTION_STRIDE * s.index as usize;
-    let left = word(words, first + 1);
-    let right = word(words, first + 2);
-    let count = match side_of(left, right, id)? {
-        Side::Left => first + 1,
-        Side::Right => first + 2,
+    let at = section_word(s.index);
+    let section = section_record(words, s.index);
+    let count = match side_of(section.left, section.right, id)? {
+        Side::Left => at + 1,
+        Side::Right => at + 2,
     };
-    let fresh = (left == 0) & (right == 0);
+    let fresh = (section.left == 0) & (section.right == 0);
     Some(Counted {
         rank: s.rank,
-        first: fresh.then_some(first),
+        first: fresh.then_some(at),
         count,
     })
 }
 
-// The lane with an id, of a section's first lane and its counts of left and right ones.
+// The lane of a section with an id.
 #[tactic(auto, unfolding(crate::specs::Parents::lane_among))]
-fn lane_by(first: u16, left: u16, right: u16, id: u64) -> Option<Ranked>
-    ensures { result ≡ lane_among first left right id }
+fn lane_by(section: SectionRecord, id: u64) -> Option<Ranked>
+    ensures { result ≡ lane_among section.first section.left section.right id }
 {
+    let SectionRecord { first, left, right } = section;
     if id == WHOLE_BIAS {
         return None;
     }
@@ -131,14 +159,13 @@ fn lane_by(first: u16, left: u16, right: u16, id: u64) -> Option<Ranked>
     Some(ranked_at(first as u32 + left as u32 + (FIRST_RIGHT - id) as u32))
 }
 
-// The lane of a section with an id.
+// The same, of the section that a line names.
 #[tactic(auto, unfolding(crate::specs::Parents::lane_index))]
 fn lane_of(words: &[u16], section: u64, id: u64) -> Option<Ranked>
     ensures { result ≡ lane_index words.now section id }
 {
     let s = section_of(words, section)?;
-    let i = SECTION_WORDS + SECTION_STRIDE * s.index as usize;
-    lane_by(word(words, i), word(words, i + 1), word(words, i + 2), id)
+    lane_by(section_record(words, s.index), id)
 }
 
 // The place of a mark's lane in its section, counted from 0, left ones first. Where the section is not there section 0 stands in for it.
@@ -147,8 +174,11 @@ pub(crate) fn mark_lane(words: &[u16], section: u64, id: u64) -> Option<Ranked>
     ensures { result ≡ mark_lane words.now section id }
 {
     let s = section_of(words, section).unwrap_or(ranked_at(0));
-    let i = SECTION_WORDS + SECTION_STRIDE * s.index as usize;
-    lane_by(0, word(words, i + 1), word(words, i + 2), id)
+    let section = SectionRecord {
+        first: 0,
+        ..section_record(words, s.index)
+    };
+    lane_by(section, id)
 }
 
 // A mark under its section, which must have the mark's lane.
@@ -186,7 +216,7 @@ fn index_of(words: &[u16], family: Family, cells: Cells, strips: Strips) -> Opti
         Family::Cubic => term_of(strips, a, b, cells.at(2)),
         Family::Shape => counted_of(a, word(words, PROFILE_COUNT_AT)),
         Family::Mark => mark_index(words, a, b),
-        Family::Lane | Family::Extent | Family::Height => lane_of(words, a, b),
+        Family::Extent | Family::Height => lane_of(words, a, b),
     }
 }
 
@@ -205,7 +235,7 @@ fn range_of(words: &[u16], at: Ranked, ranges: Lines) -> Counted
     }
 }
 
-// The parent of a line, by the table's family.
+// The parent of a line that its parent has a range of, by the table's family.
 #[tactic(auto, unfolding(crate::specs::Parents::parent_of, crate::specs::Parents::range_of))]
 pub(crate) fn parent_of(
     words: &[u16],
@@ -215,9 +245,6 @@ pub(crate) fn parent_of(
 ) -> Option<Counted>
     ensures { result ≡ parent_of words.now family cells strips }
 {
-    if family == Family::Lane {
-        return lane_turn(words, cells.at(0), cells.at(1));
-    }
     let at = index_of(words, family, cells, strips)?;
     Some(range_of(words, at, family.ranges()))
 }

@@ -17,8 +17,8 @@ use Rattle.std.proofs.lemmas.Option.{option_and_then_some}
 use Rattle.reader_lines.specs.Columns.{cell_of, no_cells}
 use Rattle.reader_lines.specs.declared.columns.Cells.{Cells}
 use Rattle.reader_store.specs.Layout.{word_lines, one_more, code_of, word_row, word_place, word_put, words_below, rule_of}
-use Rattle.reader_store.specs.Parents.{index_at, section_at, side_of, side_word, lane_beside, lane_under, lane_turn, parent_of}
-use Rattle.reader_store.specs.Keep.{added, under_words, under_progress, own_words, ruled_words, ruled_progress, kept_words, kept_progress}
+use Rattle.reader_store.specs.Parents.{index_at, section_at, side_of, side_word, lane_beside, lane_under, lane_turn}
+use Rattle.reader_store.specs.Keep.{added, under_words, under_progress, ruled_words, ruled_progress, kept_words, kept_progress}
 use Rattle.reader_store.specs.declared.parents.Ranked.{Ranked}
 use Rattle.reader_store.specs.declared.parents.Counted.{Counted}
 use Rattle.reader_store.specs.declared.parents.Side.{Side}
@@ -47,7 +47,7 @@ lane_words_lem k cells us = refl
 lane_line_lem : (k : ℕ) (cells : Cells) (progress : Progress) (us : List ℕ)
     → (kept_words 7 k cells progress us ≡ under_words (words_below 7 k cells 8 us) k (lane_turn (words_below 7 k cells 8 us) (cell_of cells 0) (cell_of cells 1)) progress)
     × (kept_progress 7 k cells progress us ≡ under_progress (lane_turn (words_below 7 k cells 8 us) (cell_of cells 0) (cell_of cells 1)) progress)
-unfolding kept_words ruled_words own_words kept_progress ruled_progress rule_of parent_of
+unfolding kept_words ruled_words kept_progress ruled_progress rule_of
 lane_line_lem k cells progress us = (refl, refl)
 
 -- the first line of a section without lanes, and of one that has some

@@ -1,15 +1,8 @@
-use mathlib.Core.Path.{refl, ◌∙◌}
-use Rattle.reader_store.proofs.Puts.{words_more}
-use Rattle.reader_store.specs.Layout.{words_below}
+use mathlib.Core.Path.{◌∙◌}
+use native.Mathlib.Omega.{arith}
+use Rattle.reader_store.specs.Layout.{code_of}
+use Rattle.reader_store.proofs.Puts.{words_are}
 use Rattle.reader_store.proofs.columns.put_words.Goals as goal
 
-pub loop-column-init : goal.loop-column-init
-unfolding words_below
-loop-column-init c = (refl, refl)
-
-pub loop-column-preserved : goal.loop-column-preserved
-loop-column-preserved c =
-    let a = c.args in let at = c.loop-column in (
-      c.put_cell.auto.list ∙ at.invariant.0,
-      words_more a.table a.k a.cells at.column c.line-line.ensures.0 c.loop-column-test.true a.words.now c.word_lines.ensures c.word_row-places.ensures c.code-value.ensures at.invariant.1 c.put_cell.ensures,
-    )
+pub returns : goal.returns
+returns c = c.put_cells.ensures code_of (λ x y h. h) ∙ rw (c.line-start.ensures.0, c.word_lines.ensures, c.word_row.ensures, words_are c.args.line.table c.args.line.k c.args.line.cells 8 (omega arith) c.args.words.now)
