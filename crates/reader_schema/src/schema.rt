@@ -364,10 +364,5 @@ pub fn place_of(list: usize, word: u64) -> Option<u8>
     ensures { result ≡ listed_place list word }
 {
     let List { from, len } = list_of(list);
-    for i in 0..len {
-        if word_of(from as usize + i as usize) == word {
-            return Some(i);
-        }
-    }
-    None
+    (0..len).find(|&i| word_of(from as usize + i as usize) == word)
 }
