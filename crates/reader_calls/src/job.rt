@@ -1,5 +1,6 @@
-// A whole job text: rows 1 to 5, in their order. The three slices are handed along one by one and not as one struct: each clause says what becomes of
-// one of them, and admission is lent two.
+// A whole job text: rows 1 to 5, in their order. The three slices are handed along one by one. Of a struct of them that is lent, each contract would have to
+// say besides that the slices in it are still the ones of before (without that the proof of `read` did not close); one that is handed on whole would be
+// made of three new loans at each call.
 ghost use Rattle.std.specs.Prelude.{◌≡◌, length};
 ghost use Rattle.refusals.specs.Answer.{answered};
 ghost use Rattle.reader_calls.specs.Reading.{zeros, zero_numbers, reading_by, reading_of, verdict_of, words_held, numbers_held, wants_held};

@@ -1,5 +1,5 @@
 // The tables of a text, in their order, taken into zeroed slices. A reference or an order that is wrong is remembered and the form goes on.
-// The three slices are handed along one by one and not as one struct: each is lent on by itself, and reader_store takes them so.
+// The three slices are handed along one by one; why, job.rt says.
 ghost use Rattle.std.specs.Prelude.{◌≡◌};
 ghost use Rattle.reader_schema.specs.Schema.{limit_of};
 ghost use Rattle.reader_schema.specs.Tables.{road_table, table_count};

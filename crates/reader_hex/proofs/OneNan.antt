@@ -1,10 +1,9 @@
--- The one NaN: what is read from a NaN's pattern, and the code's test for it.
+-- The one NaN: whatever is a NaN is it.
 use Prim.Native.Nat.{ℕ}
-use mathlib.Core.Path.{◌≡◌, refl, sym, subst}
-use mathlib.Core.Bool.{true, false, not}
+use mathlib.Core.Path.{◌≡◌, refl, sym}
+use mathlib.Core.Bool.{true, false}
 use native.Mathlib.Omega.{arith}
-use lib.Dec.{T}
-use lib.Ieee.{Float, nan, inf, fin, ne, is_nan}
+use lib.Ieee.{Float, nan, inf, fin, is_nan}
 
 apart : true ≡ false → ⊥
 apart e = let q : ◌≡◌ {A = ℕ} 0 1 = cc in omega arith
@@ -14,9 +13,3 @@ unfolding is_nan
 nan_is nan h = refl
 nan_is (inf s) h = absurd (apart (sym h))
 nan_is (fin s m e) h = absurd (apart (sym h))
-
-pub no_nan : (x : Float) → ne x x ≡ false → T (not (is_nan x))
-unfolding ne is_nan
-no_nan nan h = subst T h tt
-no_nan (inf s) h = tt
-no_nan (fin s m e) h = tt

@@ -16,7 +16,7 @@ fn values_at<const N: usize>(text: &[u8], at: usize) -> [u8; N]
     values
 }
 
-// The number that N digits stand for; none where a byte is no digit, or the text ends before.
+// The number that N digits stand for; none where a byte is no digit, 16 as `digit` has it, or the text ends before.
 fn digits_at<const N: usize>(text: &[u8], at: usize) -> Option<u64>
     requires { (0 < N) × (N ≤ 16) }
     ensures { result ≡ digits_at N text.now at }

@@ -1,6 +1,7 @@
 // A table's columns: which are still to be named, in which order the text has them, and a line's cells by column.
-// Eight places serve every table. Past the eighth a read gives the default, and a write changes nothing. There are three structs and no generic
-// one: a generic struct holds no array of its parameter.
+// Eight places serve every table. Past the eighth a read gives the default, and a write changes nothing. There are three structs and no `Slots<T>`: of
+// that each use still needs a name, its value at first and its read, so it came out no shorter, and in the definitions, where both hold numbers, an order
+// and a line's cells would be of one type.
 ghost use Rattle.std.specs.Prelude.{◌≡◌, set};
 ghost use Rattle.reader_lines.specs.Columns.{no_order, no_cells, all_due, is_due, ordered_column, cell_of};
 

@@ -20,8 +20,9 @@ struct Table {
     limit: u16,
 }
 
-// The tables by number, in their order: their names, and the most lines of each. What is sought for each cell, a list's place and a column's kind, is kept
-// apart below: a constant is made anew where it is read.
+// The tables by number, in their order: their names, and the most lines of each. A constant is made anew where it is read, so what is read for each cell, a
+// list's place and words and a column's kind, stands below in constants of its own, as short as may be: with that, and a line's cells written in place, a
+// job's reading took 82 µs and no longer 190 (docs/PERFORMANCE.md).
 const TABLES: [Table; TABLE_COUNT] = [
     // road
     Table {
@@ -203,7 +204,7 @@ const COLUMNS: [u64; COLUMN_WORDS] = [
     0x74, // t
 ];
 
-// Then the words of each keyword column. They are sought cell by cell, and a constant is made anew where it is read, so the short one is kept apart.
+// Then the words of each keyword column. They are sought cell by cell, so the short constant is kept apart from the long one; why, `TABLES` says.
 const KEYWORDS: [u64; KEYWORD_WORDS] = [
     // kind
     0x6c696e65, // line
@@ -258,7 +259,7 @@ const LISTS: [List; LIST_COUNT] = [
 ];
 
 // What each column of a table holds, a number where it has no column. The other tables hold numbers alone.
-// Each table has a constant of its own, again a short one.
+// Each table has a constant of its own, a short one, as `TABLES` says.
 const GEOM: [Kind; COLUMNS_MOST] = [
     Number, Number, Number, Number, Number, ShapeKind, Number, Number,
 ];
@@ -281,7 +282,7 @@ const CUBIC: [Kind; COLUMNS_MOST] = [Side, Bit, Term, Number, Number, Number, Nu
 
 const MARK: [Kind; COLUMNS_MOST] = [Whole, Whole, Number, Number, Whole, Number, Number, Number];
 
-// A table; past the last one none, of no lines. This and `list_of` are not one generic function: that would take the constant by reference.
+// A table; past the last one none, of no lines. This and `list_of` are not one generic function: it would be lent the whole constant, made for each call.
 fn table_of(table: usize) -> Table
     ensures { (result.name ≡ name_of table) × (result.limit ≡ limit_of table) }
 {
@@ -338,8 +339,7 @@ pub fn count_of(list: usize) -> u8
     list_of(list).len
 }
 
-// What a column of a table holds: past the last column, or the last table, an f64. A match, since one array of all tables' kinds would be made anew for
-// each cell.
+// What a column of a table holds: past the last column, or the last table, an f64. A match and no array of all tables' kinds, as `TABLES` says.
 pub fn kind_of(table: usize, column: usize) -> Kind
     ensures { kind_by result ≡ column_kind table column }
 {
@@ -364,10 +364,5 @@ pub fn place_of(list: usize, word: u64) -> Option<u8>
     ensures { result ≡ listed_place list word }
 {
     let List { from, len } = list_of(list);
-    for i in 0..len {
-        if word_of(from as usize + i as usize) == word {
-            return Some(i);
-        }
-    }
-    None
+    (0..len).find(|&i| word_of(from as usize + i as usize) == word)
 }

@@ -1,5 +1,6 @@
 // The tables of a job text by number, in their order, the most columns that one of them has, and what a column holds.
-// A table is its number, not a variant of an enum: it indexes the arrays of constants, and the reader counts through them in their order.
+// A table is its number, not a variant of an enum: the public functions take any number, and an enum would ask more of their callers; and the reader
+// counts through the tables in their order.
 ghost use Rattle.std.specs.Prelude.{◌≡◌};
 ghost use Rattle.reader_schema.specs.Schema.{kind_by};
 
@@ -39,7 +40,8 @@ pub const TABLE_COUNT: usize = 16;
 
 pub const COLUMNS_MOST: usize = 8;
 
-// The lists of words by number: lists 0 to 15 are the columns of that table, the words of keyword columns follow.
+// The lists of words by number: lists 0 to 15 are the columns of that table, the words of keyword columns follow. A list is a number for the same reasons:
+// a table's is its list, and `place_of` and `count_of` take any.
 pub const SHAPE_KINDS: usize = TABLE_COUNT;
 
 pub const EXTENT_KINDS: usize = SHAPE_KINDS + 1;
@@ -65,7 +67,8 @@ pub enum Kind {
 }
 
 impl Kind {
-    // The number of a kind: the list of its words, 0 for an f64 and 1 for a whole number, which have none.
+    // The number of a kind: the list of its words, 0 for an f64 and 1 for a whole number, which have none. Those two are also the lists of two tables' column
+    // names: no column holds such a name, so as a kind's number each has one meaning.
     pub fn number(self) -> usize
         ensures { result ≡ kind_by self }
     {

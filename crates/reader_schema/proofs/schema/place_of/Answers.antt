@@ -1,18 +1,18 @@
-use mathlib.Core.Path.{◌∙◌}
-use Rattle.reader_schema.proofs.Places.{seek-next, place_is, listed_found, listed-none}
+-- The first word of the list that is the one sought.
+use Rattle.std.proofs.Common.{◌≡◌, ◌+◌, arith, rules, tests}
+use Rattle.std.proofs.lemmas.Iterator.{first_from_Range, serves_from_Range}
+use Rattle.reader_schema.specs.Schema.{word_of}
+use Rattle.reader_schema.proofs.Places.{first_listed}
 use Rattle.reader_schema.proofs.schema.place_of.Goals as goal
 
-pub loop-i-init : goal.loop-i-init
-loop-i-init c = place_is c.args.list c.args.word c.list_of-from.ensures.0 c.list_of-from.ensures.1
-
-pub returns-then-word_of-word : goal.returns-then-word_of-word
-returns-then-word_of-word c =
-    listed_found c.args.list c.list_of-from.result.from c.args.word c.list_of-from.ensures.1 c.loop-i.i c.loop-i.invariant c.word_of.ensures c.loop-i-test.true c.if-word_of-word.true
-
-pub loop-i-preserved : goal.loop-i-preserved
-loop-i-preserved c =
-    c.loop-i.invariant ∙ seek-next c.list_of-from.result.from c.args.word c.list_of-from.result.len c.loop-i.i c.word_of.ensures c.loop-i-test.true c.if-word_of-word.false
+pub find-requires : goal.find-requires
+find-requires c = record { can = tt; finite = tt; callable = serves_from_Range (λ x q k. search (rules, tests)) (λ x low high. search rules) }
 
 pub returns : goal.returns
 returns c =
-    listed-none c.args.list c.list_of-from.result.from c.args.word c.list_of-from.ensures.1 c.loop-i.i c.loop-i.invariant c.loop-i.auto.i-end c.loop-i-test.false
+    let first = c.list_of-from.result.from in
+    let word = c.args.word in
+    first_listed c.args.list first word c.list_of-from.ensures.0 c.list_of-from.ensures.1 _
+    (first_from_Range _ _ _ _ (λ i. word_of (first + i) ≡ word) (λ i. word_of (first + i) ≡ word → ⊥) c.find.ensures.ran
+    (λ x q k. grind (arith, tests))
+    (λ x q k. (search rules, grind (arith, tests))))
