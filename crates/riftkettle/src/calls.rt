@@ -8,15 +8,21 @@ ghost use Rattle.line_calls.specs.PoseCall.{pose_call};
 ghost use Rattle.lanes_calls.specs.LaneCalls.{borders_call, borders_list, lane_named_call};
 ghost use Rattle.riftkettle.specs.Exports.{returned, left_by, id_returned};
 
+use crate::answers::{leave, number};
+use line_samples::Pose;
+
+fn pose_list(p: Pose) -> [f64; 3]
+    ensures { result ≡ pose_list p }
+{
+    [p.x, p.y, p.heading]
+}
+
 // Refuses 3, 4, 5.
 #[unsafe(no_mangle)]
 pub extern "C" fn riftkettle_admit(words: &[u16], numbers: &[f64]) -> u32
     ensures { result ≡ returned (admit_call words.now numbers.now) }
 {
-    match admission_calls::admit(words, numbers) {
-        Ok(_) => 0,
-        Err(r) => u32::from(r),
-    }
+    number(&admission_calls::admit(words, numbers))
 }
 
 // Refuses 3, 4, 5, 6.
@@ -31,13 +37,7 @@ pub extern "C" fn riftkettle_samples(
     ensures samples_after { samples.new ≡ samples_list words.now numbers.now samples.old }
     ensures made_after { made.new ≡ left_by (λ n. n) (samples_call words.now numbers.now (length samples.old)) made.old }
 {
-    match line_calls::samples(words, numbers, samples) {
-        Ok(n) => {
-            *made = n;
-            0
-        }
-        Err(r) => u32::from(r),
-    }
+    leave(line_calls::samples(words, numbers, samples), made)
 }
 
 // Refuses 3, 4, 5, 6, then 3 for a geometry that the road does not have, then 7.
@@ -53,13 +53,8 @@ pub extern "C" fn riftkettle_pose(
     ensures value { result ≡ returned (pose_call words.now numbers.now samples.now geometry s) }
     ensures pose_after { pose.new ≡ left_by pose_list (pose_call words.now numbers.now samples.now geometry s) pose.old }
 {
-    match line_calls::posed(words, numbers, samples, geometry, s) {
-        Ok(p) => {
-            *pose = [p.x, p.y, p.heading];
-            0
-        }
-        Err(r) => u32::from(r),
-    }
+    let found = line_calls::posed(words, numbers, samples, geometry, s);
+    leave(found.map(pose_list), pose)
 }
 
 // Refuses 3, 4, 5, 7, 11.
@@ -75,13 +70,7 @@ pub extern "C" fn riftkettle_borders(
     ensures list_after { list.new ≡ borders_list words.now numbers.now s list.old }
     ensures lanes_after { lanes.new ≡ left_by (λ n. n) (borders_call words.now numbers.now s (length list.old)) lanes.old }
 {
-    match lanes_calls::borders(words, numbers, s, list) {
-        Ok(n) => {
-            *lanes = n;
-            0
-        }
-        Err(r) => u32::from(r),
-    }
+    leave(lanes_calls::borders(words, numbers, s, list), lanes)
 }
 
 // Refuses 3, 4, 5, 7, 8. The id is 0 where no lane is named: no lane has it.
@@ -96,11 +85,6 @@ pub extern "C" fn riftkettle_lane_named(
     ensures value { result ≡ returned (lane_named_call words.now numbers.now s t) }
     ensures id_after { id.new ≡ left_by id_returned (lane_named_call words.now numbers.now s t) id.old }
 {
-    match lanes_calls::lane_named(words, numbers, s, t) {
-        Ok(named) => {
-            *id = named.unwrap_or(0);
-            0
-        }
-        Err(r) => u32::from(r),
-    }
+    let named = lanes_calls::lane_named(words, numbers, s, t);
+    leave(named.map(|lane| lane.unwrap_or(0)), id)
 }

@@ -7,6 +7,8 @@ ghost use Rattle.arithmetic.specs.Narrow.{narrowed};
 ghost use Rattle.arithmetic_counts.specs.Count.{counts_call};
 ghost use Rattle.riftkettle.specs.Exports.{returned, left_by};
 
+use crate::answers::leave;
+
 #[unsafe(no_mangle)]
 pub extern "C" fn riftkettle_root(x: f64) -> f64
     ensures { result ≡ root_of binary64 x }
@@ -64,11 +66,5 @@ pub extern "C" fn riftkettle_counts(v: f64, count: &mut i64) -> u32
     ensures value { result ≡ returned (counts_call v) }
     ensures count_after { count.new ≡ left_by (λ n. n) (counts_call v) count.old }
 {
-    match arithmetic_counts::counts(v) {
-        Ok(n) => {
-            *count = n;
-            0
-        }
-        Err(r) => u32::from(r),
-    }
+    leave(arithmetic_counts::counts(v), count)
 }

@@ -5,6 +5,34 @@ ghost use Rattle.surface_calls.specs.SurfaceCalls.{station_call, axes_call, surf
 ghost use Rattle.surface_calls.specs.LocateCall.{locate_call};
 ghost use Rattle.riftkettle.specs.Exports.{returned, left_by, station_list, axes_list, point_list, heading_of, pair_list, moves_of, bit_of, met_of};
 
+use crate::answers::leave;
+use records::RefPoint;
+use surface_locate::Position;
+use surface_points::SurfacePoint32;
+use surface_station::Axes;
+
+fn station_list(p: RefPoint) -> [f64; 8]
+    ensures { result ≡ station_list p }
+{
+    [p.s, p.x, p.y, p.heading, p.z, p.grade, p.bank, p.bank_rate]
+}
+
+fn axes_list(a: Axes) -> [f64; 9]
+    ensures { result ≡ axes_list a }
+{
+    let l = a.along;
+    let v = a.across;
+    let u = a.up;
+    [l.x, l.y, l.z, v.x, v.y, v.z, u.x, u.y, u.z]
+}
+
+fn point_list(p: SurfacePoint32) -> [f32; 3]
+    ensures { result ≡ point_list p }
+{
+    let q = p.point;
+    [q.x, q.y, q.z]
+}
+
 // Refuses 3, 4, 5, 6, 7.
 #[unsafe(no_mangle)]
 pub extern "C" fn riftkettle_station(
@@ -17,13 +45,8 @@ pub extern "C" fn riftkettle_station(
     ensures value { result ≡ returned (station_call words.now numbers.now samples.now s) }
     ensures station_after { station.new ≡ left_by station_list (station_call words.now numbers.now samples.now s) station.old }
 {
-    match surface_calls::station(words, numbers, samples, s) {
-        Ok(p) => {
-            *station = [p.s, p.x, p.y, p.heading, p.z, p.grade, p.bank, p.bank_rate];
-            0
-        }
-        Err(r) => u32::from(r),
-    }
+    let found = surface_calls::station(words, numbers, samples, s);
+    leave(found.map(station_list), station)
 }
 
 // Refuses 3, 4, 5, 6, 7.
@@ -38,16 +61,10 @@ pub extern "C" fn riftkettle_axes(
     ensures value { result ≡ returned (axes_call words.now numbers.now samples.now s) }
     ensures axes_after { axes.new ≡ left_by axes_list (axes_call words.now numbers.now samples.now s) axes.old }
 {
-    match surface_calls::axes(words, numbers, samples, s) {
-        Ok(a) => {
-            let l = a.along;
-            let v = a.across;
-            let u = a.up;
-            *axes = [l.x, l.y, l.z, v.x, v.y, v.z, u.x, u.y, u.z];
-            0
-        }
-        Err(r) => u32::from(r),
-    }
+    leave(
+        surface_calls::axes(words, numbers, samples, s).map(axes_list),
+        axes,
+    )
 }
 
 // Refuses 3, 4, 5, 6, 7, 8.
@@ -65,15 +82,9 @@ pub extern "C" fn riftkettle_surface(
     ensures point_after { point.new ≡ left_by point_list (surface_call words.now numbers.now samples.now s t) point.old }
     ensures heading_after { heading.new ≡ left_by heading_of (surface_call words.now numbers.now samples.now s t) heading.old }
 {
-    match surface_calls::surface(words, numbers, samples, s, t) {
-        Ok(p) => {
-            let q = p.point;
-            *point = [q.x, q.y, q.z];
-            *heading = p.heading;
-            0
-        }
-        Err(r) => u32::from(r),
-    }
+    let found = surface_calls::surface(words, numbers, samples, s, t);
+    leave(found.map(|p| p.heading), heading);
+    leave(found.map(point_list), point)
 }
 
 // Refuses 3, 4, 5, 6, 7, 8, 10.
@@ -92,15 +103,15 @@ pub extern "C" fn riftkettle_lane_surface(
     ensures point_after { point.new ≡ left_by point_list (lane_surface_call words.now numbers.now samples.now id s t) point.old }
     ensures heading_after { heading.new ≡ left_by heading_of (lane_surface_call words.now numbers.now samples.now id s t) heading.old }
 {
-    match surface_calls::lane_surface(words, numbers, samples, id, s, t) {
-        Ok(p) => {
-            let q = p.point;
-            *point = [q.x, q.y, q.z];
-            *heading = p.heading;
-            0
-        }
-        Err(r) => u32::from(r),
-    }
+    let found = surface_calls::lane_surface(words, numbers, samples, id, s, t);
+    leave(found.map(|p| p.heading), heading);
+    leave(found.map(point_list), point)
+}
+
+fn pair_list(p: Position) -> [f64; 2]
+    ensures { result ≡ pair_list p }
+{
+    [p.s, p.t]
 }
 
 // A mark as a number: 1 for met, 0 for astray.
@@ -128,14 +139,8 @@ pub extern "C" fn riftkettle_locate(
     ensures moves_after { moves.new ≡ left_by moves_of (locate_call words.now numbers.now samples.now x y guess) moves.old }
     ensures met_after { met.new ≡ left_by met_of (locate_call words.now numbers.now samples.now x y guess) met.old }
 {
-    match surface_calls::locate(words, numbers, samples, x, y, guess) {
-        Ok(p) => {
-            let mark = bit(p.converged);
-            *pair = [p.s, p.t];
-            *moves = p.moves;
-            *met = mark;
-            0
-        }
-        Err(r) => u32::from(r),
-    }
+    let found = surface_calls::locate(words, numbers, samples, x, y, guess);
+    leave(found.map(|p| bit(p.converged)), met);
+    leave(found.map(|p| p.moves), moves);
+    leave(found.map(pair_list), pair)
 }

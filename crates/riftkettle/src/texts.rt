@@ -4,6 +4,8 @@ ghost use Rattle.std.specs.Prelude.{◌≡◌, length};
 ghost use Rattle.reader_calls.specs.Reading.{reading_of, verdict_of, words_held, numbers_held, wants_held};
 ghost use Rattle.riftkettle.specs.Exports.{returned, left_by};
 
+use crate::answers::leave;
+
 // Refuses 1, 2, 3, 4, 5. A refusal leaves zeros in the three slices, and the count as it was.
 #[unsafe(no_mangle)]
 pub extern "C" fn riftkettle_read(
@@ -19,11 +21,5 @@ pub extern "C" fn riftkettle_read(
     ensures wants_after { wants.new ≡ wants_held (length wants.old) (reading_of text.now (length words.old) (length numbers.old) (length wants.old)) }
     ensures count_after { count.new ≡ left_by (λ n. n) (verdict_of (reading_of text.now (length words.old) (length numbers.old) (length wants.old))) count.old }
 {
-    match reader_calls::read(text, words, numbers, wants) {
-        Ok(n) => {
-            *count = n;
-            0
-        }
-        Err(r) => u32::from(r),
-    }
+    leave(reader_calls::read(text, words, numbers, wants), count)
 }

@@ -6,7 +6,24 @@ ghost use Rattle.tracks.specs.Projections.{projection_list};
 ghost use Rattle.tracks_calls.specs.TrackCalls.{tangents_call, tangents_list, track_pose_call, project_call};
 ghost use Rattle.riftkettle.specs.Exports.{returned, left_by};
 
+use crate::answers::{leave, number};
 use records::Point;
+use tracks::{Projection, TrackPose};
+
+fn pose_list(p: TrackPose) -> [f32; 6]
+    ensures { result ≡ track_pose_list p }
+{
+    let at = p.position;
+    let h = p.heading;
+    [at.x, at.y, at.z, h.x, h.y, h.z]
+}
+
+fn projection_list(p: Projection) -> [f32; 5]
+    ensures { result ≡ projection_list p }
+{
+    let at = p.point;
+    [p.s, at.x, at.y, at.z, p.offset]
+}
 
 // Refuses 13, 14.
 #[unsafe(no_mangle)]
@@ -14,10 +31,7 @@ pub extern "C" fn riftkettle_track_tangents(points: &[f32], list: &mut [f32]) ->
     ensures value { result ≡ returned (tangents_call points.now (length list.old)) }
     ensures list_after { list.new ≡ tangents_list points.now list.old }
 {
-    match tracks_calls::tangents(points, list) {
-        Ok(_) => 0,
-        Err(r) => u32::from(r),
-    }
+    number(&tracks_calls::tangents(points, list))
 }
 
 // Refuses 13, 14.
@@ -26,15 +40,7 @@ pub extern "C" fn riftkettle_track_pose(points: &[f32], s: f32, pose: &mut [f32;
     ensures value { result ≡ returned (track_pose_call points.now s) }
     ensures pose_after { pose.new ≡ left_by track_pose_list (track_pose_call points.now s) pose.old }
 {
-    match tracks_calls::pose_at(points, s) {
-        Ok(p) => {
-            let at = p.position;
-            let h = p.heading;
-            *pose = [at.x, at.y, at.z, h.x, h.y, h.z];
-            0
-        }
-        Err(r) => u32::from(r),
-    }
+    leave(tracks_calls::pose_at(points, s).map(pose_list), pose)
 }
 
 // Refuses 13, 14.
@@ -49,12 +55,6 @@ pub extern "C" fn riftkettle_track_project(
     ensures value { result ≡ returned (project_call points.now (place x y z)) }
     ensures projection_after { projection.new ≡ left_by projection_list (project_call points.now (place x y z)) projection.old }
 {
-    match tracks_calls::project(points, Point { x, y, z }) {
-        Ok(p) => {
-            let at = p.point;
-            *projection = [p.s, at.x, at.y, at.z, p.offset];
-            0
-        }
-        Err(r) => u32::from(r),
-    }
+    let found = tracks_calls::project(points, Point { x, y, z });
+    leave(found.map(projection_list), projection)
 }

@@ -3,17 +3,15 @@
 // The calls take the two lent slices and no road: whether one lies there is what is asked.
 ghost use Rattle.std.specs.Prelude.{◌≡◌, length};
 ghost use Rattle.admission.specs.Admission.{admit_call};
-ghost use Rattle.test_admission.specs.Case.{admission_word, call_of, call_word};
+ghost use Rattle.test_support.specs.Answers.{answer_number};
+ghost use Rattle.test_admission.specs.Case.{call_of, call_word};
 
-use test_support::count_word;
+use test_support::{count_word, number_of};
 
 fn admission_answer(words: &[u16], numbers: &[f64]) -> u64
-    ensures { result ≡ admission_word (admit_call words.now numbers.now) }
+    ensures { result ≡ answer_number (admit_call words.now numbers.now) }
 {
-    match admission_calls::admit(words, numbers) {
-        Ok(_) => 0,
-        Err(why) => u64::from(u32::from(why)),
-    }
+    u64::from(number_of(&admission_calls::admit(words, numbers)))
 }
 
 #[derive(Clone, Copy)]
@@ -23,7 +21,7 @@ pub(crate) enum Call {
 }
 
 impl Call {
-    // The call of a letter.
+    // The call of a letter, which is made an enum here and nowhere else.
     #[tactic(auto, unfolding(crate::specs::Case::call_of))]
     pub(crate) fn named(letter: u8) -> Option<Call>
         ensures { result ≡ call_of letter }

@@ -9,10 +9,16 @@ use std::io::Read;
 use test_support::{LINE_LENGTH, Line, line_of, put};
 
 // What is lent may be a little more than a road needs.
+const MOST_WORDS: usize = WORDS_NEEDED + 3;
+
+const MOST_NUMBERS: usize = NUMBERS_NEEDED + 3;
+
+const MOST_SAMPLES: usize = 8004;
+
 #[derive(Clone, Copy)]
 struct Road {
-    words: [u16; 1894],
-    numbers: [f64; 8452],
+    words: [u16; MOST_WORDS],
+    numbers: [f64; MOST_NUMBERS],
 }
 
 // How many words, numbers and numbers for samples are lent.
@@ -38,14 +44,14 @@ impl Lent {
     const ALL: Lent = Lent {
         words: WORDS_NEEDED,
         numbers: NUMBERS_NEEDED,
-        samples: 8004,
+        samples: MOST_SAMPLES,
     };
 }
 
 impl Road {
     const EMPTY: Road = Road {
-        words: [0; 1894],
-        numbers: [0.0; 8452],
+        words: [0; MOST_WORDS],
+        numbers: [0.0; MOST_NUMBERS],
     };
 }
 
@@ -71,12 +77,12 @@ impl Replay {
 
     // What a call answers, with as much of each slice lent as is asked for and there is.
     fn asked(&self, call: Call) -> u64 {
-        let mut samples = [0.0; 8004];
+        let mut samples = [0.0; MOST_SAMPLES];
         let lent = self.lent;
         call.answer(
-            &self.road.words[..lent.words.min(1894)],
-            &self.road.numbers[..lent.numbers.min(8452)],
-            &mut samples[..lent.samples.min(8004)],
+            &self.road.words[..lent.words.min(MOST_WORDS)],
+            &self.road.numbers[..lent.numbers.min(MOST_NUMBERS)],
+            &mut samples[..lent.samples.min(MOST_SAMPLES)],
         )
     }
 
@@ -135,7 +141,7 @@ impl Replay {
 }
 
 // Bytes after the last whole line are a line that breaks the form.
-// test_jobs has these lines too: one function for both would be public, and no contract can say what it reads and prints.
+// test_support/src/lines.rt says why the list is read and split here.
 pub(crate) fn run(rt: &(impl Input + Print + Alloc)) -> io::Result<()> {
     let mut list = Vec::new(rt.alloc());
     rt.reader().read_to_end(&mut list)?;

@@ -1,11 +1,22 @@
 // An answer of a call as a line of a list writes it.
 ghost use Rattle.std.specs.Prelude.{◌≡◌};
 ghost use Rattle.refusals.specs.Answer.{answered};
-ghost use Rattle.test_support.specs.Answers.{count_word};
+ghost use Rattle.test_support.specs.Answers.{answer_number, count_word};
 
 use refusals::Refusal;
 
-// A count as n + 2^63, a refusal as its number.
+// 0 for a value, a refusal as its number.
+pub fn number_of<T>(answer: &Result<T, Refusal>) -> u32
+    ensures { result ≡ answer_number (answered answer.now) }
+{
+    match answer {
+        Ok(_) => 0,
+        Err(why) => u32::from(*why),
+    }
+}
+
+// A count as n + 2^63, a refusal as its number. test_vectors has it of an i64 and test_tracks in 32 bits: the sums that keep these apart
+// from refusals are others, and only the match would be left to share.
 pub fn count_word(answer: Result<usize, Refusal>) -> u64
     ensures { result ≡ count_word (answered answer) }
 {

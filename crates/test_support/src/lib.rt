@@ -8,7 +8,7 @@ mod slots;
 mod sums;
 mod texts;
 
-pub use answers::count_word;
+pub use answers::{count_word, number_of};
 pub use lines::{LINE_LENGTH, Line, line_of};
 pub use slots::put;
 pub use sums::checksum;

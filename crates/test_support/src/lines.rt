@@ -1,4 +1,7 @@
 // A line of a list is 36 bytes: a letter, a space, 16 digits, a space, 16 digits, LF.
+//
+// Each program reads its list and splits it into lines by itself: one function for all would be public, and no contract can say what it
+// reads and prints.
 ghost use Rattle.std.specs.Prelude.{◌≡◌};
 ghost use Rattle.test_support.specs.Lines.{line_of};
 

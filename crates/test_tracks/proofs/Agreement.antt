@@ -7,8 +7,9 @@ use Rattle.records_lent.specs.Lists.{all_below}
 use Rattle.tracks.specs.declared.poses.TrackPose.{TrackPose}
 use Rattle.tracks.specs.declared.projections.Projection.{Projection}
 use Rattle.tracks_calls.specs.TrackCalls.{tangents_call, tangents_list, track_pose_call, project_call}
+use Rattle.test_support.specs.Answers.{answer_number}
 use Rattle.test_tracks.specs.Patterns.{pattern_of}
-use Rattle.test_tracks.specs.Case.{answer_number, count_number, pose_numbers, project_numbers, agrees_of, number_in, place_in, pose_agrees, project_agrees, tangents_agree}
+use Rattle.test_tracks.specs.Case.{count_number, pose_numbers, project_numbers, agrees_of, number_in, place_in, pose_agrees, project_agrees, tangents_agree}
 
 -- the i-th number of a list stands as the word after the first
 abbrev pub alike : List Float → List ℕ → ℕ → Bool

@@ -10,16 +10,13 @@ use Rattle.tracks.specs.declared.projections.Projection.{Projection}
 use Rattle.tracks.specs.Poses.{track_pose_list}
 use Rattle.tracks.specs.Projections.{projection_list}
 use Rattle.tracks_calls.specs.TrackCalls.{tangents_call, tangents_list, track_pose_call, project_call}
+use Rattle.test_support.specs.Answers.{answer_number}
 use Rattle.test_tracks.specs.Patterns.{pattern_of}
 use Rattle.test_tracks.specs.declared.calls.Verdict.{Verdict}
-use Rattle.test_tracks.specs.declared.calls.Verdict.TheVariants.{Tangents, Pose, Project}
+use Rattle.test_tracks.specs.declared.calls.Call.{Call}
+use Rattle.test_tracks.specs.declared.calls.Call.TheVariants.{Tangents, Pose, Project}
 
 -- ---- an answer as a number and a list
-
--- 0 for a value, else the refusal's
-abbrev pub answer_number : {A : Type 0} → Answer A → ℕ
-answer_number (value a) = 0
-answer_number (refused n) = n
 
 -- 2^31 and the points whose tangents are written
 abbrev pub count_number : Answer ℕ → ℕ
@@ -66,20 +63,34 @@ tangents_agree track list row = agrees_of (count_number (tangents_call track (le
 
 -- ---- what is found of a line
 
-module _ (letter : ℕ) (track : List Float) (list : List Float) (row : List ℕ) where
-  -- g, with a word for each number of the list
-  abbrev pub asks_tangents : Bool
-  asks_tangents = letter == 103 && length row == length list + 1
+-- the call of a letter: g tangents, p pose, j project
+unfoldable pub call_of : ℕ → Option Call
+call_of letter = cond (letter == 103) (Some Tangents) (cond (letter == 112) (Some Pose) (cond (letter == 106) (Some Project) None))
 
-  -- g: tangents. p: pose. j: project. None for any other letter, or another number of words.
-  unfoldable pub verdict_of : Option Verdict
-  unfolding tangents_agree pose_agrees project_agrees
-  verdict_of =
-      cond asks_tangents (Some (Tangents (tangents_agree track list row)))
-      (cond (letter == 112 && length row == 8) (Some (Pose (pose_agrees track row)))
-      (cond (letter == 106 && length row == 9) (Some (Project (project_agrees track row))) None))
+-- how many words its line has, where n numbers are lent: tangents have one for each of them
+abbrev pub words_wanted : Call → ℕ → ℕ
+words_wanted Tangents n = n + 1
+words_wanted Pose n = 8
+words_wanted Project n = 9
 
-  -- the lent list afterwards
-  unfoldable pub list_told : List Float
-  unfolding tangents_list
-  list_told = cond asks_tangents (tangents_list track list) list
+-- whether its answer is the row
+abbrev pub same_of : Call → List Float → List Float → List ℕ → Bool
+same_of Tangents track list row = tangents_agree track list row
+same_of Pose track list row = pose_agrees track row
+same_of Project track list row = project_agrees track row
+
+-- none for another letter, or another number of words
+unfoldable pub verdict_of : Option Call → List Float → List Float → List ℕ → Option Verdict
+verdict_of (Some call) track list row = cond (length row == words_wanted call (length list)) (Some (record { call = call; same = same_of call track list row })) None
+verdict_of None track list row = None
+
+-- the lent list after a call
+abbrev pub list_left : Call → List Float → List Float → List Float
+list_left Tangents track list = tangents_list track list
+list_left Pose track list = list
+list_left Project track list = list
+
+-- the lent list after a line
+unfoldable pub list_told : Option Call → List Float → List Float → List ℕ → List Float
+list_told (Some call) track list row = cond (length row == words_wanted call (length list)) (list_left call track list) list
+list_told None track list row = list

@@ -1,7 +1,7 @@
 // What a call answers, as a number and a list of f32: a refusal is its number and zeros.
 ghost use Rattle.std.specs.Prelude.{◌≡◌, ◌+◌, length};
 ghost use Rattle.refusals.specs.Answer.{answered};
-ghost use Rattle.test_tracks.specs.Case.{agrees_of, answer_number, count_number, pose_numbers, project_numbers};
+ghost use Rattle.test_tracks.specs.Case.{agrees_of, count_number, pose_numbers, project_numbers};
 
 use crate::patterns::pattern;
 use refusals::Refusal;
@@ -54,16 +54,6 @@ pub(crate) fn tangents_number(answer: Result<usize, Refusal>) -> u32
 {
     match answer {
         Ok(n) => (n % 0x8000_0000) as u32 + 0x8000_0000,
-        Err(why) => u32::from(why),
-    }
-}
-
-// 0 for a value.
-pub(crate) fn number_of<T: Copy>(answer: Result<T, Refusal>) -> u32
-    ensures { result ≡ answer_number (answered answer) }
-{
-    match answer {
-        Ok(_) => 0,
         Err(why) => u32::from(why),
     }
 }

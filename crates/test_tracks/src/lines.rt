@@ -1,7 +1,7 @@
 // Lines of the list, in turn: t sets the track, l the list that is lent for tangents, any other asks.
 //
 // tools/lists/src/bin/tracks/main.rs says what each letter means.
-use crate::calls::judge;
+use crate::calls::Asked;
 use crate::tally::Tally;
 use crate::words::{numbers, words};
 use program_input::read_full;
@@ -32,7 +32,14 @@ fn step(
     match byte_at(line, 0) {
         b't' => held.track = numbers(alloc, &row)?,
         b'l' => held.list = numbers(alloc, &row)?,
-        letter => tally.count(judge(rt, line, letter, &held.track, &mut held.list, &row)),
+        letter => {
+            let asked = Asked {
+                line,
+                row: &row,
+                track: &held.track,
+            };
+            tally.count(asked.judged(rt, letter, &mut held.list));
+        }
     }
     Ok(())
 }

@@ -1,5 +1,5 @@
 // How many lines made each call.
-use crate::calls::Verdict;
+use crate::calls::{Call, Verdict};
 
 // Those that agree with the answer given here, and those that differ.
 #[derive(Clone, Copy, Default)]
@@ -29,11 +29,14 @@ pub(crate) struct Tally {
 impl Tally {
     // A line that no call was found for is broken.
     pub(crate) fn count(&mut self, verdict: Option<Verdict>) {
-        match verdict {
-            Some(Verdict::Tangents(same)) => self.tangents.count(same),
-            Some(Verdict::Pose(same)) => self.pose.count(same),
-            Some(Verdict::Project(same)) => self.project.count(same),
-            None => self.broken = self.broken.wrapping_add(1),
+        let Some(Verdict { call, same }) = verdict else {
+            self.broken = self.broken.wrapping_add(1);
+            return;
+        };
+        match call {
+            Call::Tangents => self.tangents.count(same),
+            Call::Pose => self.pose.count(same),
+            Call::Project => self.project.count(same),
         }
     }
 }

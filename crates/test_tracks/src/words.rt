@@ -4,9 +4,9 @@ ghost use Rattle.std.specs.Option.{option_map};
 ghost use Rattle.std.specs.Vec.{vec_items};
 ghost use Rattle.test_tracks.specs.Words.{word_in, words_in, numbers_in};
 
-use crate::patterns::number;
 use reader_hex::eight_at;
 use std::alloc::{AllocError, Global};
+use std::num::f32_from_bits_with_nan;
 
 // How many words a line has at most.
 const MOST_WORDS: usize = 1600;
@@ -47,5 +47,7 @@ pub(crate) fn words(alloc: Global, line: &[u8]) -> Result<Option<Vec<u32>>, Allo
 pub(crate) fn numbers(alloc: Global, row: &[u32]) -> Result<Vec<f32>, AllocError>
     ensures { IfOk result (λ v. v.items ≡ numbers_in row.now) }
 {
-    row.iter().map(|bits| number(*bits)).collect(alloc)
+    row.iter()
+        .map(|bits| f32_from_bits_with_nan(*bits))
+        .collect(alloc)
 }

@@ -36,7 +36,7 @@ impl Function {
         Function::Counts,
     ];
 
-    // The function of a letter.
+    // The function of a letter, which is made an enum here and nowhere else.
     #[tactic(auto, unfolding(crate::specs::Vector::function_of))]
     pub(crate) fn named(letter: u8) -> Option<Function>
         ensures { result ≡ function_of letter }

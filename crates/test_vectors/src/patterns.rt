@@ -1,4 +1,4 @@
-// Numbers as bit patterns, NaNs included, which `to_bits` leaves out.
+// Answers as words.
 ghost use Rattle.std.specs.Prelude.{◌≡◌, to_bits};
 ghost use Rattle.std.specs.Float.{binary32};
 ghost use Rattle.test_vectors.specs.Raise.{raised_of};
@@ -6,15 +6,13 @@ ghost use Rattle.refusals.specs.Answer.{answered};
 ghost use Rattle.test_vectors.specs.Vector.{counts_word};
 
 use refusals::Refusal;
+use std::num::f32_to_bits_with_nan;
 
 // The pattern of an f32, 7fc00000 for a NaN.
 pub(crate) fn bits_of_single(x: f32) -> u64
     ensures { result ≡ to_bits binary32 x }
 {
-    if x.is_nan() {
-        return 0x7fc0_0000;
-    }
-    u64::from(x.to_bits())
+    u64::from(f32_to_bits_with_nan(x))
 }
 
 // n + 2^63.
@@ -24,7 +22,7 @@ fn raised(n: i64) -> u64
     n.cast_unsigned().wrapping_add(0x8000_0000_0000_0000)
 }
 
-// A whole number n as n + 2^63, a refusal as its number.
+// A whole number n as n + 2^63, a refusal as its number: `count_word` of test_support, of an i64.
 pub(crate) fn bits_of_counts(c: Result<i64, Refusal>) -> u64
     ensures { result ≡ counts_word (answered c) }
 {

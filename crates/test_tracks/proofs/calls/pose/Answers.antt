@@ -1,8 +1,0 @@
--- What each step ensures, put together.
-use Rattle.test_tracks.proofs.Agreement.{pose_by_lem}
-use Rattle.test_tracks.proofs.calls.pose.Goals as goal
-
-pub returns : goal.returns
-returns g c =
-    let a = c.args in
-    pose_by_lem a.track.now a.row.now c.number.ensures c.pose_at-pose.ensures c.number_of.ensures c.pose_numbers.ensures c.held_against.ensures
