@@ -1,6 +1,5 @@
 -- What `admit` answered, in the words of `admit_call`.
-use Rattle.std.proofs.Common.{ap, ◌∙◌}
-use Rattle.test_support.specs.Answers.{answer_number}
+use Rattle.std.proofs.Common.{◌∙◌}
 use Rattle.test_admission.proofs.AdmissionLaws.{admitted_number}
 use Rattle.test_admission.proofs.calls.admission_answer.Goals as goal
 
