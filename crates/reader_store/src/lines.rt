@@ -111,6 +111,7 @@ fn keep_ruled(words: &mut [u16], line: TableLine, progress: Progress) -> Progres
 }
 
 // Keeps a line. One that is out of its order or has no parent is remembered in the progress; its cells are kept all the same.
+// The slices are three as the C call lends them, each of its own type, and each is written by itself.
 #[tactic(auto, unfolding(crate::specs::Keep::kept_progress, crate::specs::Keep::kept_words))]
 pub fn keep_line(
     words: &mut [u16],
