@@ -95,7 +95,7 @@ lane_index ws section id = option_and_then (lane_within ws id) (section_at ws se
 abbrev pub mark_lane_in : List ℕ → ℕ → Ranked → Option Ranked
 mark_lane_in ws id s = lane_among 0 (get_or ws (section_word s.index + 1) 0) (get_or ws (section_word s.index + 2) 0) id
 
--- The same, by the section that the line names. Where it is not there section 0 stands in for it: a mark has its words all the same, and means nothing.
+-- The same, by the section that the line names. Where it is not there section 0 stands in for it: a mark's words are kept all the same, and its lane's means nothing.
 unfoldable pub mark_lane : List ℕ → ℕ → ℕ → Option Ranked
 mark_lane ws section id = mark_lane_in ws id (unwrap_or (section_at ws section) (index_at 0))
 
