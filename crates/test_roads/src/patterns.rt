@@ -1,4 +1,5 @@
 // Numbers as they are written: two that compare as equal are written alike (document 01: zeros of either sign, any two NaNs).
+// test_tracks/src/patterns.rt has this of f32, and says why it is apart.
 ghost use Rattle.std.specs.Prelude.{◌≡◌};
 ghost use Rattle.test_roads.specs.Case.{pattern_of};
 
