@@ -81,7 +81,7 @@ impl Replay {
 }
 
 // Bytes after the last whole line are a line that breaks the form.
-// test_admission has these lines too: one function for both would be public, and no contract can say what it reads and prints.
+// test_support/src/lines.rt says why the list is read and split here.
 pub(crate) fn run(rt: &(impl Input + Print + Alloc)) -> io::Result<()> {
     let mut list = Vec::new(rt.alloc());
     rt.reader().read_to_end(&mut list)?;
