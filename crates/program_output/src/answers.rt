@@ -1,6 +1,6 @@
 // A job text answered: read, its road's samples made, and a line for each want.
 //
-// Functions take the two lent slices and no road, as the calls do: which road they hold, if any, is what admission says.
+// Functions take the two lent slices and no road: the calls that they make take the slices.
 ghost use Rattle.std.specs.Prelude.{◌+◌, ◌*◌, ◌≤◌, ◌≡◌, ◌++◌, true, length};
 ghost use Rattle.refusals.specs.Refusal.{number_of};
 ghost use Rattle.records.specs.Layout.{want_stride, wants_needed};
