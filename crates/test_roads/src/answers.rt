@@ -1,4 +1,5 @@
-// What the crates answer, number by number. A part is the place of a number in an answer, so it stays a number.
+// What the crates answer, number by number: a line may ask for any count of the lent slice's numbers, so that an answer has no greatest
+// length, and no array holds each. A part is the place of a number in an answer; what makes it is called anew for each part.
 //
 // Calls take the two lent slices and no road: whether one lies there is what they test.
 ghost use Rattle.std.specs.Prelude.{◌≡◌, length};
@@ -72,7 +73,7 @@ pub(crate) enum Question {
 }
 
 impl Question {
-    // The question of a letter.
+    // The question of a letter, which is made an enum here and nowhere else.
     #[tactic(auto, unfolding(crate::specs::Case::question_of))]
     pub(crate) fn named(letter: u8) -> Option<Question>
         ensures { result ≡ question_of letter }
@@ -130,7 +131,7 @@ pub(crate) enum Fill {
 }
 
 impl Fill {
-    // What is written for a letter.
+    // What is written for a letter, which is made an enum here and nowhere else.
     #[tactic(auto, unfolding(crate::specs::Case::fill_of))]
     pub(crate) fn named(letter: u8) -> Option<Fill>
         ensures { result ≡ fill_of letter }

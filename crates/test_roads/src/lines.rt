@@ -107,7 +107,7 @@ impl Replay {
     }
 }
 
-// Every whole line of the list.
+// Every whole line of the list. test_support/src/lines.rt says why the list is read and split here.
 pub(crate) fn run(rt: &(impl Input + Print + Alloc)) -> io::Result<()> {
     let mut list = Vec::new(rt.alloc());
     rt.reader().read_to_end(&mut list)?;
