@@ -25,6 +25,7 @@ use Rattle.float_laws.proofs.Whole.{unit}
 use Rattle.records_cubic.specs.declared.cubics.Cubic.{Cubic}
 use Rattle.std.specs.declared.option.Option.{Option}
 use Rattle.std.specs.declared.option.Option.TheVariants.{Some, None}
+use Rattle.std.proofs.lemmas.Float.{T_from_true}
 use Rattle.records_cubic.specs.Cubics.{cubic_at, eval_by, slope_by}
 use Rattle.records.specs.Active.{active_margin, active_in, value_in, slope_in, active_up_to}
 use Rattle.records.proofs.CubicLaws.{value-at, value_none, slope_at_lem, slope-none}
@@ -32,7 +33,7 @@ use Rattle.arithmetic_ranges.specs.Ranges.{at_least_zero}
 use Rattle.admission_bounds.specs.Bounds.{end_at, reach_margin, reach_at, bound_of, bound_at, slope_bound_of, cubic_within, cubics_within, slopes_within}
 use Rattle.admission_laws.proofs.Fitting.{Fits64, CubicFits, CubicsFit}
 use Rattle.admission_laws.proofs.ActiveRecord.{Active, active-at}
-use Rattle.records_lent.proofs.TestLaws.{all-at, and-fst, and-snd, true-T}
+use Rattle.records_lent.proofs.TestLaws.{all-at, and-fst, and-snd}
 
 -- ---- the constants: 20,000, and the margins of the active record and of D, 1e-9 and 0.001
 
@@ -334,7 +335,7 @@ pub record Ready (cs : List Cubic) (lo hi end limit s : Float) : Type 0 where
 slope-passes : (cs : List Cubic) (end m : Float) → slopes_within cs end m ≡ true → (i : ℕ) → i < length cs → T (le (slope_bound_of (cubic_at cs i) (reach_at cs end i)) m)
 unfolding slopes_within
 slope-passes cs end m p i h =
-    true-T (le (slope_bound_of (cubic_at cs i) (reach_at cs end i)) m) (all-at (λ k. le (slope_bound_of (cubic_at cs k) (reach_at cs end k)) m) (length cs) p i h)
+    T_from_true (le (slope_bound_of (cubic_at cs i) (reach_at cs end i)) m) (all-at (λ k. le (slope_bound_of (cubic_at cs k) (reach_at cs end k)) m) (length cs) p i h)
 
 module _ (cs : List Cubic) (lo hi end limit s : Float) (r : Ready cs lo hi end limit s) where
   passes : (i : ℕ) → i < length cs → cubic_within cs lo hi end limit i ≡ true
@@ -346,12 +347,12 @@ module _ (cs : List Cubic) (lo hi end limit s : Float) (r : Ready cs lo hi end l
   start-real i h =
       let x = (cubic_at cs i).start in
       let p = and-fst (le lo x && le x hi) (le (bound_at cs end i) limit) (passes i h) in
-      record { finite = finite-between lo x hi r.least.finite r.most.finite (true-T (le lo x) (and-fst (le lo x) (le x hi) p)) (true-T (le x hi) (and-snd (le lo x) (le x hi) p)); fits = (r.fitting i).start }
+      record { finite = finite-between lo x hi r.least.finite r.most.finite (T_from_true (le lo x) (and-fst (le lo x) (le x hi) p)) (T_from_true (le x hi) (and-snd (le lo x) (le x hi) p)); fits = (r.fitting i).start }
 
   -- "B at most": the bound of the i-th cubic
   pub bound-passes : (i : ℕ) → i < length cs → T (le (bound_at cs end i) limit)
   unfolding cubic_within
-  bound-passes i h = true-T (le (bound_at cs end i) limit) (and-snd (le lo (cubic_at cs i).start && le (cubic_at cs i).start hi) (le (bound_at cs end i) limit) (passes i h))
+  bound-passes i h = T_from_true (le (bound_at cs end i) limit) (and-snd (le lo (cubic_at cs i).start && le (cubic_at cs i).start hi) (le (bound_at cs end i) limit) (passes i h))
 
   ends-after : (i : ℕ) → Active (λ k. (cubic_at cs k).start) (active_up_to s) (length cs) i → Real binary64 (end_at cs end i) × T (le s (end_at cs end i))
   ends-after i a = go (ltb (i + 1) (length cs)) (ltb→lt (i + 1) (length cs))

@@ -23,6 +23,7 @@ use Rattle.records.specs.declared.points.GeomRec.{GeomRec}
 use Rattle.records.specs.declared.points.GeomShape.TheVariants.{Arc}
 use Rattle.std.specs.declared.option.Option.{Option}
 use Rattle.std.specs.declared.option.Option.TheVariants.{Some, None}
+use Rattle.std.proofs.lemmas.Float.{T_from_true}
 use Rattle.records.specs.Active.{last_start, or_first}
 use Rattle.records.specs.Roads.{Road, straight_curvature, geom_at, geom_index}
 use Rattle.line_samples.specs.declared.points.Pose.{Pose}
@@ -31,7 +32,7 @@ use Rattle.arithmetic_ranges.specs.Ranges.{in_range, sized}
 use Rattle.admission.specs.Limits.{greatest_length, greatest_place, greatest_heading, least_arc_curvature, greatest_arc_curvature, shape_limited, limited}
 use Rattle.admission_laws.proofs.Fitting.{RoadFits}
 use Rattle.admission_laws.proofs.ActiveRecord.{found_at}
-use Rattle.records_lent.proofs.TestLaws.{and-fst, true-T}
+use Rattle.records_lent.proofs.TestLaws.{and-fst}
 use Rattle.admission_laws.proofs.LimitParts.{arc-parts}
 use Rattle.admission_laws.proofs.RoadBounds.{OnRoad, station-within, geom-start-in}
 
@@ -160,9 +161,9 @@ pub arc-curved : (k : Float) → Real binary64 k → shape_limited (Arc k) ≡ t
 arc-curved k r e h =
     let q = size-real k r in
     ⊎_elim
-    (λ (p : sized straight_curvature k ≡ true). absurd (clash _ _ _ _ (le→units binary64 (abs_of k) straight_curvature q straight-real (true-T (le (abs_of k) straight_curvature) p)) (lt→units binary64 straight_curvature (abs_of k) straight-real q h)))
+    (λ (p : sized straight_curvature k ≡ true). absurd (clash _ _ _ _ (le→units binary64 (abs_of k) straight_curvature q straight-real (T_from_true (le (abs_of k) straight_curvature) p)) (lt→units binary64 straight_curvature (abs_of k) straight-real q h)))
     (λ (p : in_range least_arc_curvature greatest_arc_curvature (abs_of k) ≡ true).
-    let a = le→parts binary64 least_arc_curvature (abs_of k) least-real q (true-T (le least_arc_curvature (abs_of k)) (and-fst (le least_arc_curvature (abs_of k)) (le (abs_of k) greatest_arc_curvature) p)) in
+    let a = le→parts binary64 least_arc_curvature (abs_of k) least-real q (T_from_true (le least_arc_curvature (abs_of k)) (and-fst (le least_arc_curvature (abs_of k)) (le (abs_of k) greatest_arc_curvature) p)) in
     le_trans a.0 (le_trans (pl-le binary64 (abs_of k)) (le_of_eq (size-mag k r))))
     (arc-parts k e)
 

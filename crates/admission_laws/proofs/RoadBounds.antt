@@ -10,6 +10,7 @@ use lib.Dec.{T, ltb, ltb→lt, lit<}
 use lib.Ieee.{Float, binary64, of_bits, fits, le, neg, add}
 use lib.Ieee.Fits.{sub-fits}
 use lib.Ieee.Scale.{finite}
+use Rattle.std.proofs.lemmas.Float.{T_from_true}
 use Rattle.float_laws.specs.Binary64.{◌⊕◌, ◌⊖◌, ◌⊗◌, zero64, abs_of}
 use Rattle.float_laws.proofs.Value.{Real, le_trans', nle→le, neg-real}
 use Rattle.float_laws.proofs.Interval.{In, in-of_le}
@@ -25,7 +26,7 @@ use Rattle.admission.specs.Limits.{least_length, greatest_length, greatest_shape
 use Rattle.admission_arguments.specs.Arguments.{half_width}
 use Rattle.admission_laws.proofs.Fitting.{Fits64, CubicsFit, RoadFits}
 use Rattle.admission_laws.proofs.ActiveRecord.{Active}
-use Rattle.records_lent.proofs.TestLaws.{and-fst, and-snd, true-T}
+use Rattle.records_lent.proofs.TestLaws.{and-fst, and-snd}
 use Rattle.admission_laws.proofs.LimitParts.{Limited, limited-parts, GeomLimited, geom-parts, arc-parts, spiral-parts, section_start-on, lane_count, lane-parts, lane_limit, extents-pass, HeightLimited, height-parts, profile-parts, StripLimited, strip-parts}
 use Rattle.admission_laws.proofs.CubicBounds.{far, up_to-real, up_to-grows, gap-covers, Ready, value-within, slope_within_lem, constant-within}
 use Rattle.admission_laws.proofs.GreatestBounds.{greatest-within, horner-within}
@@ -33,12 +34,12 @@ use Rattle.admission_laws.proofs.GreatestBounds.{greatest-within, horner-within}
 -- ---- a range and a size as the tests have them
 
 range-in : (lo hi x : Float) → Real binary64 lo → Real binary64 hi → Fits64 x → in_range lo hi x ≡ true → In binary64 lo hi x
-range-in lo hi x l h f e = in-of_le binary64 lo hi x l h f (true-T (le lo x) (and-fst (le lo x) (le x hi) e)) (true-T (le x hi) (and-snd (le lo x) (le x hi) e))
+range-in lo hi x l h f e = in-of_le binary64 lo hi x l h f (T_from_true (le lo x) (and-fst (le lo x) (le x hi) e)) (T_from_true (le x hi) (and-snd (le lo x) (le x hi) e))
 
 pub sized-within : (m x : Float) → Real binary64 m → Fits64 x → sized m x ≡ true → Within binary64 x m
 unfolding size of_bits
 sized-within m x r f e =
-    let t = true-T (le (abs_of x) m) e in
+    let t = T_from_true (le (abs_of x) m) e in
     within-mono binary64 x (abs_of x) m (size-within binary64 x f (fin-of_le (abs_of x) m (size-nn binary64 x f) r.finite t)) r t
 
 -- ---- the constants, each bounding itself and zero
@@ -431,7 +432,7 @@ module _ (road : Road) (fit : RoadFits road) (ok : limited road ≡ true) where
     strip_height-within u w =
         horner-within (value_in (column_of (strip_at road i) 1) s) (value_in (column_of (strip_at road i) 2) s) (value_in (column_of (strip_at road i) 3) s) (value_in (column_of (strip_at road i) 4) s)
         (term_bound road (strip_at road i) 0) (term_bound road (strip_at road i) 1) (term_bound road (strip_at road i) 2) (term_bound road (strip_at road i) 3) u greatest_strip_height
-        (term-within 0 (lit< tt)) (term-within 1 (lit< tt)) (term-within 2 (lit< tt)) (term-within 3 (lit< tt)) w to-strip_height.bound (true-T (le (terms_bound road (strip_at road i)) greatest_strip_height) strip-limits.height)
+        (term-within 0 (lit< tt)) (term-within 1 (lit< tt)) (term-within 2 (lit< tt)) (term-within 3 (lit< tt)) w to-strip_height.bound (T_from_true (le (terms_bound road (strip_at road i)) greatest_strip_height) strip-limits.height)
 
 -- ---- the curvatures of a shape that passes
 

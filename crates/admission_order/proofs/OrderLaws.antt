@@ -8,6 +8,7 @@ use lib.ListN.{length, get_or, get_or-eq_default}
 use lib.Dec.{T, eqb, ltb}
 use lib.Ieee.{Float, le, lt, eq}
 use borrow.Author.Tests.{eq-eqb, ltb-true, ltb-false}
+use Rattle.std.proofs.lemmas.Float.{T_from_true}
 use Rattle.float_laws.specs.Binary64.{◌⊖◌, zero64}
 use Rattle.records_cubic.specs.declared.cubics.Cubic.{Cubic}
 use Rattle.records.specs.declared.points.HeightDef.{HeightDef}
@@ -15,7 +16,7 @@ use Rattle.records_lent.specs.Lists.{all_below}
 use Rattle.records_cubic.specs.Cubics.{cubic_at}
 use Rattle.records.specs.Roads.{Road, Section, Lane, Strip, geom_at, no_section, section_of, no_lane, lane_of, no_profile, profile_at, strip_at, column_of, height_def_at, mark_at}
 use Rattle.admission_order.specs.Order.{least_gap, never_fall, rise_strictly, apart, cubics_in_order, lane_in_order, section_in_order, profiles_in_order, strip_in_order, starts_in_order, marks_in_order, ordered}
-use Rattle.records_lent.proofs.TestLaws.{true-T, chain-at, all-at}
+use Rattle.records_lent.proofs.TestLaws.{chain-at, all-at}
 
 -- ---- the neighbours of a list in order
 
@@ -25,15 +26,15 @@ below i n l = omega arith
 module _ (start : ℕ → Float) (n : ℕ) where
   pub never_fall-at : never_fall start n ≡ true → (i : ℕ) → i + 1 < n → T (le (start i) (start (i + 1)))
   unfolding never_fall
-  never_fall-at e i l = true-T _ (all-at (λ k. le (start k) (start (k + 1))) (n - 1) e i (below i n l))
+  never_fall-at e i l = T_from_true _ (all-at (λ k. le (start k) (start (k + 1))) (n - 1) e i (below i n l))
 
   pub rise_strictly-at : rise_strictly start n ≡ true → (i : ℕ) → i + 1 < n → T (lt (start i) (start (i + 1)))
   unfolding rise_strictly
-  rise_strictly-at e i l = true-T _ (all-at (λ k. lt (start k) (start (k + 1))) (n - 1) e i (below i n l))
+  rise_strictly-at e i l = T_from_true _ (all-at (λ k. lt (start k) (start (k + 1))) (n - 1) e i (below i n l))
 
   pub apart-at : apart start n ≡ true → (i : ℕ) → i + 1 < n → T (le least_gap (start (i + 1) ⊖ start i))
   unfolding apart
-  apart-at e i l = true-T _ (all-at (λ k. le least_gap (start (k + 1) ⊖ start k)) (n - 1) e i (below i n l))
+  apart-at e i l = T_from_true _ (all-at (λ k. le least_gap (start (k + 1) ⊖ start k)) (n - 1) e i (below i n l))
 
 -- ---- what a road in order has
 
@@ -140,7 +141,7 @@ marks-ordered road e i h j l m s = go (ltb i (length road.sections)) refl
     go true k =
         let x = all-at (marks_in_order road) (length road.sections) e i (ltb-true i (length road.sections) k) in
         let y = all-at (λ j. all_below (λ h. starts_in_order (mark_at road i h) (mark_at road i j)) j) (length (section_of road i).marks) x j m in
-        true-T _ (same-lane (mark_at road i h).lane (mark_at road i j).lane (le (mark_at road i h).start (mark_at road i j).start) (all-at (λ h. starts_in_order (mark_at road i h) (mark_at road i j)) j y h l) s)
+        T_from_true _ (same-lane (mark_at road i h).lane (mark_at road i j).lane (le (mark_at road i h).start (mark_at road i j).start) (all-at (λ h. starts_in_order (mark_at road i h) (mark_at road i j)) j y h l) s)
     go false k =
         let n : length (section_of road i).marks ≡ 0 = ap (λ (x : Section). length x.marks) (get_or-eq_default road.sections no_section {n = i} (ltb-false i (length road.sections) k)) in
         absurd (omega arith)
@@ -161,8 +162,8 @@ ordered-is road e =
     in
     let p = chain-at far (shapes ∷ []) (t 9) in
     record {
-      geom_zero = true-T _ (t 0);
-      section_zero = true-T _ (t 1);
+      geom_zero = T_from_true _ (t 0);
+      section_zero = T_from_true _ (t 1);
       geoms = never_fall-at geom (length road.geoms) (t 2);
       sections = rise_strictly-at section (length road.sections) (t 3);
       elevations = cubics-rise road.elevations (t 4);

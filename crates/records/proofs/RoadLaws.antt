@@ -34,6 +34,10 @@ module _ (words : List ℕ) (numbers : List Float) where
   unfolding road_of
   geom_count_lem = length-table _ _
 
+  -- a count that a function has been told
+  pub geom_count_read : {road' : Road} {n : ℕ} → n ≡ length road'.geoms → road ≡ road' → n ≡ get_or words 0 0
+  geom_count_read e f = e ∙ ap (λ (x : Road). length x.geoms) (sym f) ∙ geom_count_lem
+
   pub geom_in_lem : (i : ℕ) → i < get_or words 0 0 → geom_at road i ≡ geom_in words numbers i
   unfolding road_of
   geom_in_lem i h = table_at _ _ i no_geom h
@@ -55,10 +59,13 @@ module _ (words : List ℕ) (numbers : List Float) where
   unfolding road_of
   section_count_lem = length-table _ _
 
+  pub section_count_read : {road' : Road} {n : ℕ} → n ≡ length road'.sections → road ≡ road' → n ≡ get_or words 5 0
+  section_count_read e f = e ∙ ap (λ (x : Road). length x.sections) (sym f) ∙ section_count_lem
+
   -- the starts stand one after another
-  pub section-starts : (i : ℕ) {n : ℕ} {xs : List Float} → n ≡ length road.sections → xs ≡ span numbers 1729 n → get_or xs i nan ≡ (section_of road i).start
+  pub section-starts : (i : ℕ) {n : ℕ} → n ≡ get_or words 5 0 → get_or (span numbers 1729 n) i nan ≡ (section_of road i).start
   unfolding road_of section_in
-  section-starts i e f = rw (f, e, section_count_lem) (span-table (section_in words numbers) (λ (x : Section). x.start) no_section numbers 1729 (get_or words 5 0) i (λ k h. refl))
+  section-starts i e = rw e (span-table (section_in words numbers) (λ (x : Section). x.start) no_section numbers 1729 (get_or words 5 0) i (λ k h. refl))
 
   pub section_in_lem : (i : ℕ) → i < get_or words 5 0 → section_of road i ≡ section_in words numbers i
   unfolding road_of
@@ -123,6 +130,9 @@ module _ (words : List ℕ) (numbers : List Float) where
   unfolding section_in
   mark_count_lem i h = ap (λ (x : Section). length x.marks) (section_in_lem i h) ∙ length-table _ _ ∙ ap (word_at words numbers) (plus 1347 1 (i * 2))
 
+  pub mark_count_read : (i : ℕ) {road' : Road} {n : ℕ} → i < get_or words 5 0 → n ≡ length (section_of road' i).marks → road ≡ road' → n ≡ get_or words (1348 + i * 2) 0
+  mark_count_read i h e f = e ∙ ap (λ (x : Road). length (section_of x i).marks) (sym f) ∙ mark_count_lem i h
+
   pub mark_in_lem :
       (i j : ℕ) → i < get_or words 5 0 → j < get_or words (1348 + i * 2) 0
       → mark_at road i j ≡ mark_in words numbers (get_or words (1347 + i * 2) 0 + j)
@@ -144,9 +154,12 @@ module _ (words : List ℕ) (numbers : List Float) where
   unfolding road_of
   profile_count_lem = length-table _ _
 
-  pub profile-starts : (i : ℕ) {n : ℕ} {xs : List Float} → n ≡ length road.profiles → xs ≡ span numbers 5841 n → get_or xs i nan ≡ (profile_at road i).s
+  pub profile_count_read : {road' : Road} {n : ℕ} → n ≡ length road'.profiles → road ≡ road' → n ≡ get_or words 6 0
+  profile_count_read e f = e ∙ ap (λ (x : Road). length x.profiles) (sym f) ∙ profile_count_lem
+
+  pub profile-starts : (i : ℕ) {n : ℕ} → n ≡ get_or words 6 0 → get_or (span numbers 5841 n) i nan ≡ (profile_at road i).s
   unfolding road_of profile_in
-  profile-starts i e f = rw (f, e, profile_count_lem) (span-table (profile_in words numbers) (λ (x : Profile). x.s) no_profile numbers 5841 (get_or words 6 0) i (λ k h. refl))
+  profile-starts i e = rw e (span-table (profile_in words numbers) (λ (x : Profile). x.s) no_profile numbers 5841 (get_or words 6 0) i (λ k h. refl))
 
   pub profile_in_lem : (i : ℕ) → i < get_or words 6 0 → profile_at road i ≡ profile_in words numbers i
   unfolding road_of

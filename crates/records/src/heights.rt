@@ -1,10 +1,10 @@
 // A lane's heights in lent numbers.
-use crate::layout::HEIGHT_STRIDE;
 use crate::points::HeightDef;
-use records_lent::{Record, Records};
+use records_lent::{Record, Records, number};
 
 impl Record for HeightDef {
     ghost use Rattle.std.proofs.Common.{rules};
+    ghost use Rattle.records_lent.proofs.TableLaws.{span-first, span-at};
     ghost use Rattle.records.specs.Layout.{height_stride};
     ghost use Rattle.records.specs.Roads.{height_def_from, no_height};
 
@@ -14,22 +14,21 @@ impl Record for HeightDef {
 
     ghost STRIDE = { height_stride };
 
-    const STRIDE: usize = HEIGHT_STRIDE;
+    const STRIDE: usize = 3;
 
-    ghost some = { Prim.search rules };
+    ghost stride_positive = { Prim.search rules };
 
-    fn read(numbers: &[f64], at: usize) -> Self {
-        if numbers.len() < at.saturating_add(Self::STRIDE) {
-            return Self::nothing();
-        }
+    ghost own_numbers = { Prim.search (rules, span-first, span-at) };
+
+    fn from_part(numbers: &[f64]) -> Self {
         HeightDef {
-            s_offset: numbers[at],
-            inner: numbers[at + 1],
-            outer: numbers[at + 2],
+            s_offset: number(numbers, 0),
+            inner: number(numbers, 1),
+            outer: number(numbers, 2),
         }
     }
 
-    fn nothing() -> Self {
+    fn none() -> Self {
         HeightDef {
             s_offset: f64::NAN,
             inner: f64::NAN,

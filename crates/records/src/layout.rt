@@ -1,5 +1,5 @@
 // Where a lent road's tables stand, by the names of specs/Layout.antt; docs/MEMORY.md is the same table for whoever lends a road.
-// A table has a first place and a stride, the places that a line takes.
+// A table has a first place and a stride, the places that a line takes: those of a cubic and of a height are their types' `STRIDE`.
 
 // ---- numbers: the road's length, then the tables
 pub const LENGTH_PLACE: usize = 0;
@@ -31,10 +31,6 @@ pub const CUBIC_BASE: usize = 7137;
 pub const SPAN_BASE: usize = 7937;
 
 pub const NUMBERS_NEEDED: usize = 8449;
-
-pub const CUBIC_STRIDE: usize = 5;
-
-pub const HEIGHT_STRIDE: usize = 3;
 
 pub const SPAN_STRIDE: usize = 2;
 

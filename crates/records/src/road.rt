@@ -4,11 +4,11 @@ ghost use Rattle.std.specs.Prelude.{◌≡◌, ◌<◌, get_or, length};
 ghost use Rattle.records.specs.Roads.{cubics_in, road_of};
 
 use crate::layout::{
-    BANK_BASE, BANK_COUNT_AT, CUBIC_STRIDE, ELEV_BASE, ELEV_COUNT_AT, GEOM_COUNT_AT, LENGTH_PLACE,
-    OFFSET_BASE, OFFSET_COUNT_AT, TSHIFT_BASE, TSHIFT_COUNT_AT,
+    BANK_BASE, BANK_COUNT_AT, ELEV_BASE, ELEV_COUNT_AT, GEOM_COUNT_AT, LENGTH_PLACE, OFFSET_BASE,
+    OFFSET_COUNT_AT, TSHIFT_BASE, TSHIFT_COUNT_AT,
 };
-use records_cubic::Cubics;
-use records_lent::{number, part, word};
+use records_cubic::{Cubic, Cubics};
+use records_lent::{Record, number, part, word};
 use std::marker::Model;
 
 // A contract sees the road that the slices stand for.
@@ -30,7 +30,7 @@ impl<'a> Model for LentRoad<'a> {
 fn flat<'a>(words: &[u16], numbers: &'a [f64], base: usize, count_at: usize) -> Cubics<'a>
     ensures { result ≡ cubics_in words.now numbers.now base 0 (get_or words.now count_at 0) }
 {
-    Cubics::new(part(numbers, base, word(words, count_at) * CUBIC_STRIDE))
+    Cubics::new(part(numbers, base, word(words, count_at) * Cubic::STRIDE))
 }
 
 impl<'a> LentRoad<'a> {

@@ -4,5 +4,5 @@
 mod scan;
 mod stations;
 
-pub use scan::{ACTIVE_MARGIN, active, active_height, slope, value};
+pub use scan::{ACTIVE_MARGIN, Starting, active, slope, value};
 pub use stations::{geom_at, profile_at, section_at};

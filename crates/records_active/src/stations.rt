@@ -6,11 +6,10 @@ ghost use Rattle.records.specs.Roads.{profile_at, geom_index, section_index};
 
 use crate::scan::ACTIVE_MARGIN;
 use records::LentRoad;
-use records::layout::{
-    GEOM_BASE, GEOM_COUNT_AT, GEOM_STRIDE, PROFILE_BASE, PROFILE_COUNT_AT, SECTION_BASE,
-    SECTION_COUNT_AT,
-};
-use records_lent::{number, word};
+use records::layout::{GEOM_BASE, GEOM_STRIDE, PROFILE_BASE, SECTION_BASE};
+use records_lent::number;
+use records_sections::section_count;
+use records_shapes::profile_count;
 
 // Of count starts, stride places apart from base on, the last that is at most the limit. What the slice does not hold is NaN and at most nothing.
 fn last_started(
@@ -30,7 +29,7 @@ fn last_started(
 pub fn geom_at(road: &LentRoad, s: f64) -> usize
     ensures { result ≡ geom_index road.now s }
 {
-    let n = word(road.words, GEOM_COUNT_AT);
+    let n = road.geom_count();
     last_started(road.numbers, GEOM_BASE, GEOM_STRIDE, n, s + ACTIVE_MARGIN).unwrap_or(0)
 }
 
@@ -38,7 +37,7 @@ pub fn geom_at(road: &LentRoad, s: f64) -> usize
 pub fn section_at(road: &LentRoad, s: f64) -> usize
     ensures { result ≡ section_index road.now s }
 {
-    let n = word(road.words, SECTION_COUNT_AT);
+    let n = section_count(road);
     last_started(road.numbers, SECTION_BASE, 1, n, s + ACTIVE_MARGIN).unwrap_or(0)
 }
 
@@ -46,6 +45,6 @@ pub fn section_at(road: &LentRoad, s: f64) -> usize
 pub fn profile_at(road: &LentRoad, s: f64) -> Option<usize>
     ensures { result ≡ last_start (λ (i : ℕ). (profile_at road.now i).s) (active_up_to s) (length road.now.profiles) }
 {
-    let n = word(road.words, PROFILE_COUNT_AT);
+    let n = profile_count(road);
     last_started(road.numbers, PROFILE_BASE, 1, n, s + ACTIVE_MARGIN)
 }

@@ -2,7 +2,7 @@
 ghost use Rattle.std.specs.Prelude.{◌≡◌};
 ghost use Rattle.records_cubic.specs.Cubics.{eval_at, slope_at};
 
-use records_lent::{Record, Records};
+use records_lent::{Record, Records, number};
 
 #[derive(Clone, Copy)]
 pub struct Cubic {
@@ -33,6 +33,7 @@ impl Cubic {
 
 impl Record for Cubic {
     ghost use Rattle.std.proofs.Common.{rules};
+    ghost use Rattle.records_lent.proofs.TableLaws.{span-first, span-at};
     ghost use Rattle.records_cubic.specs.Cubics.{cubic_from, no_cubic};
 
     ghost from = { cubic_from };
@@ -43,22 +44,21 @@ impl Record for Cubic {
 
     const STRIDE: usize = 5;
 
-    ghost some = { Prim.search rules };
+    ghost stride_positive = { Prim.search rules };
 
-    fn read(numbers: &[f64], at: usize) -> Self {
-        if numbers.len() < at.saturating_add(Self::STRIDE) {
-            return Self::nothing();
-        }
+    ghost own_numbers = { Prim.search (rules, span-first, span-at) };
+
+    fn from_part(numbers: &[f64]) -> Self {
         Cubic {
-            start: numbers[at],
-            a: numbers[at + 1],
-            b: numbers[at + 2],
-            c: numbers[at + 3],
-            d: numbers[at + 4],
+            start: number(numbers, 0),
+            a: number(numbers, 1),
+            b: number(numbers, 2),
+            c: number(numbers, 3),
+            d: number(numbers, 4),
         }
     }
 
-    fn nothing() -> Self {
+    fn none() -> Self {
         Cubic {
             start: f64::NAN,
             a: f64::NAN,

@@ -5,12 +5,12 @@ ghost use Rattle.records.specs.Roads.{lane_in, lane_of, no_lane};
 ghost use Rattle.records_lanes.specs.Lines.{side_line, line_of};
 
 use records::layout::{
-    CUBIC_STRIDE, EXTENT_BASE, HEIGHT_BASE, HEIGHT_STRIDE, LANE_STRIDE, LANE_WORDS, LEFT_WORDS,
-    RIGHT_WORDS, SECTION_COUNT_AT, SECTION_STRIDE, SECTION_WORDS,
+    EXTENT_BASE, HEIGHT_BASE, LANE_STRIDE, LANE_WORDS, LEFT_WORDS, RIGHT_WORDS, SECTION_COUNT_AT,
+    SECTION_STRIDE, SECTION_WORDS,
 };
-use records::{Heights, LanePlace, LentRoad};
-use records_cubic::Cubics;
-use records_lent::{part, word};
+use records::{HeightDef, Heights, LanePlace, LentRoad};
+use records_cubic::{Cubic, Cubics};
+use records_lent::{Record, part, word};
 use std::marker::Model;
 
 // A lane with its widths, or its borders in their place, and its heights.
@@ -67,10 +67,10 @@ pub fn lane_in<'a>(words: &[u16], numbers: &'a [f64], line: u32) -> LentLane<'a>
     ensures { result ≡ lane_in words.now numbers.now line }
 {
     let at = LANE_WORDS + line as usize * LANE_STRIDE;
-    let extent = EXTENT_BASE + word(words, at + 2) * CUBIC_STRIDE;
-    let height = HEIGHT_BASE + word(words, at + 4) * HEIGHT_STRIDE;
-    let extents = part(numbers, extent, word(words, at + 3) * CUBIC_STRIDE);
-    let heights = part(numbers, height, word(words, at + 5) * HEIGHT_STRIDE);
+    let extent = EXTENT_BASE + word(words, at + 2) * Cubic::STRIDE;
+    let height = HEIGHT_BASE + word(words, at + 4) * HeightDef::STRIDE;
+    let extents = part(numbers, extent, word(words, at + 3) * Cubic::STRIDE);
+    let heights = part(numbers, height, word(words, at + 5) * HeightDef::STRIDE);
     LentLane {
         border: word(words, at) == 1,
         level: word(words, at + 1) == 1,

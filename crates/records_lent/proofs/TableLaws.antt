@@ -1,7 +1,7 @@
 -- The lists of `Lists`: a table's length and its lines, the elements of a span, where a test of `any_below` passes, and what `last_that` depends on. By induction.
 use Prim.Native.Nat.{ℕ, zero, suc, ◌+◌, ◌*◌, ◌/◌, ◌<◌, ◌≤◌}
 use native.Mathlib.Omega.{arith}
-use native.Mathlib.Nat.{le_of_suc-le-suc, not-suc-le-zero, eq-or-lt_of_le}
+use native.Mathlib.Nat.{add-zero, le_of_suc-le-suc, not-suc-le-zero, eq-or-lt_of_le}
 use mathlib.Core.Path.{◌≡◌, refl, sym, ap, ◌∙◌}
 use mathlib.Core.Bool.{Bool, true, false, ◌||◌, or-true}
 use mathlib.Core.List.{List}
@@ -45,6 +45,9 @@ record-held from none stride xs i h = rw (le-leb (i * stride + stride) (length x
 module _ {A : Type 0} (xs : List A) (start count : ℕ) where
   pub span-at : (i : ℕ) (d : A) → i < count → get_or (span xs start count) i d ≡ get_or xs (start + i) d
   span-at i d h = get_or-take count (drop start xs) i d h ∙ get_or-drop start xs i d
+
+  pub span-first : (d : A) → 0 < count → get_or (span xs start count) 0 d ≡ get_or xs start d
+  span-first d h = span-at 0 d h ∙ ap (λ (k : ℕ). get_or xs k d) (add-zero start)
 
   pub span-past : (i : ℕ) (d : A) → count ≤ i → get_or (span xs start count) i d ≡ d
   span-past i d h = let l = length-take count (drop start xs) in get_or-eq_default (span xs start count) d (omega arith)

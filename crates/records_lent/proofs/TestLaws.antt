@@ -1,25 +1,20 @@
 -- What a test that passed tells: both parts of a conjunction, each test of a chain of `&&`, the test at each index of `all_below`. By induction.
 use Prim.Native.Nat.{ℕ, zero, suc, ◌<◌}
 use native.Mathlib.Nat.{le_of_suc-le-suc, not-suc-le-zero, eq-or-lt_of_le}
-use mathlib.Core.Path.{◌≡◌, refl, sym, subst}
-use mathlib.Core.Bool.{Bool, true, false, ◌&&◌}
+use mathlib.Core.Path.{◌≡◌, refl}
+use mathlib.Core.Bool.{Bool, true, ◌&&◌}
 use mathlib.Core.Logic.{⊎_elim}
 use mathlib.Core.List.{List, [], ◌∷◌}
 use lib.ListN.{get_or}
-use lib.Dec.{T}
+use Rattle.std.proofs.lemmas.Bool.{and_parts}
 use Rattle.records_lent.specs.Lists.{all_below}
 
-pub true-T : (a : Bool) → a ≡ true → T a
-true-T a e = subst T (sym e) tt
-
+-- either part alone of the library's `and_parts`: each use wants one
 pub and-fst : (a b : Bool) → a && b ≡ true → a ≡ true
-and-fst true b e = refl
-and-fst false b e = e
+and-fst a b e = (and_parts a b e).0
 
 pub and-snd : (a b : Bool) → a && b ≡ true → b ≡ true
-and-snd true b e = e
-and-snd false true e = refl
-and-snd false false e = e
+and-snd a b e = (and_parts a b e).1
 
 -- a && b && c .. as a first test and a list of the others
 abbrev pub chain : Bool → List Bool → Bool

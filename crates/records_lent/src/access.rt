@@ -32,3 +32,10 @@ pub fn part(numbers: &[f64], start: usize, count: usize) -> &[f64]
     let rest = numbers.get(start..).unwrap_or(&[]);
     &rest[..count.min(rest.len())]
 }
+
+// The i-th of count numbers from start on, NaN past them.
+pub fn number_in(numbers: &[f64], start: usize, count: usize, i: usize) -> f64
+    ensures { result ≡ get_or (span numbers.now start count) i nan }
+{
+    number(part(numbers, start, count), i)
+}

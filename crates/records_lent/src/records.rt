@@ -1,7 +1,8 @@
 // Records in lent numbers, one after another.
 ghost use Rattle.std.specs.Prelude.{◌≡◌, ◌<◌, ℕ, List, Float, length, get_or};
-ghost use Rattle.records_lent.specs.Lists.{record_at, records_of};
+ghost use Rattle.records_lent.specs.Lists.{record_at, records_of, span};
 
+use crate::access::part;
 use std::marker::{Model, PhantomData};
 
 // What so many numbers stand for.
@@ -14,15 +15,30 @@ pub trait Record: Copy {
 
     const STRIDE: usize;
 
-    // The record whose numbers begin at a place, nothing where they are not all there.
-    fn read(numbers: &[f64], at: usize) -> Self
-        ensures { result ≡ record_at from none STRIDE numbers.now at };
+    // The record of a part that holds its numbers and no others.
+    fn from_part(numbers: &[f64]) -> Self
+        ensures { result ≡ from numbers.now 0 };
 
     // What stands for a record where there is none.
-    fn nothing() -> Self
+    fn none() -> Self
         ensures { result ≡ none };
 
-    ghost some: { 0 < STRIDE };
+    // The record whose numbers begin at a place, none where they are not all there.
+    final fn read(numbers: &[f64], at: usize) -> Self
+        ensures { result ≡ record_at from none STRIDE numbers.now at }
+    {
+        let own = part(numbers, at, Self::STRIDE);
+        if own.len() < Self::STRIDE {
+            Self::none()
+        } else {
+            Self::from_part(own)
+        }
+    }
+
+    ghost stride_positive: { 0 < STRIDE };
+
+    // A record is read from its own numbers alone.
+    ghost own_numbers: { (xs : List Float) (at : ℕ) → from (span xs at STRIDE) 0 ≡ from xs at };
 }
 
 // The records that a part of the lent numbers holds: the C interface lends flat f64, so a record is found by its stride. What is left over at the end
@@ -58,7 +74,7 @@ impl<'a, T: Record> Records<'a, T> {
         self.numbers.len() / T::STRIDE
     }
 
-    // The i-th record, nothing where there is none.
+    // The i-th record, none past the last.
     pub fn get(&self, i: usize) -> T
         ensures { result ≡ get_or self.now i T.none }
     {
@@ -66,7 +82,7 @@ impl<'a, T: Record> Records<'a, T> {
         if i < numbers.len() / T::STRIDE {
             T::read(numbers, i * T::STRIDE)
         } else {
-            T::nothing()
+            T::none()
         }
     }
 }

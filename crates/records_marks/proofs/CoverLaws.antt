@@ -6,10 +6,12 @@ use mathlib.Core.List.{[], ◌∷◌}
 use lib.ListN.{length}
 use lib.Dec.{T, eqb}
 use lib.Ieee.{Float, le, lt}
+use lib.Ieee.Bits.{is_true}
 use borrow.Author.Tests.{eqb-true, eq-eqb}
+use Rattle.std.proofs.lemmas.Float.{T_from_true}
 use Rattle.float_laws.specs.Binary64.{◌⊖◌}
 use Rattle.records_lent.specs.Lists.{any_below}
-use Rattle.records_lent.proofs.TestLaws.{true-T, chain-at}
+use Rattle.records_lent.proofs.TestLaws.{chain-at}
 use Rattle.records_lent.proofs.TableLaws.{any_at, any_found}
 use Rattle.records.specs.declared.points.Mark.{Mark}
 use Rattle.records.specs.Roads.{Road, section_of, mark_at}
@@ -20,10 +22,6 @@ pub covered-by :
     → n ≡ length (section_of road i).marks → start ≡ (section_of road i).start → found ≡ covered road i lane kind s
 unfolding covered
 covered-by road i lane kind s e f g = rw (← f, ← g) e
-
-T_true : (a : Bool) → T a → a ≡ true
-T_true true t = refl
-T_true false t = absurd t
 
 four : {a b c d : Bool} → a ≡ true → b ≡ true → c ≡ true → d ≡ true → a && b && (c && d) ≡ true
 four e f g h = rw (e, f, g, h)
@@ -42,14 +40,14 @@ module _ (road : Road) (i lane kind : ℕ) (s : Float) where
       let j : ℕ = x.0 in
       let t = chain-at (eqb (m j).lane lane) (eqb (m j).kind kind ∷ (le (m j).start d && lt d (m j).end) ∷ []) x.2 in
       let r = chain-at (le (m j).start d) (lt d (m j).end ∷ []) (t 2) in
-      record { j = j; there = x.1; on = eqb-true (m j).lane lane (t 0); of = eqb-true (m j).kind kind (t 1); from = true-T _ (r 0); below = true-T _ (r 1) }
+      record { j = j; there = x.1; on = eqb-true (m j).lane lane (t 0); of = eqb-true (m j).kind kind (t 1); from = T_from_true _ (r 0); below = T_from_true _ (r 1) }
 
   from : Covering road i lane kind s → covered road i lane kind s ≡ true
   unfolding covered
   from c =
       let j : ℕ = c.j in
       any_at (λ j. paints (m j) lane kind d) j (length (section_of road i).marks) c.there
-      (four (eq-eqb (m j).lane lane c.on) (eq-eqb (m j).kind kind c.of) (T_true (le (m j).start d) c.from) (T_true (lt d (m j).end) c.below))
+      (four (eq-eqb (m j).lane lane c.on) (eq-eqb (m j).kind kind c.of) (is_true (le (m j).start d) c.from) (is_true (lt d (m j).end) c.below))
 
 pub covered-is : CoveredIs
 covered-is road i lane kind s = (to road i lane kind s, from road i lane kind s)

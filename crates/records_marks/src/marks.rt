@@ -4,19 +4,20 @@ ghost use Rattle.records.specs.Roads.{section_of, mark_in, no_mark, mark_at};
 ghost use Rattle.records_marks.specs.Covers.{covers, paints, covered};
 
 use records::layout::{
-    MARK_STRIDE, MARK_WORDS, SECTION_COUNT_AT, SECTION_MARK_STRIDE, SECTION_MARK_WORDS, SPAN_BASE,
-    SPAN_STRIDE,
+    MARK_STRIDE, MARK_WORDS, SECTION_MARK_STRIDE, SECTION_MARK_WORDS, SPAN_BASE, SPAN_STRIDE,
 };
 use records::{LentRoad, Mark};
 use records_lent::{number, word};
+use records_sections::{section_count, section_start};
 
 // How many marks each section has stands beside its first mark.
 const MARK_COUNT_WORDS: usize = SECTION_MARK_WORDS + 1;
 
 pub fn mark_count(road: &LentRoad, section: usize) -> usize
-    ensures { result ≡ length (section_of road.now section).marks }
+    ensures value { result ≡ length (section_of road.now section).marks }
+    ensures small { result < 65536 }
 {
-    if section < word(road.words, SECTION_COUNT_AT) {
+    if section < section_count(road) {
         word(road.words, MARK_COUNT_WORDS + section * SECTION_MARK_STRIDE)
     } else {
         0
@@ -53,17 +54,12 @@ fn no_mark() -> Mark
 pub fn mark(road: &LentRoad, section: usize, j: usize) -> Mark
     ensures { result ≡ mark_at road.now section j }
 {
-    if section < word(road.words, SECTION_COUNT_AT) {
-        let i = section * SECTION_MARK_STRIDE;
-        if j < word(road.words, MARK_COUNT_WORDS + i) {
-            mark_in(
-                road.words,
-                road.numbers,
-                word(road.words, SECTION_MARK_WORDS + i) + j,
-            )
-        } else {
-            no_mark()
-        }
+    if section < section_count(road) && j < mark_count(road, section) {
+        let first = word(
+            road.words,
+            SECTION_MARK_WORDS + section * SECTION_MARK_STRIDE,
+        );
+        mark_in(road.words, road.numbers, first + j)
     } else {
         no_mark()
     }
@@ -88,6 +84,6 @@ pub fn covered(road: &LentRoad, section: usize, lane: usize, kind: usize, s: f64
     ensures { result ≡ covered road.now section lane kind s }
 {
     let n = mark_count(road, section);
-    let d = s - records_sections::section_start(road, section);
+    let d = s - section_start(road, section);
     (0..n).any(|j| paints(mark(road, section, j), lane, kind, d))
 }

@@ -4,10 +4,11 @@ ghost use Rattle.records.specs.Roads.{section_of};
 
 use records::LentRoad;
 use records::layout::{LEFT_WORDS, RIGHT_WORDS, SECTION_BASE, SECTION_COUNT_AT, SECTION_STRIDE};
-use records_lent::{number, part, word};
+use records_lent::{number_in, word};
 
 pub fn section_count(road: &LentRoad) -> usize
-    ensures { result ≡ length road.now.sections }
+    ensures value { result ≡ length road.now.sections }
+    ensures small { result < 65536 }
 {
     word(road.words, SECTION_COUNT_AT)
 }
@@ -16,7 +17,7 @@ pub fn section_count(road: &LentRoad) -> usize
 pub fn section_start(road: &LentRoad, i: usize) -> f64
     ensures { result ≡ (section_of road.now i).start }
 {
-    number(part(road.numbers, SECTION_BASE, section_count(road)), i)
+    number_in(road.numbers, SECTION_BASE, section_count(road), i)
 }
 
 // How many lanes a section has right of the center, or left of it.
@@ -24,7 +25,7 @@ pub fn lane_count(road: &LentRoad, section: usize, right: bool) -> usize
     ensures value { result ≡ length (cond right (section_of road.now section).right (section_of road.now section).left) }
     ensures small { result < 65536 }
 {
-    if section < word(road.words, SECTION_COUNT_AT) {
+    if section < section_count(road) {
         let first = if right { RIGHT_WORDS } else { LEFT_WORDS };
         word(road.words, first + section * SECTION_STRIDE)
     } else {

@@ -4,16 +4,17 @@ ghost use Rattle.records.specs.declared.points.StripKind.TheVariants.{Absent, Ab
 ghost use Rattle.records.specs.Roads.{cubics_in, profile_at, strip_at, strip_kind_of, column_of};
 
 use records::layout::{
-    CUBIC_BASE, CUBIC_STRIDE, PROFILE_BASE, PROFILE_COUNT_AT, PROFILE_STRIDE, PROFILE_WORDS,
-    SHAPE_BASE, STRIP_STRIDE, STRIP_WORDS,
+    CUBIC_BASE, PROFILE_BASE, PROFILE_COUNT_AT, PROFILE_STRIDE, PROFILE_WORDS, SHAPE_BASE,
+    STRIP_STRIDE, STRIP_WORDS,
 };
 use records::{LentRoad, StripKind};
-use records_cubic::Cubics;
-use records_lent::{number, part, word};
+use records_cubic::{Cubic, Cubics};
+use records_lent::{Record, number_in, part, word};
 
 // ---- profiles and strips
 pub fn profile_count(road: &LentRoad) -> usize
-    ensures { result ≡ length road.now.profiles }
+    ensures value { result ≡ length road.now.profiles }
+    ensures small { result < 65536 }
 {
     word(road.words, PROFILE_COUNT_AT)
 }
@@ -22,7 +23,7 @@ pub fn profile_count(road: &LentRoad) -> usize
 pub fn profile_start(road: &LentRoad, i: usize) -> f64
     ensures { result ≡ (profile_at road.now i).s }
 {
-    number(part(road.numbers, PROFILE_BASE, profile_count(road)), i)
+    number_in(road.numbers, PROFILE_BASE, profile_count(road), i)
 }
 
 // The cubics of a table whose base is given: from the first on as many as the two words at a place say. It takes the slices, since a road's model
@@ -31,8 +32,8 @@ fn cubics_at<'a>(words: &[u16], numbers: &'a [f64], base: usize, at: usize) -> C
     requires { (base < 65536) × (at < 196608) }
     ensures { result ≡ cubics_in words.now numbers.now base (get_or words.now at 0) (get_or words.now (at + 1) 0) }
 {
-    let first = base + word(words, at) * CUBIC_STRIDE;
-    Cubics::new(part(numbers, first, word(words, at + 1) * CUBIC_STRIDE))
+    let first = base + word(words, at) * Cubic::STRIDE;
+    Cubics::new(part(numbers, first, word(words, at + 1) * Cubic::STRIDE))
 }
 
 fn no_cubics<'a>() -> Cubics<'a>
@@ -44,7 +45,7 @@ fn no_cubics<'a>() -> Cubics<'a>
 pub fn shapes<'a>(road: &LentRoad<'a>, i: usize) -> Cubics<'a>
     ensures { result ≡ (profile_at road.now i).shapes }
 {
-    if i < word(road.words, PROFILE_COUNT_AT) {
+    if i < profile_count(road) {
         let at = PROFILE_WORDS + i * PROFILE_STRIDE;
         cubics_at(road.words, road.numbers, SHAPE_BASE, at)
     } else {

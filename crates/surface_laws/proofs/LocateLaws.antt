@@ -9,6 +9,7 @@ use lib.Dec.{T, leb}
 use lib.Ieee.{Float, binary64, low, fits, le, neg, of_bits}
 use lib.ListN.{length}
 use borrow.Author.Tests.{leb-true}
+use Rattle.std.proofs.lemmas.Float.{T_from_true}
 use Rattle.float_laws.specs.Binary64.{zero64}
 use Rattle.float_laws.proofs.Value.{mag, pl, mi, Real, le→units}
 use Rattle.float_laws.proofs.Interval.{in-of_le, from_zero}
@@ -20,7 +21,7 @@ use Rattle.admission_arguments.specs.Arguments.{half_width, across_road}
 use Rattle.line_samples.specs.Samples.{samples_needed}
 use Rattle.admission_laws.specs.Fractions.{IsF64, AllF64}
 use Rattle.admission_laws.proofs.FractionLaws.{at_most-of, not-over, below_none}
-use Rattle.records_lent.proofs.TestLaws.{and-fst, and-snd, true-T}
+use Rattle.records_lent.proofs.TestLaws.{and-fst, and-snd}
 use Rattle.admission_laws.proofs.RoadBounds.{length-in, sized-within}
 use Rattle.admission.specs.Admission.{admitted, pass}
 use Rattle.admission.proofs.RowLaws.{pass-checked, checked-pass}
@@ -71,8 +72,8 @@ zero-real = record { finite = tt; fits = tt }
 
 offset-kept : (t : Float) → IsF64 t → across_road t ≡ true → Real binary64 t × (mag binary64 t ≤ 80 * 2 ^ low binary64)
 offset-kept t f h =
-    let below = true-T (le (neg half_width) t) (and-fst (le (neg half_width) t) (le t half_width) h) in
-    let above = true-T (le t half_width) (and-snd (le (neg half_width) t) (le t half_width) h) in
+    let below = T_from_true (le (neg half_width) t) (and-fst (le (neg half_width) t) (le t half_width) h) in
+    let above = T_from_true (le t half_width) (and-snd (le (neg half_width) t) (le t half_width) h) in
     let w = reach-within binary64 t half_width f half_width-real.fits below above half_width-real.finite in
     (w.value, le_trans w.le (le_of_eq half_width-is))
 

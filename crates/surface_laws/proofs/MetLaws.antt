@@ -3,11 +3,12 @@ use mathlib.Core.Path.{◌≡◌}
 use mathlib.Core.Bool.{true, ◌&&◌}
 use mathlib.Core.List.{List}
 use lib.Ieee.{Float, binary64, lt}
+use Rattle.std.proofs.lemmas.Float.{T_from_true}
 use Rattle.float_laws.proofs.Value.{Real}
 use Rattle.records.specs.Roads.{Road}
 use Rattle.admission.specs.Limits.{on_road}
 use Rattle.admission_arguments.specs.Arguments.{across_road}
-use Rattle.records_lent.proofs.TestLaws.{and-fst, and-snd, true-T}
+use Rattle.records_lent.proofs.TestLaws.{and-fst, and-snd}
 use Rattle.surface_locate.specs.Meeting.{meeting}
 use Rattle.arithmetic_distance.proofs.MissLaws.{Under}
 use Rattle.surface_laws.proofs.Micrometre.{micrometre}
@@ -29,7 +30,7 @@ module _ (road : Road) (samples : List Float) (target : Vector) (at : Place) whe
   miss-near rx ry h =
       let p = surface_at road samples at.s at.t in
       let f = surface-fits road samples at.s at.t in
-      micrometre p.x target.x p.y target.y f.0 f.1 rx ry (true-T (lt (size_of (miss_at road samples target at)) meeting) h)
+      micrometre p.x target.x p.y target.y f.0 f.1 rx ry (T_from_true (lt (size_of (miss_at road samples target at)) meeting) h)
 
   module _ (e : met_at road samples target at ≡ true) where
     tests : on_road road at.s && across_road at.t && lt (size_of (miss_at road samples target at)) meeting ≡ true

@@ -7,13 +7,14 @@ use mathlib.Core.Bool.{Bool, true, ◌&&◌}
 use mathlib.Core.List.{List, [], ◌∷◌}
 use lib.ListN.{length, get_or}
 use Rattle.std.specs.List.{list_all}
+use Rattle.std.proofs.lemmas.Float.{T_from_true}
 use lib.Dec.{leb, eqb}
 use borrow.Author.Tests.{leb-true, eqb-true}
 use lib.Ieee.{Float, nan, binary32, of_bits, fits, neg, le}
 use Rattle.float_laws.proofs.Value.{Real}
 use Rattle.float_laws.proofs.Interval.{In, in-of_le}
 use Rattle.float_laws.proofs.Checker.{good-real}
-use Rattle.records_lent.proofs.TestLaws.{true-T, and-fst, and-snd}
+use Rattle.records_lent.proofs.TestLaws.{and-fst, and-snd}
 use Rattle.records.specs.declared.points.Point.{Point}
 use Rattle.coordinates.specs.Points.{point_at}
 use Rattle.tracks_calls.specs.TrackCalls.{greatest_coordinate, track_counted, inside_size, all_inside, point_inside}
@@ -42,7 +43,7 @@ pub inside_is : (x : Float) → IsF32 x → inside_size x ≡ true → Coordinat
 inside_is x f e =
     let a = le (neg greatest_coordinate) x in
     let b = le x greatest_coordinate in
-    in-of_le binary32 (neg greatest_coordinate) greatest_coordinate x least-real greatest-real f (true-T a (and-fst a b e)) (true-T b (and-snd a b e))
+    in-of_le binary32 (neg greatest_coordinate) greatest_coordinate x least-real greatest-real f (T_from_true a (and-fst a b e)) (T_from_true b (and-snd a b e))
 
 -- ---- the points
 

@@ -8,6 +8,7 @@ use lib.Dec.{T, ltb}
 use lib.Ieee.{Float, nan, inf, fin, binary32, is_nan, of_bits, fits, neg, le, lt, eq, add, sub, mul, div}
 use lib.Ieee.Scale.{finite}
 use borrow.Author.Tests.{ltb-true}
+use Rattle.std.proofs.lemmas.Float.{T_from_true}
 use Rattle.float_laws.specs.Binary32.{◌⊕◌, ◌⊖◌, ◌⊗◌, ◌⊘◌, f32, zero32, one32, clamp_of}
 use Rattle.float_laws.proofs.Value.{mag, pl, mi, Real, mag_is, lt→units, le_refl as float-refl}
 use Rattle.float_laws.proofs.Size.{Within, within-of_le, within-mono, within-self, add-within, sub_within, mul-within}
@@ -20,7 +21,6 @@ use Rattle.coordinates.specs.Vectors.{from_to, sum_of, dot_of, unit_of, horizont
 use Rattle.tracks.specs.Tangents.{direction_of, incoming_of, outgoing_of, tangent_of}
 use Rattle.tracks.specs.Poses.{position_at, heading_at}
 use Rattle.tracks.specs.Projections.{least_square, foot_of}
-use Rattle.records_lent.proofs.TestLaws.{true-T}
 use Rattle.tracks_calls.specs.TrackCalls.{greatest_coordinate}
 use Rattle.tracks_laws.proofs.Admitted.{greatest-real, Coordinate, Placed}
 use Rattle.tracks_laws.proofs.Fractions.{one-real, clamp-in}
@@ -283,7 +283,7 @@ foot-in a b at p q r = go (lt least_square (dot_of (from_to a b) (from_to a b)))
     some e =
         let y = dot_of (from_to a b) (from_to a b) in
         let x = dot_of (from_to a at) (from_to a b) in
-        let u = lt→units binary32 least_square y square-real square.value (true-T (lt least_square y) e) in
+        let u = lt→units binary32 least_square y square-real square.value (T_from_true (lt least_square y) e) in
         let w = div-within binary32 x y most-product least_square (product-within a at b p r q) square.value square-real square-pl (more (pl binary32 least_square) (mi binary32 least_square) (pl binary32 y) (mi binary32 y) (mag binary32 y) square-mi u (mag_is binary32 y)) steepest in
         clamp-in nil one32 (x ⊘ y) (nil-real binary32) one-real zero_one w.value.fits (real-no_nan (x ⊘ y) w.value)
 

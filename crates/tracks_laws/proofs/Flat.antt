@@ -10,11 +10,12 @@ use lib.Ieee.{Float, binary32, low, of_bits, le, lt, eq, add, mul, div}
 use lib.Ieee.Scale.{finite}
 use lib.Ieee.Positive.{num, den}
 use borrow.Author.Tests.{ltb-true}
+use Rattle.std.proofs.lemmas.Float.{T_from_true}
 use Rattle.float_laws.specs.Binary32.{◌⊕◌, ◌⊗◌, ◌⊘◌, zero32, one32, largest32}
 use Rattle.float_laws.proofs.Value.{mag, units_of}
 use Rattle.float_laws.proofs.Size.{Within, within-mono, within-self, add-within, mul-within}
 use Rattle.float_laws.proofs.Interval.{In, nil, nil-real, nil-pl, nil-mi}
-use Rattle.records_lent.proofs.TestLaws.{and-fst, and-snd, true-T}
+use Rattle.records_lent.proofs.TestLaws.{and-fst, and-snd}
 use Rattle.records.specs.declared.points.Point.{Point}
 use Rattle.coordinates.specs.declared.vectors.Vector.{Vector}
 use Rattle.coordinates.specs.Vectors.{from_to, horizontal_of, scaled_by, sum_of, vector_between, length_of, unit_of, zero_vector}
@@ -61,8 +62,8 @@ unit-flat A room v b h = go (lt zero32 (length_of v) && le (length_of v) largest
     go : (c : Bool) → lt zero32 (length_of v) && le (length_of v) largest32 ≡ c → Nil (cond c (scaled_by v (one32 ⊘ length_of v)) zero_vector).z
     go false e = nil-own
     go true e =
-        let above = true-T (lt zero32 (length_of v)) (and-fst (lt zero32 (length_of v)) (le (length_of v) largest32) e) in
-        let below = true-T (le (length_of v) largest32) (and-snd (lt zero32 (length_of v)) (le (length_of v) largest32) e) in
+        let above = T_from_true (lt zero32 (length_of v)) (and-fst (lt zero32 (length_of v)) (le (length_of v) largest32) e) in
+        let below = T_from_true (le (length_of v) largest32) (and-snd (lt zero32 (length_of v)) (le (length_of v) largest32) e) in
         scaled-nil v.z (one32 ⊘ length_of v) h (quotient-any v b.x.value b.y.value b.z.value (length-real A room v above below) above)
 
 -- ---- tangents

@@ -10,7 +10,7 @@ use lib.Pow.{pow-add}
 use lib.Ieee.{Float, nan, inf, fin, binary32, low, is_nan, of_bits, fits, neg, le, lt, add, sub}
 use lib.Ieee.Bits.{is_true}
 use lib.Ieee.Scale.{finite}
-use Rattle.std.proofs.lemmas.Float.{le_trans as float_trans, T_from_false}
+use Rattle.std.proofs.lemmas.Float.{le_trans as float_trans, T_from_false, T_from_true}
 use Rattle.float_laws.specs.Binary32.{◌⊖◌, ◌⊘◌, f32, zero32, one32, clamp_of}
 use Rattle.float_laws.proofs.Nearest.{apart}
 use Rattle.float_laws.proofs.Units.{rnd, rnd-zero}
@@ -24,7 +24,6 @@ use Rattle.records.specs.declared.points.Point.{Point}
 use Rattle.tracks.specs.Lengths.{length_to}
 use Rattle.tracks.specs.Poses.{least_span, leading_from, segment_of, fraction_along, spot_of}
 use Rattle.tracks.proofs.PoseSteps.{lead-step}
-use Rattle.records_lent.proofs.TestLaws.{true-T}
 use Rattle.tracks_laws.proofs.Admitted.{Placed}
 use Rattle.tracks_laws.proofs.ArcLengths.{lengths, lengths_rise}
 use Rattle.tracks_laws.proofs.Leading.{lead-below, lead-at, lead_after}
@@ -153,7 +152,7 @@ fraction-in from to d i j k h l = go (lt least_span (to ⊖ from)) refl
     some : lt least_span (to ⊖ from) ≡ true → In binary32 nil one32 ((d ⊖ from) ⊘ (to ⊖ from))
     some e =
         quotient-in (d ⊖ from) (to ⊖ from) num den (less-plus d from k.value i.value num.finite h)
-        (positive (pl binary32 least_span) (mi binary32 least_span) (pl binary32 (to ⊖ from)) (mi binary32 (to ⊖ from)) span-mi (lt→units binary32 least_span (to ⊖ from) span-real den (true-T (lt least_span (to ⊖ from)) e)))
+        (positive (pl binary32 least_span) (mi binary32 least_span) (pl binary32 (to ⊖ from)) (mi binary32 (to ⊖ from)) span-mi (lt→units binary32 least_span (to ⊖ from) span-real den (T_from_true (lt least_span (to ⊖ from)) e)))
         (le→parts binary32 (d ⊖ from) (to ⊖ from) num den (sub-mono binary32 d to from from k.value j.value i.value i.value l (le_refl binary32 from i.value) num.finite den.finite)).0
 
     go : (b : Bool) → lt least_span (to ⊖ from) ≡ b → In binary32 nil one32 (cond b ((d ⊖ from) ⊘ (to ⊖ from)) zero32)
@@ -216,7 +215,7 @@ module _ (p : ℕ → Point) (n : ℕ) (placed : (i : ℕ) → i < n → Placed 
 
     -- it starts at or before d
     pub from_le : T (le (length_to p (segment_of p n d)) d)
-    from_le = let i = segment_of p n d in true-T (le (length_to p i) d) (ap (λ (k : ℕ). le (length_to p k) d) (sym (zero-add i)) ∙ lead-below (length_to p) d 0 n i within)
+    from_le = let i = segment_of p n d in T_from_true (le (length_to p i) d) (ap (λ (k : ℕ). le (length_to p k) d) (sym (zero-add i)) ∙ lead-below (length_to p) d 0 n i within)
 
     -- and ends at or after it
     pub le-to : T (le d (length_to p (suc (segment_of p n d))))

@@ -7,9 +7,8 @@ use mathlib.Core.Bool.{Bool, true, false, cond}
 use mathlib.Core.Logic.{⊎_elim}
 use lib.Dec.{T}
 use lib.Ieee.{Float, binary32, le, lt}
-use Rattle.std.proofs.lemmas.Float.{T_from_false}
+use Rattle.std.proofs.lemmas.Float.{T_from_false, T_from_true}
 use Rattle.float_laws.proofs.Value.{Real, le→units, units→le, lt→units, units→lt, nlt→units, le_refl}
-use Rattle.records_lent.proofs.TestLaws.{true-T}
 use Rattle.records.specs.declared.points.Point.{Point}
 use Rattle.tracks.specs.Lengths.{length_to}
 use Rattle.tracks.specs.Projections.{Nearest, nearer_of, nearest_of}
@@ -50,7 +49,7 @@ module _ (p : ℕ → Point) (at : Point) where
     taken : lt (square_at p at k) best.square ≡ true → Best (suc k) (record { square = square_at p at k; projection = candidate_at p at k })
     unfolding j
     taken e =
-        let d : T (lt (square_at p at k) (square_at p at j)) = subst (λ (x : Float). T (lt (square_at p at k) x)) b.square (true-T (lt (square_at p at k) best.square) e) in
+        let d : T (lt (square_at p at k) (square_at p at j)) = subst (λ (x : Float). T (lt (square_at p at k) x)) b.square (T_from_true (lt (square_at p at k) best.square) e) in
         let farther : (i : ℕ) → i < k → T (lt (square_at p at k) (square_at p at i)) = (λ i h. lt-le-lt (square_at p at k) (square_at p at j) (square_at p at i) (real k (omega arith)) j-real (real i (omega arith)) d (b.nearest i h)) in
         record {
           segment = k;

@@ -10,7 +10,7 @@ use lib.Dec.{T}
 use lib.Ieee.{Float, nan, inf, fin, binary32, size, round, units, odd, of_bits, fits, le, lt, eq, mul, div}
 use lib.Ieee.Fits.{add-fits, mul-fits}
 use lib.Ieee.Scale.{finite}
-use Rattle.std.proofs.lemmas.Float.{le_of_lt as float_le_of_lt, T_from_false}
+use Rattle.std.proofs.lemmas.Float.{le_of_lt as float_le_of_lt, T_from_false, T_from_true}
 use Rattle.float_laws.specs.Binary32.{◌⊕◌, ◌⊗◌, ◌⊘◌, f32, zero32, one32, largest32}
 use Rattle.float_laws.proofs.Units.{rnd, rnd-zero}
 use Rattle.float_laws.proofs.Value.{pl, mi, Real, mag_is, pl-le, le→units, lt→units, units→le, nle→le}
@@ -24,7 +24,7 @@ use Rattle.arithmetic.specs.Root.{root_of, root_units, whole_root}
 use Rattle.arithmetic.proofs.RootLaws.{root-fits, root-mono, root-not-negative}
 use Rattle.coordinates.specs.declared.vectors.Vector.{Vector}
 use Rattle.coordinates.specs.Vectors.{scaled_by, zero_vector, dot_of, length_of, unit_of}
-use Rattle.records_lent.proofs.TestLaws.{and-fst, and-snd, true-T}
+use Rattle.records_lent.proofs.TestLaws.{and-fst, and-snd}
 use Rattle.tracks_laws.proofs.Fractions.{one-real, quotient-in}
 
 -- all three components finite and at most A in size
@@ -211,7 +211,7 @@ module _ (v : Vector) (rx : Real binary32 v.x) (ry : Real binary32 v.y) (rz : Re
   short-square e = go (le (dot_of v v) one32) refl
     where
       go : (b : Bool) → le (dot_of v v) one32 ≡ b → T (le (dot_of v v) one32)
-      go true d = true-T (le (dot_of v v) one32) d
+      go true d = T_from_true (le (dot_of v v) one32) d
       go false d =
           let h = nle→le binary32 (dot_of v v) one32 dot-real one-real (T_from_false (le (dot_of v v) one32) d) in
           let g : T (le one32 len) = subst (λ (y : Float). T (le y len)) root-one (root_over one32 one-real one-mi h) in
@@ -224,7 +224,7 @@ module _ (v : Vector) (rx : Real binary32 v.x) (ry : Real binary32 v.y) (rz : Re
   -- a length of 1 or more
   quotient-long : le one32 len ≡ true → Within binary32 (one32 ⊘ len) one32
   quotient-long e =
-      let i = quotient-in one32 len one-real rl one-mi len-pl (le→parts binary32 one32 len one-real rl (true-T (le one32 len) e)).0 in
+      let i = quotient-in one32 len one-real rl one-mi len-pl (le→parts binary32 one32 len one-real rl (T_from_true (le one32 len) e)).0 in
       let m = from_zero binary32 (one32 ⊘ len) i.value i.above in
       let q = (le→parts binary32 (one32 ⊘ len) one32 i.value one-real i.below).0 in
       let s = mag_is binary32 (one32 ⊘ len) in
@@ -284,6 +284,6 @@ module _ (A : Float) (room : Roomy A) where
       go : (b : Bool) → lt zero32 (length_of v) && le (length_of v) largest32 ≡ b → Bounded (cond b (scaled_by v (one32 ⊘ length_of v)) zero_vector) A
       go false e = record { x = nil-within; y = nil-within; z = nil-within }
       go true e =
-          let a = true-T (lt zero32 (length_of v)) (and-fst (lt zero32 (length_of v)) (le (length_of v) largest32) e) in
-          let b = true-T (le (length_of v) largest32) (and-snd (lt zero32 (length_of v)) (le (length_of v) largest32) e) in
+          let a = T_from_true (lt zero32 (length_of v)) (and-fst (lt zero32 (length_of v)) (le (length_of v) largest32) e) in
+          let b = T_from_true (le (length_of v) largest32) (and-snd (lt zero32 (length_of v)) (le (length_of v) largest32) e) in
           scaled-in v h (length-real v a b) a

@@ -1,7 +1,7 @@
 -- `section_at`: the scan reads the starts where they stand.
 use mathlib.Core.Path.{◌∙◌, ap}
 use Rattle.records.specs.Active.{or_first}
-use Rattle.records.proofs.RoadLaws.{section_index_lem}
+use Rattle.records.proofs.RoadLaws.{section_count_read, section_index_lem}
 use Rattle.records_active.proofs.FirstLaws.{found_or_first}
 use Rattle.records_active.proofs.stations.section_at.Goals as goal
 
@@ -9,4 +9,4 @@ pub returns : goal.returns
 returns c =
     let r = c.road.inside in
     rw (← c.road.view_is)
-    (c.unwrap_or.ensures ∙ found_or_first c.last_started.result ∙ ap or_first c.last_started.ensures ∙ section_index_lem r.words.now r.numbers.now c.args.s c.word-n.ensures.value)
+    (c.unwrap_or.ensures ∙ found_or_first c.last_started.result ∙ ap or_first c.last_started.ensures ∙ section_index_lem r.words.now r.numbers.now c.args.s (section_count_read _ _ c.section_count-n.ensures.value c.road.view_is))

@@ -4,16 +4,18 @@ use mathlib.Core.Path.{◌∙◌, ap, sym}
 use mathlib.Core.List.{List}
 use lib.Ieee.{Float}
 use Rattle.records.specs.Roads.{geom_from}
-use Rattle.records.proofs.RoadLaws.{geom-by, geom-past}
+use Rattle.records.proofs.RoadLaws.{geom_count_read, geom-by, geom-past}
 use Rattle.records_geometry.proofs.geometries.geom.Goals as goal
 
-pub returns-then-i-word : goal.returns-then-i-word
-returns-then-i-word c =
+pub returns-then-i-geom_count : goal.returns-then-i-geom_count
+returns-then-i-geom_count c =
     let r = c.road.inside in
-    rw (← c.road.view_is) (c.geom_from.ensures ∙ geom-by r.words.now r.numbers.now c.args.i (omega arith) c.part.ensures c.word-then-i-word.ensures.value)
+    let n = geom_count_read r.words.now r.numbers.now c.geom_count.ensures.value c.road.view_is in
+    rw (← c.road.view_is) (c.geom_from.ensures ∙ geom-by r.words.now r.numbers.now c.args.i (omega arith) c.part.ensures c.word.ensures.value)
 
-pub returns-else-i-word : goal.returns-else-i-word
-returns-else-i-word c =
+pub returns-else-i-geom_count : goal.returns-else-i-geom_count
+returns-else-i-geom_count c =
     let r = c.road.inside in
+    let n = geom_count_read r.words.now r.numbers.now c.geom_count.ensures.value c.road.view_is in
     rw (← c.road.view_is)
-    (c.geom_from-else-i-word.ensures ∙ ap (λ (xs : List Float). geom_from xs 0) c.part-else-i-word.ensures ∙ sym (geom-past r.words.now r.numbers.now c.args.i (omega arith)))
+    (c.geom_from-else-i-geom_count.ensures ∙ ap (λ (xs : List Float). geom_from xs 0) c.part-else-i-geom_count.ensures ∙ sym (geom-past r.words.now r.numbers.now c.args.i (omega arith)))

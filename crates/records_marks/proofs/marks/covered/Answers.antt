@@ -7,4 +7,4 @@ use Rattle.records_marks.proofs.marks.covered.Goals as goal
 pub returns : goal.returns
 returns c =
     let a = c.args in
-    covered-by a.road.now a.section a.lane a.kind a.s (any_range _ _ c.any.ensures.ran (λ x b q k. search rules)) c.mark_count-n.ensures c.section_start.ensures
+    covered-by a.road.now a.section a.lane a.kind a.s (any_range _ _ c.any.ensures.ran (λ x b q k. search rules)) c.mark_count-n.ensures.value c.section_start.ensures

@@ -1,12 +1,10 @@
 -- `profile_start`: the i-th of the starts, or NaN.
-use mathlib.Core.Path.{◌∙◌, ap, sym}
-use lib.ListN.{length}
-use Rattle.records.specs.Roads.{Road}
-use Rattle.records.proofs.RoadLaws.{profile-starts}
+use mathlib.Core.Path.{◌∙◌}
+use Rattle.records.proofs.RoadLaws.{profile_count_read, profile-starts}
 use Rattle.records_shapes.proofs.profiles.profile_start.Goals as goal
 
 pub returns : goal.returns
 returns c =
     let r = c.road.inside in
-    let n = c.profile_count.ensures ∙ ap (λ (x : Road). length x.profiles) (sym c.road.view_is) in
-    rw (← c.road.view_is) (c.number.ensures ∙ profile-starts r.words.now r.numbers.now c.args.i n c.part.ensures)
+    let n = profile_count_read r.words.now r.numbers.now c.profile_count.ensures.value c.road.view_is in
+    rw (← c.road.view_is) (c.number_in.ensures ∙ profile-starts r.words.now r.numbers.now c.args.i n)

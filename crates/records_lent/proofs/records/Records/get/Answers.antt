@@ -1,4 +1,4 @@
--- `Records::get`: the i-th line of the table, or nothing.
+-- `Records::get`: the i-th line of the table, or none.
 use Prim.Native.Nat.{ℕ, ◌*◌}
 use mathlib.Core.Path.{◌∙◌, ap, sym}
 use Rattle.records_lent.proofs.TableLaws.{record-held, table_at, table-past}
@@ -16,4 +16,4 @@ returns-then-i-numbers g c =
     ∙ record-held t.from t.none t.STRIDE xs i h ∙ sym (table_at _ _ i _ h))
 
 pub returns-else-i-numbers : goal.returns-else-i-numbers
-returns-else-i-numbers g c = rw (← c.self.view_is) (c.nothing.ensures ∙ sym (table-past _ _ c.args.i _ (rw c.STRIDE.ensures at c.if-i-numbers.false)))
+returns-else-i-numbers g c = rw (← c.self.view_is) (c.none.ensures ∙ sym (table-past _ _ c.args.i _ (rw c.STRIDE.ensures at c.if-i-numbers.false)))
