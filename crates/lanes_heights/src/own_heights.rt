@@ -4,7 +4,7 @@ ghost use Rattle.lanes.specs.Lateral.{height_of, height_between, height_held};
 
 use lanes::Pair;
 use records::{HeightDef, Heights};
-use records_active::active_height;
+use records_active::active;
 
 // Straight from a to b.
 fn between(a: HeightDef, b: HeightDef, s: f64) -> Pair
@@ -31,7 +31,7 @@ pub fn height_at(heights: &Heights, s: f64) -> Pair
     ensures { result ≡ height_of heights.now s }
 {
     let count = heights.len();
-    match active_height(heights, s) {
+    match active(heights, s) {
         Some(i) if i + 1 < count => between(heights.get(i), heights.get(i + 1), s),
         Some(i) => held(heights.get(i)),
         None if count == 0 => Pair {

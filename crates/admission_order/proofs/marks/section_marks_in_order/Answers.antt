@@ -7,4 +7,4 @@ use Rattle.admission_order.proofs.marks.section_marks_in_order.Goals as goal
 
 pub returns : goal.returns
 unfolding marks_in_order
-returns c = all_range _ _ c.all.ensures.ran (λ x b q k. search rules) ∙ ap (all_below _) (c.mark_count-n.ensures)
+returns c = all_range _ _ c.all.ensures.ran (λ x b q k. search rules) ∙ ap (all_below _) (c.mark_count-n.ensures.value)

@@ -7,4 +7,4 @@ use Rattle.admission_order.proofs.order.sections_rise.Goals as goal
 
 pub returns : goal.returns
 unfolding rise_strictly
-returns c = rw (← c.section_count.ensures) (all_range _ _ c.all.ensures.ran (λ x b q k. search rules) ∙ ap (all_below _) c.saturating_sub-n.ensures)
+returns c = rw (← c.section_count.ensures.value) (all_range _ _ c.all.ensures.ran (λ x b q k. search rules) ∙ ap (all_below _) c.saturating_sub-n.ensures)

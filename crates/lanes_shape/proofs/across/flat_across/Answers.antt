@@ -5,4 +5,4 @@ use Rattle.lanes_shape.proofs.across.flat_across.Goals as goal
 pub returns : goal.returns
 returns c =
     let a = c.args in
-    flat-by a.road.now c.profile_count.ensures c.has_cross_section.ensures
+    flat-by a.road.now c.profile_count.ensures.value c.has_cross_section.ensures
