@@ -15,7 +15,7 @@ use lib.Ieee.Fits.{cond-fits, neg-fits, add-fits, sub-fits, mul-fits}
 use lib.Ieee.Scale.{finite, overflow}
 use Rattle.float_laws.specs.Binary64.{◌⊕◌, ◌⊖◌, ◌⊗◌, f64, zero64, abs_of}
 use Rattle.float_laws.proofs.Units.{rnd, rnd-le}
-use Rattle.float_laws.proofs.Value.{mag, pl, mi, Real, mag_is, one_side, le→units, units→le, lt→units, nlt→units, nle→le, le_refl, le_trans', under, neg-real, neg-pl, neg-mi}
+use Rattle.float_laws.proofs.Value.{mag, pl, mi, Real, mag_is, one_side, le→units, units→le, lt→units, nlt→units, nle→le, le_refl, under, neg-real, neg-pl, neg-mi}
 use Rattle.float_laws.proofs.Operation.{sub-Is}
 use Rattle.float_laws.proofs.Interval.{In, nil, nil-real, nil-pl, nil-mi, over-of, under_of, enclose, finite-between}
 use Rattle.float_laws.proofs.Size.{Within, within-mono, within-const, add-within, nn, nn-of_le, add-nn, mul-nn, add-fin, mul-fin, fin-of_le, size, size-nn, size-within, nn-within, cubic, cubic-admitted, slope, slope-admitted}
@@ -25,7 +25,7 @@ use Rattle.float_laws.proofs.Whole.{unit}
 use Rattle.records_cubic.specs.declared.cubics.Cubic.{Cubic}
 use Rattle.std.specs.declared.option.Option.{Option}
 use Rattle.std.specs.declared.option.Option.TheVariants.{Some, None}
-use Rattle.std.proofs.lemmas.Float.{T_from_true}
+use Rattle.std.proofs.lemmas.Float.{le_trans as float_trans, T_from_true}
 use Rattle.records_cubic.specs.Cubics.{cubic_at, eval_by, slope_by}
 use Rattle.records.specs.Active.{active_margin, active_in, value_in, slope_in, active_up_to}
 use Rattle.records.proofs.CubicLaws.{value-at, value_none, slope_at_lem, slope-none}
@@ -249,8 +249,8 @@ module _ (s st e : Float) (w : Within binary64 s far) (rs : Real binary64 st) (r
         value = i.value;
         reach = r_d;
         plus = (within-mono binary64 reach_margin reach_margin D milli-own r_d over).plus;
-        low = le_trans' binary64 (neg D) (neg reach_margin) (s ⊖ st) (neg-real binary64 D r_d) negative i.value (neg-le reach_margin D milli-own.value r_d over) i.above;
-        high = le_trans' binary64 (s ⊖ st) (e ⊖ st) D i.value r_x r_d i.below (le_trans' binary64 (e ⊖ st) (at_least_zero (e ⊖ st)) D r_x raised.0 r_d raised.2 grown);
+        low = float_trans (neg D) (neg reach_margin) (s ⊖ st) (neg-le reach_margin D milli-own.value r_d over) i.above;
+        high = float_trans (s ⊖ st) (e ⊖ st) D i.below (float_trans (e ⊖ st) (at_least_zero (e ⊖ st)) D raised.2 grown);
       }
 
 -- ---- a cubic whose bound passes: its reach is finite
@@ -358,7 +358,7 @@ module _ (cs : List Cubic) (lo hi end limit s : Float) (r : Ready cs lo hi end l
   ends-after i a = go (ltb (i + 1) (length cs)) (ltb→lt (i + 1) (length cs))
     where
       next : (q : Real binary64 (cubic_at cs (i + 1)).start) → T (not (le (cubic_at cs (i + 1)).start (active_up_to s))) → T (le s (cubic_at cs (i + 1)).start)
-      next q n = le_trans' binary64 s (active_up_to s) (cubic_at cs (i + 1)).start r.place.value (up_to-real s r.place) q (up_to-grows s r.place) (nle→le binary64 (cubic_at cs (i + 1)).start (active_up_to s) q (up_to-real s r.place) n)
+      next q n = float_trans s (active_up_to s) (cubic_at cs (i + 1)).start (up_to-grows s r.place) (nle→le binary64 (cubic_at cs (i + 1)).start (active_up_to s) q (up_to-real s r.place) n)
 
       go : (b : Bool) → (T b → i + 1 < length cs) → Real binary64 (cond b (cubic_at cs (i + 1)).start end) × T (le s (cond b (cubic_at cs (i + 1)).start end))
       go true l = let q = start-real (i + 1) (l tt) in (q, next q (a.miss (l tt)))

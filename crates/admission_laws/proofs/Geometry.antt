@@ -12,7 +12,7 @@ use lib.Ieee.{Float, binary64, of_bits, fits, le, lt, neg, add, sub, mul, div}
 use lib.Ieee.Fits.{and_l, and_r}
 use lib.Ieee.Scale.{finite}
 use Rattle.float_laws.specs.Binary64.{◌⊕◌, ◌⊖◌, ◌⊗◌, ◌⊘◌, f64, zero64, abs_of}
-use Rattle.float_laws.proofs.Value.{Real, mag, pl, pl-le, le_trans', neg-real, le→units, lt→units}
+use Rattle.float_laws.proofs.Value.{Real, mag, pl, pl-le, neg-real, le→units, lt→units}
 use Rattle.float_laws.proofs.Interval.{In, sub_in, le→parts}
 use Rattle.float_laws.proofs.Size.{Within, within-of_le, le_of-within, within-mono, within-const, add-within, sub_within, mul-within, neg-mag}
 use Rattle.float_laws.proofs.Order.{div-within}
@@ -23,7 +23,7 @@ use Rattle.records.specs.declared.points.GeomRec.{GeomRec}
 use Rattle.records.specs.declared.points.GeomShape.TheVariants.{Arc}
 use Rattle.std.specs.declared.option.Option.{Option}
 use Rattle.std.specs.declared.option.Option.TheVariants.{Some, None}
-use Rattle.std.proofs.lemmas.Float.{T_from_true}
+use Rattle.std.proofs.lemmas.Float.{le_trans as float_trans, T_from_true}
 use Rattle.records.specs.Active.{last_start, or_first}
 use Rattle.records.specs.Roads.{Road, straight_curvature, geom_at, geom_index}
 use Rattle.line_samples.specs.declared.points.Pose.{Pose}
@@ -126,8 +126,8 @@ module _ (road : Road) (fit : RoadFits road) (ok : limited road ≡ true) where
       let d = sub_in binary64 zero64 greatest_length zero64 greatest_length s a (station-in s o) (station-in a (start-on i h)) low-finite high-finite in
       let t = length-real.bound in
       within-of_le binary64 (s ⊖ a) greatest_length d.value t
-      (le_trans' binary64 (neg greatest_length) (zero64 ⊖ greatest_length) (s ⊖ a) (neg-real binary64 greatest_length t) d.low d.value low-order d.above)
-      (le_trans' binary64 (s ⊖ a) (greatest_length ⊖ zero64) greatest_length d.value d.high t d.below high-order)
+      (float_trans (neg greatest_length) (zero64 ⊖ greatest_length) (s ⊖ a) low-order d.above)
+      (float_trans (s ⊖ a) (greatest_length ⊖ zero64) greatest_length d.below high-order)
 
 -- ---- the curvature of an arc that turns
 

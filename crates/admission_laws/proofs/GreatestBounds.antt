@@ -11,9 +11,10 @@ use lib.Dec.{T}
 use lib.Pow.{pow_pos}
 use lib.Ieee.{Float, binary64, of_bits, fits, le, lt, neg, mul}
 use lib.Ieee.Scale.{finite}
+use Rattle.std.proofs.lemmas.Float.{le_trans as float_trans}
 use Rattle.float_laws.specs.Binary64.{◌⊕◌, ◌⊗◌, zero64}
 use Rattle.float_laws.proofs.Units.{rnd}
-use Rattle.float_laws.proofs.Value.{mag, pl, mi, Real, mag_is, le_trans', le_refl, lt→units, nlt→units, units→le, under}
+use Rattle.float_laws.proofs.Value.{mag, pl, mi, Real, mag_is, le_refl, lt→units, nlt→units, units→le, under}
 use Rattle.float_laws.proofs.Operation.{add-Is}
 use Rattle.float_laws.proofs.Size.{Within, within-mono, within-const, add-within, mul-within, is-bounded, add-nn, mul-nn, add-fin, mul-fin, fin-of_le}
 use Rattle.float_laws.proofs.Exact.{fixed}
@@ -66,7 +67,7 @@ greatest-over f (suc n) h i l =
     let wn = h n (lt-suc_self n) in
     let o = step-over (greatest f n) (f n) wg wn in
     ⊎_elim (λ (e : i ≡ n). subst (λ (k : ℕ). T (le (f k) (greatest f (suc n)))) (sym e) o.1)
-    (λ (m : i < n). le_trans' binary64 (f i) (greatest f n) (greatest f (suc n)) (h i l).value wg.value (step-own (greatest f n) (f n) wg wn).value (greatest-over f n (λ i l. h i (omega arith)) i m) o.0)
+    (λ (m : i < n). float_trans (f i) (greatest f n) (greatest f (suc n)) (greatest-over f n (λ i l. h i (omega arith)) i m) o.0)
     (eq-or-lt_of_le (le_of_suc-le-suc l))
 
 -- ---- the value of a list

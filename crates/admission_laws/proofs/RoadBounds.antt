@@ -10,9 +10,9 @@ use lib.Dec.{T, ltb, ltb→lt, lit<}
 use lib.Ieee.{Float, binary64, of_bits, fits, le, neg, add}
 use lib.Ieee.Fits.{sub-fits}
 use lib.Ieee.Scale.{finite}
-use Rattle.std.proofs.lemmas.Float.{T_from_true}
+use Rattle.std.proofs.lemmas.Float.{le_trans as float_trans, T_from_true}
 use Rattle.float_laws.specs.Binary64.{◌⊕◌, ◌⊖◌, ◌⊗◌, zero64, abs_of}
-use Rattle.float_laws.proofs.Value.{Real, le_trans', nle→le, neg-real}
+use Rattle.float_laws.proofs.Value.{Real, nle→le, neg-real}
 use Rattle.float_laws.proofs.Interval.{In, in-of_le}
 use Rattle.float_laws.proofs.Size.{Within, within-of_le, le_of-within, within-mono, within-const, sub_within, size, size-nn, size-within, fin-of_le}
 use Rattle.records_cubic.specs.declared.cubics.Cubic.{Cubic}
@@ -150,7 +150,7 @@ to-largest = within-const binary64 zero64 largest tt
 
 -- a value from lo to hi, where lo is not below -hi
 in_within : (lo hi x : Float) → In binary64 lo hi x → T (le (neg hi) lo) → Within binary64 x hi
-in_within lo hi x i h = within-of_le binary64 x hi i.value i.high (le_trans' binary64 (neg hi) lo x (neg-real binary64 hi i.high) i.low i.value h i.above) i.below
+in_within lo hi x i h = within-of_le binary64 x hi i.value i.high (float_trans (neg hi) lo x h i.above) i.below
 
 from_zero-within : (hi x : Float) → Within binary64 zero64 hi → In binary64 zero64 hi x → Within binary64 x hi
 from_zero-within hi x w i = in_within zero64 hi x i (le_of-within binary64 zero64 hi w).0
@@ -226,7 +226,7 @@ module _ (road : Road) (fit : RoadFits road) (ok : limited road ≡ true) where
   station-within s o =
       let i = in-of_le binary64 zero64 road.length s to-length.value length-in.value o.fits o.above o.below in
       from_zero-within greatest_length s to-length
-      (record { low = to-length.value; high = to-length.bound; value = i.value; above = o.above; below = le_trans' binary64 s road.length greatest_length i.value length-in.value to-length.bound o.below length-in.below })
+      (record { low = to-length.value; high = to-length.bound; value = i.value; above = o.above; below = float_trans s road.length greatest_length o.below length-in.below })
 
   -- ---- lists along the road
   pub along : (cs : List Cubic) (limit s : Float) → OnRoad road s → CubicsFit cs → Within binary64 zero64 limit → road_cubics_within road cs limit ≡ true → Ready cs zero64 road.length road.length limit s
@@ -325,7 +325,7 @@ module _ (road : Road) (fit : RoadFits road) (ok : limited road ≡ true) where
       w = within-mono binary64 s greatest_length far (station-within s o) to-far.bound length-far
 
       next : (x : Float) → Real binary64 x → T (not (le x (active_up_to s))) → T (le s x)
-      next x q n = le_trans' binary64 s (active_up_to s) x w.value (up_to-real s w) q (up_to-grows s w) (nle→le binary64 x (active_up_to s) q (up_to-real s w) n)
+      next x q n = float_trans s (active_up_to s) x (up_to-grows s w) (nle→le binary64 x (active_up_to s) q (up_to-real s w) n)
 
       go : (b : Bool) → (T b → i + 1 < length road.sections) → Real binary64 (cond b (section_of road (i + 1)).start road.length) × T (le s (cond b (section_of road (i + 1)).start road.length))
       go true l = let q = (section_start-within (i + 1) (l tt)).value in (q, next (section_of road (i + 1)).start q (a.miss (l tt)))
@@ -339,8 +339,8 @@ module _ (road : Road) (fit : RoadFits road) (ok : limited road ≡ true) where
         let m = neg-real binary64 reach_margin to-margin.bound in
         let v = (in-of_le binary64 (neg reach_margin) (section_extent road i) x m e.value d.fits d.above d.below).value in
         within-of_le binary64 x far v to-far.bound
-        (le_trans' binary64 (neg far) (neg reach_margin) x (neg-real binary64 far to-far.bound) m v margin-far d.above)
-        (le_trans' binary64 x (section_extent road i) far v e.value to-far.bound d.below (le_of-within binary64 (section_extent road i) far e).1)
+        (float_trans (neg far) (neg reach_margin) x margin-far d.above)
+        (float_trans x (section_extent road i) far d.below (le_of-within binary64 (section_extent road i) far e).1)
 
     module _ (right : Bool) (k : ℕ) (l : k < lane_count road i right) where
       pub lane-ready : (x : Float) → InSection road i x → Ready (lane_of road i right k).extents (neg largest) largest (section_extent road i) (lane_limit (lane_of road i right k)) x

@@ -7,8 +7,9 @@ use mathlib.Core.List.{List}
 use lib.ListN.{length}
 use lib.Dec.{T}
 use lib.Ieee.{Float, binary64, of_bits, fits, le, lt, eq, neg, sub}
+use Rattle.std.proofs.lemmas.Float.{le_trans as float_trans}
 use Rattle.float_laws.specs.Binary64.{◌⊖◌, zero64}
-use Rattle.float_laws.proofs.Value.{Real, le_trans', neg-real}
+use Rattle.float_laws.proofs.Value.{Real, neg-real}
 use Rattle.float_laws.proofs.Interval.{In, sub_in, in-of_le}
 use Rattle.float_laws.proofs.Size.{Within, within-of_le, le_of-within, within-mono, within-const}
 use Rattle.records.specs.Active.{active_up_to}
@@ -115,8 +116,7 @@ module _ (road : Road) (a : Admits road) (s : Float) (o : OnRoad road s) where
       let e = extent-within road a.fit a.limits 0 a.sections in
       let w = within-mono binary64 s greatest_length far s-within e.bound length-far.0 in
       let r = up_to-real s w in
-      le_trans' binary64 (section_of road 0).start zero64 (active_up_to s) z.value z.low r (same-le (section_of road 0).start zero64 a.order.section_zero)
-      (le_trans' binary64 zero64 s (active_up_to s) z.low w.value r o.above (up_to-grows s w))
+      float_trans (section_of road 0).start zero64 (active_up_to s) (same-le (section_of road 0).start zero64 a.order.section_zero) (float_trans zero64 s (active_up_to s) o.above (up_to-grows s w))
 
   -- the section at s is there, and s lies in it
   pub section-active : Active (λ k. (section_of road k).start) (active_up_to s) (length road.sections) (section_index road s)

@@ -12,8 +12,9 @@ use lib.Pow.{pow_pos, pow-lt}
 use lib.Ieee.{Float, nan, inf, fin, Format, prec, emax, low, unlike, le, add, sub, div}
 use lib.Ieee.Fits.{sub-fits, div-fits}
 use lib.Ieee.Scale.{finite, overflow}
+use Rattle.std.proofs.lemmas.Float.{le_trans as float_trans}
 use Rattle.float_laws.proofs.Units.{rnd, rnd-le, rnd-zero, rnd-pow}
-use Rattle.float_laws.proofs.Value.{mag, pl, mi, Real, mag_is, pl-le, mi-le, one_side, le→units, le_refl, le_trans', nle→le}
+use Rattle.float_laws.proofs.Value.{mag, pl, mi, Real, mag_is, pl-le, mi-le, one_side, le→units, le_refl, nle→le}
 use Rattle.float_laws.proofs.Operation.{add-Is, sub-Is}
 use Rattle.float_laws.proofs.Interval.{le→parts, div-Is'}
 use Rattle.float_laws.proofs.Size.{Within, sub_within, is-bounded}
@@ -130,7 +131,7 @@ module _ (f : Format) (a b s e c w S A : Float) (j : ℕ) (k : Margin f S A e c 
   by-gap t =
       let rd : Real f (sub f b a) = record { finite = t; fits = sub-fits f b a } in
       let r = total.0 in
-      let h = le_trans' f s (add f s e) b ws.value r rb (add-grow-l f s e ws.value k.e_real k.e_plus r.finite) (nle→le f b (add f s e) rb r after) in
+      let h = float_trans s (add f s e) b (add-grow-l f s e ws.value k.e_real k.e_plus r.finite) (nle→le f b (add f s e) rb r after) in
       let nd = (le→parts f (sub f s a) (sub f b a) from rd (sub-mono f s b a a ws.value rb wa.value wa.value h (le_refl f a wa.value) from.finite t)).0 in
       quotient f (sub f s a) (sub f b a) c w from rd k.c_real k.w_real k.w_plus k.c_above (le→parts f c (sub f b a) k.c_real rd apart).0 nd before k.quotient k.small
 

@@ -10,8 +10,9 @@ use lib.Dec.{T, lit≤, lit<}
 use lib.Ieee.{Float, nan, inf, fin, Format, binary64, low, le, lt, eq, neg, add, fits, is_nan, of_bits}
 use lib.Ieee.Fits.{div-fits}
 use lib.Ieee.Scale.{finite}
+use Rattle.std.proofs.lemmas.Float.{le_trans as float_trans}
 use Rattle.float_laws.specs.Binary64.{◌⊕◌, ◌⊖◌, ◌⊘◌, f64, zero64}
-use Rattle.float_laws.proofs.Value.{mag, pl, mi, Real, one_side, nlt→units, le_trans', neg-real}
+use Rattle.float_laws.proofs.Value.{mag, pl, mi, Real, one_side, nlt→units, neg-real}
 use Rattle.float_laws.proofs.Interval.{in-of_le}
 use Rattle.float_laws.proofs.Size.{Within, within-of_le, le_of-within, sub_within}
 use Rattle.float_laws.proofs.Whole.{Whole, not-zero}
@@ -163,8 +164,8 @@ from_to-eighty : (x y t : Float) → Within binary64 x eighty → Within binary6
 from_to-eighty x y t wx wy f p q =
     let r = (in-of_le binary64 x y t wx.value wy.value f p q).value in
     within-of_le binary64 t eighty r wx.bound
-    (le_trans' binary64 (neg eighty) x t (neg-real binary64 eighty wx.bound) wx.value r (le_of-within binary64 x eighty wx).0 p)
-    (le_trans' binary64 t y eighty r wy.value wy.bound q (le_of-within binary64 y eighty wy).1)
+    (float_trans (neg eighty) x t (le_of-within binary64 x eighty wx).0 p)
+    (float_trans t y eighty q (le_of-within binary64 y eighty wy).1)
 
 between-eighty : (down : Bool) (x y t : Float) → Within binary64 x eighty → Within binary64 y eighty → Fits64 t → Ahead down x t → Ahead down t y → Within binary64 t eighty
 between-eighty false x y t wx wy f p q = from_to-eighty x y t wx wy f p q
