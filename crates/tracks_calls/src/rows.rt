@@ -20,14 +20,14 @@ fn counted(points: &[f32]) -> bool
     ensures { result ≡ track_counted (length points.now) }
 {
     let n = points.len();
-    (n % 3 == 0) & (LEAST_POINTS <= n / 3) & (n / 3 <= MOST_POINTS)
+    n % 3 == 0 && (LEAST_POINTS..=MOST_POINTS).contains(&(n / 3))
 }
 
 // Whether a coordinate is at most 2,000,000 in size; a NaN is not.
 fn inside(x: f32) -> bool
     ensures { result ≡ inside_size x }
 {
-    (-GREATEST_COORDINATE <= x) & (x <= GREATEST_COORDINATE)
+    (-GREATEST_COORDINATE..=GREATEST_COORDINATE).contains(&x)
 }
 
 // Whether all coordinates are.
