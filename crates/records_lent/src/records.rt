@@ -2,7 +2,6 @@
 ghost use Rattle.std.specs.Prelude.{◌≡◌, ◌<◌, ℕ, List, Float, length, get_or};
 ghost use Rattle.records_lent.specs.Lists.{record_at, records_of, span};
 
-use crate::access::part;
 use std::marker::{Model, PhantomData};
 
 // What so many numbers stand for.
@@ -27,12 +26,10 @@ pub trait Record: Copy {
     final fn read(numbers: &[f64], at: usize) -> Self
         ensures { result ≡ record_at from none STRIDE numbers.now at }
     {
-        let own = part(numbers, at, Self::STRIDE);
-        if own.len() < Self::STRIDE {
-            Self::none()
-        } else {
-            Self::from_part(own)
+        if numbers.len() < at.saturating_add(Self::STRIDE) {
+            return Self::none();
         }
+        Self::from_part(&numbers[at..at + Self::STRIDE])
     }
 
     ghost stride_positive: { 0 < STRIDE };
