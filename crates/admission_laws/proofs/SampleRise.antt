@@ -10,8 +10,7 @@ use mathlib.Core.List.{List, ◌∷◌}
 use lib.ListN.{get_or}
 use lib.Dec.{T, lit<, lit≤}
 use lib.Pow.{pow_pos}
-use lib.Ieee.{Float, Format, prec, binary64, of_bits, le, lt, add, sub}
-use lib.Ieee.Scale.{finite}
+use lib.Ieee.{Float, Format, prec, binary64, of_bits, lt, add, sub}
 use Rattle.float_laws.specs.Binary64.{◌⊕◌, zero64}
 use Rattle.float_laws.proofs.Units.{rnd, rnd-err, rnd-le, rnd-pow, rnd-zero}
 use Rattle.float_laws.proofs.Value.{Real, pl, mi, lt→units, units→lt}
