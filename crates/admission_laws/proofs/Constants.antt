@@ -1,53 +1,61 @@
--- What two constants keep to, by their patterns: the test of two patterns computes with nothing unfolded.
-use Prim.Native.Nat.{ℕ}
-use mathlib.Core.Path.{◌≡◌, sym, subst}
-use mathlib.Core.Bool.{Bool, true, false, ◌&&◌}
-use lib.Dec.{T, leb, leb-zero}
-use lib.Ieee.{binary64, of_bits}
+-- A constant is written by its pattern. What its units are, and what two constants keep to, is told by their patterns: the tests compute with nothing unfolded, so that `tt` proves them.
+use Prim.Native.Nat.{ℕ, zero, suc, ◌+◌, ◌*◌, ◌/◌, ◌%◌, ◌^◌, ◌≤◌, ◌<◌}
+use native.Mathlib.Nat.{mod-eq_of_lt}
+use native.Mathlib.Omega.{arith}
+use mathlib.Core.Path.{◌≡◌, refl, sym, subst}
+use mathlib.Core.Bool.{Bool, false, ◌&&◌}
+use lib.Dec.{T, leb, leb→le, ltb→lt}
+use lib.Ieee.{binary64, prec, low, hid, ones, top, odd, of_fields, of_bits}
 use lib.Ieee.Bits.{of_bits-fits}
+use lib.Ieee.Exact.{HasValue, odd_sign}
 use lib.Ieee.Fits.{and_l, and_r}
-use lib.Ieee.Scale.{finite}
-use borrow.Author.Numbers.{plain, worth, const_le, neg_const_le}
-use Rattle.float_laws.proofs.Value.{Real, mi}
-use Rattle.float_laws.proofs.Size.{Within, within-of_le, nn, nn-of_le, fin-of_le}
+use borrow.Author.Numbers.{plain, units_of, worth}
+use borrow.Author.Tests.{ne_eqb, lt-leb}
+use Rattle.float_laws.proofs.Value.{Real, sign, mag, pl, mi, mag_of}
+use Rattle.float_laws.proofs.Size.{Within}
 
--- both finite and without a sign, and the first at most the second
-abbrev pub in_order : ℕ → ℕ → Bool
-in_order a b = (plain binary64 a && plain binary64 b) && leb (worth binary64 a) (worth binary64 b)
+fields-value : (x t : ℕ) → x < ones binary64 → HasValue (of_fields binary64 false x t) false (units_of binary64 x t) (2 ^ low binary64)
+unfolding of_fields
+fields-value zero t h = subst (λ (a : ℕ). HasValue (odd (prec binary64) false t 0 (low binary64)) false a (2 ^ low binary64)) (let e : t * 2 ^ 0 ≡ t = omega arith in e) (odd_sign (prec binary64) false t 0 (low binary64))
+fields-value (suc x) t h = rw (ne_eqb (suc x) (ones binary64) (omega arith)) (odd_sign (prec binary64) false (hid binary64 + t) x (low binary64))
 
--- the pattern of the largest value
-abbrev most : ℕ
-most = 0x7fef_ffff_ffff_ffff
+-- a finite value's pattern, without a sign
+module _ (b : ℕ) (p : T (plain binary64 b)) where
+  value : HasValue (of_bits binary64 b) false (worth binary64 b) (2 ^ low binary64)
+  unfolding of_bits
+  value =
+      let h : b < ones binary64 * hid binary64 = ltb→lt b _ p in
+      let g : b < top binary64 = omega arith in
+      subst (λ (s : Bool). HasValue (of_fields binary64 s (b % top binary64 / hid binary64) (b % hid binary64)) false (worth binary64 b) (2 ^ low binary64)) (sym (lt-leb (top binary64) b g))
+      (subst (λ (n : ℕ). HasValue (of_fields binary64 false (n / hid binary64) (b % hid binary64)) false (worth binary64 b) (2 ^ low binary64)) (sym (mod-eq_of_lt g))
+      (fields-value (b / hid binary64) (b % hid binary64) (omega arith)))
 
-joined : (a b : Bool) → T a → T b → T (a && b)
-joined true b s t = t
-joined false b s t = s
+  size_is : mag binary64 (of_bits binary64 b) ≡ worth binary64 b
+  size_is = (mag_of binary64 (of_bits binary64 b) false (worth binary64 b) value).1
 
-from-zero : (b : ℕ) → T (plain binary64 b) → T (in_order 0 b)
-from-zero b p = joined (plain binary64 b) _ p (subst T (sym (leb-zero (worth binary64 b))) tt)
+  sign_is : sign (of_bits binary64 b) ≡ false
+  sign_is = (mag_of binary64 (of_bits binary64 b) false (worth binary64 b) value).2
 
-const-nn : (b : ℕ) → T (plain binary64 b) → T (nn (of_bits binary64 b))
-const-nn b p =
-    nn-of_le binary64 (of_bits binary64 0) (of_bits binary64 b) (of_bits-fits binary64 0) (of_bits-fits binary64 b) (neg_const_le binary64 b 0 (joined (plain binary64 b) true p tt)) (const_le binary64 0 b (from-zero b p))
+  pub const-real : Real binary64 (of_bits binary64 b)
+  const-real = record { finite = (mag_of binary64 (of_bits binary64 b) false (worth binary64 b) value).0; fits = of_bits-fits binary64 b }
 
-largest-finite : T (finite (of_bits binary64 most))
-unfolding of_bits
-largest-finite = tt
+  pub const-plus : mi binary64 (of_bits binary64 b) ≡ 0
+  unfolding mi
+  const-plus = rw sign_is refl
 
--- at most another finite one
-const-finite : (a b : ℕ) → T (in_order a b) → T (finite (of_bits binary64 b)) → T (finite (of_bits binary64 a))
-const-finite a b t f = fin-of_le (of_bits binary64 a) (of_bits binary64 b) (const-nn a (and_l (plain binary64 a) _ (and_l (plain binary64 a && plain binary64 b) _ t))) f (const_le binary64 a b t)
+  pub const-units : pl binary64 (of_bits binary64 b) ≡ worth binary64 b
+  unfolding pl
+  const-units = rw sign_is size_is
 
-pub const-real : (b : ℕ) → T (in_order b most) → Real binary64 (of_bits binary64 b)
-const-real b t = record { finite = const-finite b most t largest-finite; fits = of_bits-fits binary64 b }
+pub const-at_most : (b n : ℕ) → T (plain binary64 b && leb (worth binary64 b) n) → pl binary64 (of_bits binary64 b) ≤ n
+const-at_most b n t = rw (const-units b (and_l (plain binary64 b) _ t)) (leb→le _ _ (and_r (plain binary64 b) _ t))
 
-pub const-within : (a b : ℕ) → T (in_order a b && in_order b most) → Within binary64 (of_bits binary64 a) (of_bits binary64 b)
+pub const-at_least : (b n : ℕ) → T (plain binary64 b && leb n (worth binary64 b)) → n ≤ pl binary64 (of_bits binary64 b)
+const-at_least b n t = rw (const-units b (and_l (plain binary64 b) _ t)) (leb→le _ _ (and_r (plain binary64 b) _ t))
+
+pub const-within : (a b : ℕ) → T ((plain binary64 a && plain binary64 b) && leb (worth binary64 a) (worth binary64 b)) → Within binary64 (of_bits binary64 a) (of_bits binary64 b)
 const-within a b t =
-    let h = and_l (in_order a b) (in_order b most) t in
-    let p = and_l (plain binary64 a && plain binary64 b) _ h in
-    let s : T (plain binary64 b && plain binary64 a) = joined (plain binary64 b) _ (and_r (plain binary64 a) _ p) (and_l (plain binary64 a) _ p) in
-    let r = const-real b (and_r (in_order a b) (in_order b most) t) in
-    within-of_le binary64 (of_bits binary64 a) (of_bits binary64 b) (record { finite = const-finite a b h r.finite; fits = of_bits-fits binary64 a }) r (neg_const_le binary64 b a s) (const_le binary64 a b h)
-
-pub const-plus : (b : ℕ) → T (in_order b most) → mi binary64 (of_bits binary64 b) ≡ 0
-const-plus b t = (const-within 0 b (joined (in_order 0 b) _ (from-zero b (and_l (plain binary64 b) _ (and_l (plain binary64 b && plain binary64 most) _ t))) t)).plus
+    let p = and_l (plain binary64 a && plain binary64 b) _ t in
+    let u = and_l (plain binary64 a) _ p in
+    let v = and_r (plain binary64 a) _ p in
+    record { value = const-real a u; bound = const-real b v; plus = const-plus b v; le = rw (size_is a u, const-units b v) (leb→le _ _ (and_r (plain binary64 a && plain binary64 b) _ t)) }

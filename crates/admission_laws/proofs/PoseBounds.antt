@@ -26,7 +26,7 @@ use Rattle.line_pose.specs.Poses.{line_pose, arc_pose, held, leading, segment, f
 use Rattle.line_samples.proofs.SpiralLaws.{count-spiral, samples-held, first-distance}
 use Rattle.line_pose.proofs.PoseLaws.{segment-in}
 use Rattle.admission.specs.Limits.{greatest_length, greatest_heading, shape_limited, limited}
-use Rattle.admission_laws.proofs.Constants.{const-plus, const-real, const-within}
+use Rattle.admission_laws.proofs.Constants.{const-at_most, const-plus, const-real, const-within}
 use Rattle.admission_laws.proofs.Fitting.{Fits64, ShapeFits, RoadFits}
 use Rattle.admission_laws.proofs.RoadBounds.{OnRoad, geom-x-within, geom-y-within, geom-hdg-within, geom-length-in, geom-shape-passes, arc-within, spiral-within}
 use Rattle.admission_laws.proofs.Powers.{Plus, none_below, sub-plus, ratio-plus, sub-above}
@@ -174,17 +174,9 @@ spiral-far = f64 0x412e_886a_0000_0000
 abbrev pub spiral-turn : Float
 spiral-turn = f64 0x40ab_5a00_0000_0000
 
-far-power : pl binary64 sample-far ≤ 2 ^ 1094
-unfolding of_bits pl
-far-power = lit≤ tt
-
 far-wider : pl binary64 sample-far + 3 * 2 ^ (1094 - 53) ≤ pl binary64 spiral-far
 unfolding of_bits pl
 far-wider = lit≤ tt
-
-turn-power : pl binary64 sample-turn ≤ 2 ^ 1086
-unfolding of_bits pl
-turn-power = lit≤ tt
 
 turn-wider : pl binary64 sample-turn + 3 * 2 ^ (1086 - 53) ≤ pl binary64 spiral-turn
 unfolding of_bits pl
@@ -194,9 +186,9 @@ turn-wider = lit≤ tt
 pub between-within : (a b : Sample) (t : Float) → SampleWithin a → SampleWithin b → Plus binary64 t (2 ^ 1074) → PoseWithin (between a b t) spiral-far spiral-turn
 between-within a b t v w p =
     record {
-      x = interpolate-within binary64 a.x b.x t sample-far spiral-far 1094 v.x w.x p.value p.plus p.le far-power (lit< tt) (const-real _ tt) (const-plus _ tt) far-wider;
-      y = interpolate-within binary64 a.y b.y t sample-far spiral-far 1094 v.y w.y p.value p.plus p.le far-power (lit< tt) (const-real _ tt) (const-plus _ tt) far-wider;
-      heading = interpolate-within binary64 a.heading b.heading t sample-turn spiral-turn 1086 v.heading w.heading p.value p.plus p.le turn-power (lit< tt) (const-real _ tt) (const-plus _ tt) turn-wider;
+      x = interpolate-within binary64 a.x b.x t sample-far spiral-far 1094 v.x w.x p.value p.plus p.le (const-at_most _ _ tt) (lit< tt) (const-real _ tt) (const-plus _ tt) far-wider;
+      y = interpolate-within binary64 a.y b.y t sample-far spiral-far 1094 v.y w.y p.value p.plus p.le (const-at_most _ _ tt) (lit< tt) (const-real _ tt) (const-plus _ tt) far-wider;
+      heading = interpolate-within binary64 a.heading b.heading t sample-turn spiral-turn 1086 v.heading w.heading p.value p.plus p.le (const-at_most _ _ tt) (lit< tt) (const-real _ tt) (const-plus _ tt) turn-wider;
     }
 
 -- for any two samples or more that keep to their bounds, the first at distance 0

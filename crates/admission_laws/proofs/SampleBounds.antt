@@ -27,7 +27,7 @@ use Rattle.line_samples.specs.declared.points.Sample.{Sample}
 use Rattle.line_samples.specs.Samples.{most_samples, end_margin, goes_on, whole_step, step_at, steps_from, most_steps, spiral_steps, sample_count, samples_before, samples_needed, no_turn_length, turn_rate, heading_at, first_sample, next_sample, later_samples, geom_samples}
 use Rattle.line_samples.proofs.SpiralLaws.{count-spiral, before-next, before-mono, samples-are}
 use Rattle.admission.specs.Limits.{greatest_place, greatest_heading, least_geom_length, greatest_geom_length}
-use Rattle.admission_laws.proofs.Constants.{const-plus, const-real, const-within}
+use Rattle.admission_laws.proofs.Constants.{const-at_least, const-at_most, const-plus, const-real, const-within}
 use Rattle.admission_laws.proofs.Powers.{Small, mul_small, div-small, Plus, none_below, plus-small, plus-mono, sub-plus, lesser-plus, div-plus, add-plus, sum-next, power_below}
 use Rattle.admission_laws.proofs.Geometry.{sum-passes, sum-within}
 
@@ -74,22 +74,6 @@ half-small : Small binary64 half 1073
 unfolding of_bits fits mag
 half-small = record { value = good-real binary64 half tt; le = lit≤ tt }
 
-two-large : 2 ^ 1074 ≤ pl binary64 two
-unfolding of_bits pl
-two-large = lit≤ tt
-
-hundredth-large : 2 ^ 1067 ≤ pl binary64 least_geom_length
-unfolding of_bits pl
-hundredth-large = lit≤ tt
-
-ten-thousand-small : pl binary64 greatest_geom_length ≤ 2 ^ 1088
-unfolding of_bits pl
-ten-thousand-small = lit≤ tt
-
-one-small : pl binary64 one ≤ 2 ^ 1074
-unfolding of_bits pl
-one-small = lit≤ tt
-
 twice-finite : T (finite (one ⊕ one))
 unfolding of_bits add
 twice-finite = tt
@@ -97,26 +81,6 @@ twice-finite = tt
 twice-small : pl binary64 (one ⊕ one) ≤ 2 ^ 1075
 unfolding of_bits add pl
 twice-small = lit≤ tt
-
-four-large : 2 ^ 1076 ≤ pl binary64 four
-unfolding of_bits pl
-four-large = lit≤ tt
-
-five-hundred-large : 2000 * 2 ^ 1072 ≤ pl binary64 five-hundred
-unfolding of_bits pl
-five-hundred-large = lit≤ tt
-
-end-large : 1999 * 2 ^ 1072 ≤ pl binary64 sample-end
-unfolding of_bits pl
-end-large = lit≤ tt
-
-million-small : pl binary64 greatest_place ≤ 4000000 * 2 ^ 1072
-unfolding of_bits pl
-million-small = lit≤ tt
-
-far-large : 4002000 * 2 ^ 1072 ≤ pl binary64 sample-far
-unfolding of_bits pl
-far-large = lit≤ tt
 
 first-test : T (sum-passes greatest_heading one five-hundred fifteen-hundred)
 unfolding of_bits fits le add mul
@@ -179,7 +143,7 @@ within-small x A p w h = record { value = w.value; le = le_trans w.le h }
 -- from 0 to 500
 plus-within : (u : Float) → Plus binary64 u (2000 * 2 ^ 1072) → Within binary64 u five-hundred
 plus-within u v =
-    record { value = v.value; bound = const-real _ tt; plus = const-plus _ tt; le = le_trans (le_of_eq (whole (pl binary64 u) (mi binary64 u) (mag binary64 u) (mag_is binary64 u) v.plus)) (le_trans v.le five-hundred-large) }
+    record { value = v.value; bound = const-real _ tt; plus = const-plus _ tt; le = le_trans (le_of_eq (whole (pl binary64 u) (mi binary64 u) (mag binary64 u) (mag_is binary64 u) v.plus)) (le_trans v.le (const-at_least _ _ tt)) }
   where
     whole : (p m g : ℕ) → g ≡ p + m → m ≡ 0 → g ≡ p
     whole p m g e z = omega arith
@@ -215,10 +179,10 @@ module _ (g : GeomRec) (k0 k1 : Float)
     (w0 : Within binary64 k0 one) (w1 : Within binary64 k1 one) (il : In binary64 least_geom_length greatest_geom_length g.length) where
   module _ (a : ℕ) (la : 2 ^ a ≤ pl binary64 g.length) (ha : pl binary64 g.length ≤ 2 ^ suc a) where
     a-high : a ≤ 1088
-    a-high = exponent a 1088 (le_trans la (le_trans (le→parts binary64 g.length greatest_geom_length il.value il.high il.below).0 ten-thousand-small))
+    a-high = exponent a 1088 (le_trans la (le_trans (le→parts binary64 g.length greatest_geom_length il.value il.high il.below).0 (const-at_most _ _ tt)))
 
     a-low : 1066 ≤ a
-    a-low = le_of_suc-le-suc (exponent 1067 (suc a) (le_trans hundredth-large (le_trans (length-large g.length il) ha)))
+    a-low = le_of_suc-le-suc (exponent 1067 (suc a) (le_trans (const-at_least _ _ tt) (le_trans (length-large g.length il) ha)))
 
     -- ---- the heading
 
@@ -237,7 +201,7 @@ module _ (g : GeomRec) (k0 k1 : Float)
         let e = mul_small binary64 half c 1073 (2149 - a) (2148 - a) half-small rate-small (sum-half a a-high) (room-half a a-low) in
         let w = mul_small binary64 (half ⊗ c) u (2148 - a) (suc (suc a)) 1076 e (plus-small binary64 u (suc (suc a)) (record { value = v.value; plus = v.plus; le = l })) (sum-four a a-high) (lit< tt) in
         sum-within (g.hdg ⊕ k0 ⊗ u) (half ⊗ c ⊗ u) u fifteen-hundred four five-hundred sample-turn
-        (sum-within g.hdg k0 u greatest_heading one five-hundred fifteen-hundred wh w0 wu first-test) (small-within (half ⊗ c ⊗ u) four 1076 w (const-real _ tt) (const-plus _ tt) four-large) wu second-test
+        (sum-within g.hdg k0 u greatest_heading one five-hundred fifteen-hundred wh w0 wu first-test) (small-within (half ⊗ c ⊗ u) four 1076 w (const-real _ tt) (const-plus _ tt) (const-at_least _ _ tt)) wu second-test
 
     -- ---- a step
 
@@ -268,7 +232,7 @@ module _ (g : GeomRec) (k0 k1 : Float)
     -- c * step more, for a c of size 1 at most
     shifted : (x c w : Float) (k : ℕ) → k < 2000 → Real binary64 x → mag binary64 x ≤ (k + 4000000) * 2 ^ 1072 → Within binary64 c one → Plus binary64 w (2 ^ 1072) → Real binary64 (x ⊕ c ⊗ w) × (mag binary64 (x ⊕ c ⊗ w) ≤ (suc k + 4000000) * 2 ^ 1072)
     shifted x c w k h r l v q =
-        let m = mul_small binary64 c w 1074 1072 1072 (within-small c one 1074 v one-small) (plus-small binary64 w 1072 q) refl (lit< tt) in
+        let m = mul_small binary64 c w 1074 1072 1072 (within-small c one 1074 v (const-at_most _ _ tt)) (plus-small binary64 w 1072 q) refl (lit< tt) in
         let s = sum-next binary64 x (c ⊗ w) (k + 4000000) 1072 (few k h) (lit< tt) (lit< tt) r l m in
         (s.0, le_trans s.1 (le_of_eq (ap (λ (n : ℕ). n * 2 ^ 1072) (onward k))))
       where
@@ -288,7 +252,7 @@ module _ (g : GeomRec) (k0 k1 : Float)
         let b = before-end u (k * 2 ^ 1072) v.distance t in
         let step = step_at g.length u in
         let s = step-plus u b in
-        let m = ahead u (step ⊘ two) k h v.distance b (div-plus binary64 step two (pl binary64 g.length) s.0 (const-real _ tt) two-large) (div-plus binary64 step two (2 ^ 1072) s.1 (const-real _ tt) two-large) in
+        let m = ahead u (step ⊘ two) k h v.distance b (div-plus binary64 step two (pl binary64 g.length) s.0 (const-real _ tt) (const-at_least _ _ tt)) (div-plus binary64 step two (2 ^ 1072) s.1 (const-real _ tt) (const-at_least _ _ tt)) in
         let n = ahead u step k h v.distance b s.0 s.1 in
         let mid = u ⊕ step ⊘ two in
         let q = in_range_lem (heading_at g k0 k1 mid) (heading-within mid (plus-mono binary64 mid (suc k * 2 ^ 1072) (2000 * 2 ^ 1072) (up_to-2000 (suc k) h) m.0) m.1) in
@@ -310,9 +274,9 @@ module _ (g : GeomRec) (k0 k1 : Float)
           distance = zero-plus;
           short = le_trans zero-plus.le zero-le;
           x_real = wx.value;
-          x = le_trans wx.le million-small;
+          x = le_trans wx.le (const-at_most _ _ tt);
           y_real = wy.value;
-          y = le_trans wy.le million-small;
+          y = le_trans wy.le (const-at_most _ _ tt);
           heading = within-mono binary64 g.hdg greatest_heading sample-turn wh (const-real _ tt) (le_of-within binary64 greatest_heading sample-turn (const-within _ _ tt)).1;
         }
 
@@ -356,7 +320,7 @@ pub record SampleWithin (p : Sample) : Type 0 where
 shown : (a k : ℕ) (p : Sample) → k ≤ 1999 → Sampled a k p → SampleWithin p
 shown a k p h s =
     let v = s.distance in
-    let far = le_trans (mul-le-mul_right (2 ^ 1072) (let o : k + 4000000 ≤ 4002000 = omega arith in o)) far-large in
+    let far = le_trans (mul-le-mul_right (2 ^ 1072) (let o : k + 4000000 ≤ 4002000 = omega arith in o)) (const-at_least _ _ tt) in
     record {
       distance =
           record {
@@ -364,7 +328,7 @@ shown a k p h s =
             high = const-real _ tt;
             value = v.value;
             above = parts→le binary64 zero64 p.distance zero-plus.value v.value (le_trans zero-plus.le zero-le) (le_trans (le_of_eq v.plus) zero-le);
-            below = parts→le binary64 p.distance sample-end v.value (const-real _ tt) (le_trans v.le (le_trans (mul-le-mul_right (2 ^ 1072) h) end-large)) (le_trans (le_of_eq (const-plus _ tt)) zero-le);
+            below = parts→le binary64 p.distance sample-end v.value (const-real _ tt) (le_trans v.le (le_trans (mul-le-mul_right (2 ^ 1072) h) (const-at_least _ _ tt))) (le_trans (le_of_eq (const-plus _ tt)) zero-le);
           };
       x = record { value = s.x_real; bound = const-real _ tt; plus = const-plus _ tt; le = le_trans s.x far };
       y = record { value = s.y_real; bound = const-real _ tt; plus = const-plus _ tt; le = le_trans s.y far };
@@ -376,7 +340,7 @@ pub sample-within : (g : GeomRec) (k0 k1 : Float) → Within binary64 g.x greate
     → (i : ℕ) (d : Sample) → g.shape ≡ Spiral k0 k1 → spiral_steps g.length ≤ 1999 → i ≤ spiral_steps g.length → SampleWithin (get_or (geom_samples g) i d)
 sample-within g k0 k1 wx wy wh w0 w1 il i d e b h =
     let l = length-large g.length il in
-    let w = power_below (pl binary64 g.length) (lt_of_lt_of_le (pow_pos 1067) (le_trans hundredth-large l)) in
+    let w = power_below (pl binary64 g.length) (lt_of_lt_of_le (pow_pos 1067) (le_trans (const-at_least _ _ tt) l)) in
     shown w.0 i (get_or (geom_samples g) i d) (le_trans h b) (sampled-at g k0 k1 wx wy wh w0 w1 il w.0 w.1.0 w.1.1 i d e b h)
 
 -- a road that passes row 5 has no spiral of more steps

@@ -23,6 +23,7 @@ use Rattle.records.specs.declared.points.GeomShape.TheVariants.{Spiral}
 use Rattle.line_samples.specs.declared.points.Sample.{Sample}
 use Rattle.line_samples.specs.Samples.{end_margin, goes_on, whole_step, step_at, steps_from, most_steps, spiral_steps, first_sample, next_sample, later_samples, geom_samples}
 use Rattle.line_samples.proofs.SpiralLaws.{samples-are, samples-next}
+use Rattle.admission_laws.proofs.Constants.{const-at_least}
 use Rattle.admission_laws.proofs.Powers.{Plus, sub-plus}
 use Rattle.admission.specs.Limits.{greatest_place, greatest_heading, least_geom_length, greatest_geom_length}
 use Rattle.admission_laws.proofs.SampleBounds.{quarter-plus, not_below_zero_lem, length-plus, nano-below, sample-end, SampleWithin, sample-within}
@@ -80,10 +81,6 @@ module _ (f : Format) (len u v q : Float) (s J K : ℕ) (rl : Real f len) (zl : 
   rises t r = let w = step-large (left t) in risen (cond (lt (sub f len u) q) (sub f len u) q) w.0 w.1 w.2 r
 
 -- ---- the constants
-quarter-large : 2 ^ 1043 ≤ pl binary64 whole_step
-unfolding of_bits pl
-quarter-large = lit≤ tt
-
 nano-large : 2 ^ (1088 - 53) + 2 * 2 ^ 1043 ≤ 2 * pl binary64 end_margin
 unfolding of_bits pl
 nano-large = lit≤ tt
@@ -131,7 +128,7 @@ module _ (g : GeomRec) (k0 k1 : Float)
       let n = samples-next g d k e h in
       let r : Real f (u ⊕ step_at g.length u) = subst (λ (p : Sample). Real f p.distance) n (at (suc k) h).distance.value in
       subst (λ (p : Sample). T (lt u p.distance)) (sym n)
-      (rises f g.length u end_margin whole_step 1043 1088 1083 il.value (length-plus g.length il) a.value zu (nano-below g.length il) quarter-plus.value quarter-plus.plus quarter-large
+      (rises f g.length u end_margin whole_step 1043 1088 1083 il.value (length-plus g.length il) a.value zu (nano-below g.length il) quarter-plus.value quarter-plus.plus (const-at_least _ _ tt)
       (lt_of_le_of_lt (le→parts f g.length greatest_geom_length il.value il.high il.below).0 ten-thousand-small)
       (under (pl f u) (pl f sample-end) (2 ^ 1043) (2 ^ 1083) (le→parts f u sample-end a.value a.high a.below).0 end-small) nano-large (lit< tt)
       (goes_at g k0 k1 k d e h) r)
