@@ -34,7 +34,7 @@ use Rattle.admission_laws.proofs.Fitting.{RoadFits}
 use Rattle.admission_laws.proofs.ActiveRecord.{found_at}
 use Rattle.records_lent.proofs.TestLaws.{and-fst, true-T}
 use Rattle.admission_laws.proofs.LimitParts.{arc-parts}
-use Rattle.admission_laws.proofs.RoadBounds.{OnRoad, station-within, geom-start-in}
+use Rattle.admission_laws.proofs.RoadBounds.{GeomWithin, OnRoad, station-within, geom-start-in}
 
 -- ---- the constants
 
@@ -120,7 +120,7 @@ module _ (road : Road) (fit : RoadFits road) (ok : limited road ≡ true) where
   away-within i h s o =
       let a = (geom_at road i).s in
       let d = sub_in binary64 zero64 greatest_length zero64 greatest_length s a (station-in s o) (station-in a (start-on i h)) low-finite high-finite in
-      let t = (const-real _ tt) in
+      let t : Real binary64 greatest_length = const-real _ tt in
       within-of_le binary64 (s ⊖ a) greatest_length d.value t
       (le_trans' binary64 (neg greatest_length) (zero64 ⊖ greatest_length) (s ⊖ a) (neg-real binary64 greatest_length t) d.low d.value low-order d.above)
       (le_trans' binary64 (s ⊖ a) (greatest_length ⊖ zero64) greatest_length d.value d.high t d.below high-order)
@@ -189,22 +189,22 @@ arc-order = tt
 chord-within : (a b k : Float) → Within binary64 a one → Within binary64 b one → Real binary64 k → pl binary64 least_arc_curvature ≤ mag binary64 k → Within binary64 ((a ⊖ b) ⊘ k) ((one ⊕ one) ⊘ least_arc_curvature)
 chord-within a b k v w r h = div-within binary64 (a ⊖ b) k (one ⊕ one) least_arc_curvature (sub_within binary64 a b one one v w two-finite) r (const-real _ tt) curve-pos h radius-finite
 
-module _ (g : GeomRec) (wx : Within binary64 g.x greatest_place) (wy : Within binary64 g.y greatest_place) (wh : Within binary64 g.hdg greatest_heading) (ds : Float) (wd : Within binary64 ds greatest_length) where
+module _ (g : GeomRec) (own : GeomWithin g) (ds : Float) (wd : Within binary64 ds greatest_length) where
   up_to-range : Within binary64 g.hdg sine_range
-  up_to-range = within-mono binary64 g.hdg greatest_heading sine_range wh (const-real _ tt) (le_of-within binary64 greatest_heading sine_range (const-within _ _ tt)).1
+  up_to-range = within-mono binary64 g.hdg greatest_heading sine_range own.hdg (const-real _ tt) (le_of-within binary64 greatest_heading sine_range (const-within _ _ tt)).1
 
   pub line_pose-within : PoseWithin (line_pose g ds) line-far greatest_heading
   unfolding line_pose
   line_pose-within =
       record {
-        x = sum-within g.x ds (cosine_of g.hdg) greatest_place greatest_length one line-far wx wd (cosine-within g.hdg up_to-range) line-test;
-        y = sum-within g.y ds (sine_of g.hdg) greatest_place greatest_length one line-far wy wd (sine-within g.hdg up_to-range) line-test;
-        heading = wh;
+        x = sum-within g.x ds (cosine_of g.hdg) greatest_place greatest_length one line-far own.x wd (cosine-within g.hdg up_to-range) line-test;
+        y = sum-within g.y ds (sine_of g.hdg) greatest_place greatest_length one line-far own.y wd (sine-within g.hdg up_to-range) line-test;
+        heading = own.hdg;
       }
 
   module _ (k : Float) (wk : Within binary64 k one) (h : pl binary64 least_arc_curvature ≤ mag binary64 k) where
     pub arc-heading-within : Within binary64 (g.hdg ⊕ k ⊗ ds) arc-turn
-    arc-heading-within = sum-within g.hdg k ds greatest_heading one greatest_length arc-turn wh wk wd turn-test
+    arc-heading-within = sum-within g.hdg k ds greatest_heading one greatest_length arc-turn own.hdg wk wd turn-test
 
     turned : Within binary64 (g.hdg ⊕ k ⊗ ds) sine_range
     turned = within-mono binary64 (g.hdg ⊕ k ⊗ ds) arc-turn sine_range arc-heading-within (const-real _ tt) (le_of-within binary64 arc-turn sine_range (const-within _ _ tt)).1
@@ -217,7 +217,7 @@ module _ (g : GeomRec) (wx : Within binary64 g.x greatest_place) (wy : Within bi
         let sx = (sine_of t ⊖ sine_of g.hdg) ⊘ k in
         let cy = (cosine_of t ⊖ cosine_of g.hdg) ⊘ k in
         record {
-          x = within-mono binary64 (g.x ⊕ sx) (greatest_place ⊕ R) arc-far (add-within binary64 g.x sx greatest_place R wx (chord-within (sine_of t) (sine_of g.hdg) k (sine-within t turned) (sine-within g.hdg up_to-range) wk.value h) arc-finite) (const-real _ tt) arc-order;
-          y = within-mono binary64 (g.y ⊖ cy) (greatest_place ⊕ R) arc-far (sub_within binary64 g.y cy greatest_place R wy (chord-within (cosine_of t) (cosine_of g.hdg) k (cosine-within t turned) (cosine-within g.hdg up_to-range) wk.value h) arc-finite) (const-real _ tt) arc-order;
+          x = within-mono binary64 (g.x ⊕ sx) (greatest_place ⊕ R) arc-far (add-within binary64 g.x sx greatest_place R own.x (chord-within (sine_of t) (sine_of g.hdg) k (sine-within t turned) (sine-within g.hdg up_to-range) wk.value h) arc-finite) (const-real _ tt) arc-order;
+          y = within-mono binary64 (g.y ⊖ cy) (greatest_place ⊕ R) arc-far (sub_within binary64 g.y cy greatest_place R own.y (chord-within (cosine_of t) (cosine_of g.hdg) k (cosine-within t turned) (cosine-within g.hdg up_to-range) wk.value h) arc-finite) (const-real _ tt) arc-order;
           heading = arc-heading-within;
         }

@@ -28,7 +28,7 @@ use Rattle.line_pose.proofs.PoseLaws.{segment-in}
 use Rattle.admission.specs.Limits.{greatest_length, greatest_heading, shape_limited, limited}
 use Rattle.admission_laws.proofs.Constants.{const-at_most, const-plus, const-real, const-within}
 use Rattle.admission_laws.proofs.Fitting.{Fits64, ShapeFits, RoadFits}
-use Rattle.admission_laws.proofs.RoadBounds.{OnRoad, geom-x-within, geom-y-within, geom-hdg-within, geom-length-in, geom-shape-passes, arc-within, spiral-within}
+use Rattle.admission_laws.proofs.RoadBounds.{OnRoad, geom-within, geom-shape-passes, arc-within, spiral-within}
 use Rattle.admission_laws.proofs.Powers.{Plus, none_below, sub-plus, ratio-plus, sub-above}
 use Rattle.admission_laws.proofs.SpiralFirst.{admitted-count}
 use Rattle.admission_laws.proofs.Geometry.{line-far, arc-far, arc-turn, PoseWithin, pose-mono, index_below, away-within, arc-curved, line_pose-within, arc_pose-within}
@@ -229,11 +229,11 @@ module _ (road : Road) (fit : RoadFits road) (ok : limited road ≡ true) (few :
     held-within k h =
         let c = count-spiral (geom_at road i) e refl in
         subst SampleWithin (sym (samples-held road rest i k no_sample h))
-        (sample-within (geom_at road i) k0 k1 (geom-x-within road fit ok i below) (geom-y-within road fit ok i below) (geom-hdg-within road fit ok i below) curves.0 curves.1 (geom-length-in road fit ok i below) k no_sample e (few-steps road i below e few)
+        (sample-within (geom_at road i) k0 k1 (geom-within road fit ok i below) curves.0 curves.1 k no_sample e (few-steps road i below e few)
         (let o : k ≤ spiral_steps (geom_at road i).length = omega arith in o))
 
     pub two-samples : 2 ≤ sample_count (geom_at road i)
-    two-samples = let l = geom-length-in road fit ok i below in admitted-count (geom_at road i) e (fit.geoms i).length l.above l.below
+    two-samples = let l = (geom-within road fit ok i below).length in admitted-count (geom_at road i) e (fit.geoms i).length l.above l.below
 
     pub first-zero : (sample_at (samples_of road ++ rest) (samples_before road i) 0).distance ≡ zero64
     first-zero =
@@ -245,7 +245,7 @@ module _ (road : Road) (fit : RoadFits road) (ok : limited road ≡ true) (few :
         let c = count-spiral g e refl in
         subst (λ (p : Sample). T (lt p.distance (sample_at (samples_of road ++ rest) (samples_before road i) (suc k)).distance)) (sym (samples-held road rest i k no_sample (let o : k < sample_count g = omega arith in o)))
         (subst (λ (p : Sample). T (lt (get_or (geom_samples g) k no_sample).distance p.distance)) (sym (samples-held road rest i (suc k) no_sample h))
-        (samples-rise g k0 k1 (geom-x-within road fit ok i below) (geom-y-within road fit ok i below) (geom-hdg-within road fit ok i below) curves.0 curves.1 (geom-length-in road fit ok i below) e (few-steps road i below e few) no_sample k
+        (samples-rise g k0 k1 (geom-within road fit ok i below) curves.0 curves.1 e (few-steps road i below e few) no_sample k
         (let o : k < spiral_steps g.length = omega arith in o)))
 
   module _ (s : Float) (o : OnRoad road s) where
@@ -255,13 +255,13 @@ module _ (road : Road) (fit : RoadFits road) (ok : limited road ≡ true) (few :
     on_line : PoseWithin (line_pose (geom_at road i) (s ⊖ (geom_at road i).s)) pose-far sine_range
     on_line =
         pose-mono (line_pose (geom_at road i) (s ⊖ (geom_at road i).s)) line-far pose-far greatest_heading sine_range
-        (line_pose-within (geom_at road i) (geom-x-within road fit ok i below) (geom-y-within road fit ok i below) (geom-hdg-within road fit ok i below) (s ⊖ (geom_at road i).s) away) (const-within _ _ tt) (const-within _ _ tt)
+        (line_pose-within (geom_at road i) (geom-within road fit ok i below) (s ⊖ (geom_at road i).s) away) (const-within _ _ tt) (const-within _ _ tt)
 
     on-arc : (k : Float) → Fits64 k → shape_limited (Arc k) ≡ true → T (lt straight_curvature (abs_of k)) → PoseWithin (arc_pose (geom_at road i) k (s ⊖ (geom_at road i).s)) pose-far sine_range
     on-arc k f e h =
         let w = arc-within k f e in
         pose-mono (arc_pose (geom_at road i) k (s ⊖ (geom_at road i).s)) arc-far pose-far arc-turn sine_range
-        (arc_pose-within (geom_at road i) (geom-x-within road fit ok i below) (geom-y-within road fit ok i below) (geom-hdg-within road fit ok i below) (s ⊖ (geom_at road i).s) away k w (arc-curved k w.value e h)) (const-within _ _ tt) (const-within _ _ tt)
+        (arc_pose-within (geom_at road i) (geom-within road fit ok i below) (s ⊖ (geom_at road i).s) away k w (arc-curved k w.value e h)) (const-within _ _ tt) (const-within _ _ tt)
 
     by_shape : (shape : GeomShape) → (geom_at road i).shape ≡ shape → ShapeFits shape → shape_limited shape ≡ true → PoseWithin (pose_by road (samples_of road ++ rest) i (s ⊖ (geom_at road i).s) shape) pose-far sine_range
     by_shape Line e f l = on_line

@@ -16,6 +16,7 @@ use Rattle.float_laws.proofs.Value.{Real, le_trans', nle→le, neg-real}
 use Rattle.float_laws.proofs.Interval.{In, in-of_le}
 use Rattle.float_laws.proofs.Size.{Within, within-of_le, le_of-within, within-mono, sub_within, size, size-nn, size-within, fin-of_le}
 use Rattle.records_cubic.specs.declared.cubics.Cubic.{Cubic}
+use Rattle.records.specs.declared.points.GeomRec.{GeomRec}
 use Rattle.records.specs.declared.points.GeomShape.TheVariants.{Arc, Spiral}
 use Rattle.records_cubic.specs.Cubics.{cubic_at}
 use Rattle.records.specs.Active.{value_in, slope_in, active_up_to}
@@ -62,6 +63,13 @@ pub record InSection (road : Road) (i : ℕ) (x : Float) : Type 0 where
   pub fits : Fits64 x
   pub above : T (le (neg reach_margin) x)
   pub below : T (le x (section_extent road i))
+
+-- a geometry's own numbers
+pub record GeomWithin (g : GeomRec) : Type 0 where
+  pub x : Within binary64 g.x greatest_place
+  pub y : Within binary64 g.y greatest_place
+  pub hdg : Within binary64 g.hdg greatest_heading
+  pub length : In binary64 least_geom_length greatest_geom_length g.length
 
 -- from -80 to 80
 pub record Across (t : Float) : Type 0 where
@@ -154,17 +162,14 @@ module _ (road : Road) (fit : RoadFits road) (ok : limited road ≡ true) where
     pub geom-start-in : In binary64 zero64 road.length (geom_at road i).s
     geom-start-in = range-in zero64 road.length (geom_at road i).s (const-real _ tt) length-in.value (fit.geoms i).s geom-limits.s
 
-    pub geom-x-within : Within binary64 (geom_at road i).x greatest_place
-    geom-x-within = sized-within greatest_place (geom_at road i).x (const-real _ tt) (fit.geoms i).x geom-limits.x
-
-    pub geom-y-within : Within binary64 (geom_at road i).y greatest_place
-    geom-y-within = sized-within greatest_place (geom_at road i).y (const-real _ tt) (fit.geoms i).y geom-limits.y
-
-    pub geom-hdg-within : Within binary64 (geom_at road i).hdg greatest_heading
-    geom-hdg-within = sized-within greatest_heading (geom_at road i).hdg (const-real _ tt) (fit.geoms i).hdg geom-limits.hdg
-
-    pub geom-length-in : In binary64 least_geom_length greatest_geom_length (geom_at road i).length
-    geom-length-in = range-in least_geom_length greatest_geom_length (geom_at road i).length (const-real _ tt) (const-real _ tt) (fit.geoms i).length geom-limits.length
+    pub geom-within : GeomWithin (geom_at road i)
+    geom-within =
+        record {
+          x = sized-within greatest_place (geom_at road i).x (const-real _ tt) (fit.geoms i).x geom-limits.x;
+          y = sized-within greatest_place (geom_at road i).y (const-real _ tt) (fit.geoms i).y geom-limits.y;
+          hdg = sized-within greatest_heading (geom_at road i).hdg (const-real _ tt) (fit.geoms i).hdg geom-limits.hdg;
+          length = range-in least_geom_length greatest_geom_length (geom_at road i).length (const-real _ tt) (const-real _ tt) (fit.geoms i).length geom-limits.length;
+        }
 
     pub geom-shape-passes : shape_limited (geom_at road i).shape ≡ true
     geom-shape-passes = geom-limits.shape

@@ -26,8 +26,9 @@ use Rattle.records.specs.Roads.{Road, geom_at}
 use Rattle.line_samples.specs.declared.points.Sample.{Sample}
 use Rattle.line_samples.specs.Samples.{most_samples, end_margin, goes_on, whole_step, step_at, steps_from, most_steps, spiral_steps, sample_count, samples_before, samples_needed, no_turn_length, turn_rate, heading_at, first_sample, next_sample, later_samples, geom_samples}
 use Rattle.line_samples.proofs.SpiralLaws.{count-spiral, before-next, before-mono, samples-are}
-use Rattle.admission.specs.Limits.{greatest_place, greatest_heading, least_geom_length, greatest_geom_length}
+use Rattle.admission.specs.Limits.{greatest_heading, least_geom_length, greatest_geom_length}
 use Rattle.admission_laws.proofs.Constants.{const-at_least, const-at_most, const-plus, const-real, const-within}
+use Rattle.admission_laws.proofs.RoadBounds.{GeomWithin}
 use Rattle.admission_laws.proofs.Powers.{Small, mul_small, div-small, Plus, none_below, plus-small, plus-mono, sub-plus, lesser-plus, div-plus, add-plus, sum-next, power_below}
 use Rattle.admission_laws.proofs.Geometry.{sum-passes, sum-within}
 
@@ -175,14 +176,13 @@ record Sampled (a k : ℕ) (p : Sample) : Type 0 where
   heading : Within binary64 p.heading sample-turn
 
 module _ (g : GeomRec) (k0 k1 : Float)
-    (wx : Within binary64 g.x greatest_place) (wy : Within binary64 g.y greatest_place) (wh : Within binary64 g.hdg greatest_heading)
-    (w0 : Within binary64 k0 one) (w1 : Within binary64 k1 one) (il : In binary64 least_geom_length greatest_geom_length g.length) where
+    (own : GeomWithin g) (w0 : Within binary64 k0 one) (w1 : Within binary64 k1 one) where
   module _ (a : ℕ) (la : 2 ^ a ≤ pl binary64 g.length) (ha : pl binary64 g.length ≤ 2 ^ suc a) where
     a-high : a ≤ 1088
-    a-high = exponent a 1088 (le_trans la (le_trans (le→parts binary64 g.length greatest_geom_length il.value il.high il.below).0 (const-at_most _ _ tt)))
+    a-high = exponent a 1088 (le_trans la (le_trans (le→parts binary64 g.length greatest_geom_length own.length.value own.length.high own.length.below).0 (const-at_most _ _ tt)))
 
     a-low : 1066 ≤ a
-    a-low = le_of_suc-le-suc (exponent 1067 (suc a) (le_trans (const-at_least _ _ tt) (le_trans (length-large g.length il) ha)))
+    a-low = le_of_suc-le-suc (exponent 1067 (suc a) (le_trans (const-at_least _ _ tt) (le_trans (length-large g.length own.length) ha)))
 
     -- ---- the heading
 
@@ -191,7 +191,7 @@ module _ (g : GeomRec) (k0 k1 : Float)
       where
         go : (b : Bool) → Small binary64 (cond b ((k1 ⊖ k0) ⊘ g.length) zero64) (2149 - a)
         go true =
-            div-small binary64 (k1 ⊖ k0) g.length 1075 a (2149 - a) (within-small (k1 ⊖ k0) (one ⊕ one) 1075 (sub_within binary64 k1 k0 one one w1 w0 twice-finite) twice-small) il.value la (sum-rate a a-high) (room-rate a a-low)
+            div-small binary64 (k1 ⊖ k0) g.length 1075 a (2149 - a) (within-small (k1 ⊖ k0) (one ⊕ one) 1075 (sub_within binary64 k1 k0 one one w1 w0 twice-finite) twice-small) own.length.value la (sum-rate a a-high) (room-rate a a-low)
         go false = zero-small (2149 - a)
 
     heading-within : (u : Float) → Plus binary64 u (2000 * 2 ^ 1072) → pl binary64 u ≤ 2 ^ suc (suc a) → Within binary64 (heading_at g k0 k1 u) sample-turn
@@ -201,19 +201,19 @@ module _ (g : GeomRec) (k0 k1 : Float)
         let e = mul_small binary64 half c 1073 (2149 - a) (2148 - a) half-small rate-small (sum-half a a-high) (room-half a a-low) in
         let w = mul_small binary64 (half ⊗ c) u (2148 - a) (suc (suc a)) 1076 e (plus-small binary64 u (suc (suc a)) (record { value = v.value; plus = v.plus; le = l })) (sum-four a a-high) (lit< tt) in
         sum-within (g.hdg ⊕ k0 ⊗ u) (half ⊗ c ⊗ u) u fifteen-hundred four five-hundred sample-turn
-        (sum-within g.hdg k0 u greatest_heading one five-hundred fifteen-hundred wh w0 wu first-test) (small-within (half ⊗ c ⊗ u) four 1076 w (const-real _ tt) (const-plus _ tt) (const-at_least _ _ tt)) wu second-test
+        (sum-within g.hdg k0 u greatest_heading one five-hundred fifteen-hundred own.hdg w0 wu first-test) (small-within (half ⊗ c ⊗ u) four 1076 w (const-real _ tt) (const-plus _ tt) (const-at_least _ _ tt)) wu second-test
 
     -- ---- a step
 
     near-end : Plus binary64 (g.length ⊖ end_margin) (pl binary64 g.length)
-    near-end = sub-plus binary64 g.length end_margin il.value (length-plus g.length il) (nano-below g.length il)
+    near-end = sub-plus binary64 g.length end_margin own.length.value (length-plus g.length own.length) (nano-below g.length own.length)
 
     before-end : (u : Float) (M : ℕ) → Plus binary64 u M → T (goes_on g.length u) → Plus binary64 u (pl binary64 g.length)
     unfolding goes_on
     before-end u M v t = below binary64 u (g.length ⊖ end_margin) (pl binary64 g.length) v.value v.plus near-end t
 
     step-plus : (u : Float) → Plus binary64 u (pl binary64 g.length) → Plus binary64 (step_at g.length u) (pl binary64 g.length) × Plus binary64 (step_at g.length u) (2 ^ 1072)
-    step-plus u v = lesser-plus binary64 (g.length ⊖ u) whole_step (pl binary64 g.length) (2 ^ 1072) (sub-plus binary64 g.length u il.value (length-plus g.length il) v) quarter-plus
+    step-plus u v = lesser-plus binary64 (g.length ⊖ u) whole_step (pl binary64 g.length) (2 ^ 1072) (sub-plus binary64 g.length u own.length.value (length-plus g.length own.length) v) quarter-plus
 
     ahead : (u w : Float) (k : ℕ) → k < 2000 → Plus binary64 u (k * 2 ^ 1072) → Plus binary64 u (pl binary64 g.length) → Plus binary64 w (pl binary64 g.length) → Plus binary64 w (2 ^ 1072)
         → Plus binary64 (u ⊕ w) (suc k * 2 ^ 1072) × (pl binary64 (u ⊕ w) ≤ 2 ^ suc (suc a))
@@ -273,11 +273,11 @@ module _ (g : GeomRec) (k0 k1 : Float)
         record {
           distance = zero-plus;
           short = le_trans zero-plus.le zero-le;
-          x_real = wx.value;
-          x = le_trans wx.le (const-at_most _ _ tt);
-          y_real = wy.value;
-          y = le_trans wy.le (const-at_most _ _ tt);
-          heading = within-mono binary64 g.hdg greatest_heading sample-turn wh (const-real _ tt) (le_of-within binary64 greatest_heading sample-turn (const-within _ _ tt)).1;
+          x_real = own.x.value;
+          x = le_trans own.x.le (const-at_most _ _ tt);
+          y_real = own.y.value;
+          y = le_trans own.y.le (const-at_most _ _ tt);
+          heading = within-mono binary64 g.hdg greatest_heading sample-turn own.hdg (const-real _ tt) (le_of-within binary64 greatest_heading sample-turn (const-within _ _ tt)).1;
         }
 
     -- ---- all samples: i steps after p, where k are made before; the test of going on is an argument, as in `steps_from`
@@ -336,12 +336,12 @@ shown a k p h s =
     }
 
 -- every sample of a spiral of at most 1,999 steps
-pub sample-within : (g : GeomRec) (k0 k1 : Float) → Within binary64 g.x greatest_place → Within binary64 g.y greatest_place → Within binary64 g.hdg greatest_heading → Within binary64 k0 one → Within binary64 k1 one → In binary64 least_geom_length greatest_geom_length g.length
+pub sample-within : (g : GeomRec) (k0 k1 : Float) → GeomWithin g → Within binary64 k0 one → Within binary64 k1 one
     → (i : ℕ) (d : Sample) → g.shape ≡ Spiral k0 k1 → spiral_steps g.length ≤ 1999 → i ≤ spiral_steps g.length → SampleWithin (get_or (geom_samples g) i d)
-sample-within g k0 k1 wx wy wh w0 w1 il i d e b h =
-    let l = length-large g.length il in
+sample-within g k0 k1 own w0 w1 i d e b h =
+    let l = length-large g.length own.length in
     let w = power_below (pl binary64 g.length) (lt_of_lt_of_le (pow_pos 1067) (le_trans (const-at_least _ _ tt) l)) in
-    shown w.0 i (get_or (geom_samples g) i d) (le_trans h b) (sampled-at g k0 k1 wx wy wh w0 w1 il w.0 w.1.0 w.1.1 i d e b h)
+    shown w.0 i (get_or (geom_samples g) i d) (le_trans h b) (sampled-at g k0 k1 own w0 w1 w.0 w.1.0 w.1.1 i d e b h)
 
 -- a road that passes row 5 has no spiral of more steps
 pub few-steps : (road : Road) (i : ℕ) {k0 k1 : Float} → i < length road.geoms → (geom_at road i).shape ≡ Spiral k0 k1 → samples_needed road ≤ most_samples → spiral_steps (geom_at road i).length ≤ 1999
