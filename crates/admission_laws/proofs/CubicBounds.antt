@@ -334,7 +334,7 @@ unfolding slopes_within
 slope-passes cs end m p i h =
     true-T (le (slope_bound_of (cubic_at cs i) (reach_at cs end i)) m) (all-at (λ k. le (slope_bound_of (cubic_at cs k) (reach_at cs end k)) m) (length cs) p i h)
 
-module _ (cs : List Cubic) (lo hi end limit s : Float) (r : Ready cs lo hi end limit s) where
+module _ {cs : List Cubic} {lo hi end limit s : Float} (r : Ready cs lo hi end limit s) where
   passes : (i : ℕ) → i < length cs → cubic_within cs lo hi end limit i ≡ true
   unfolding cubics_within
   passes i h = all-at (cubic_within cs lo hi end limit) (length cs) r.passed i h

@@ -72,20 +72,20 @@ greatest-over f (suc n) h i l =
 
 -- ---- the value of a list
 
-module _ (cs : List Cubic) (lo hi end limit s : Float) (r : Ready cs lo hi end limit s) where
+module _ {cs : List Cubic} {lo hi end limit s : Float} (r : Ready cs lo hi end limit s) where
   pub greatest-real : Within binary64 (greatest_bound cs end) (greatest_bound cs end)
   unfolding greatest_bound
-  greatest-real = greatest-own (bound_at cs end) (length cs) (bound_real cs lo hi end limit s r)
+  greatest-real = greatest-own (bound_at cs end) (length cs) (bound_real r)
 
   bound-under : (i : ℕ) → i < length cs → T (le (bound_at cs end i) (greatest_bound cs end))
   unfolding greatest_bound
-  bound-under i h = greatest-over (bound_at cs end) (length cs) (bound_real cs lo hi end limit s r) i h
+  bound-under i h = greatest-over (bound_at cs end) (length cs) (bound_real r) i h
 
   pub greatest-within : Within binary64 (value_in cs s) (greatest_bound cs end)
   greatest-within = go (active_in cs s) refl
     where
       go : (x : Option ℕ) → active_in cs s ≡ x → Within binary64 (value_in cs s) (greatest_bound cs end)
-      go (Some i) e = within-mono binary64 (value_in cs s) (bound_at cs end i) (greatest_bound cs end) (active-within cs lo hi end limit s r i e) greatest-real.bound (bound-under i (active-at cs s i e).below)
+      go (Some i) e = within-mono binary64 (value_in cs s) (bound_at cs end i) (greatest_bound cs end) (active-within r i e) greatest-real.bound (bound-under i (active-at cs s i e).below)
       go None e = subst (λ (v : Float). Within binary64 v (greatest_bound cs end)) (sym (value_none cs s e)) (zero-within (greatest_bound cs end) greatest-real)
 
 -- ---- Horner

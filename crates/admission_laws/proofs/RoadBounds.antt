@@ -131,7 +131,7 @@ module _ (road : Road) (fit : RoadFits road) (ok : limited road ≡ true) where
 
   module _ (s : Float) (o : OnRoad road s) where
     list-within : (cs : List Cubic) (limit : Float) → CubicsFit cs → Within binary64 zero64 limit → road_cubics_within road cs limit ≡ true → Within binary64 (value_in cs s) limit
-    list-within cs limit f b p = value-within cs zero64 road.length road.length limit s (along cs limit s o f b p)
+    list-within cs limit f b p = value-within (along cs limit s o f b p)
 
     -- 10,000
     pub elevation-within : Within binary64 (value_in road.elevations s) greatest_elevation
@@ -140,7 +140,7 @@ module _ (road : Road) (fit : RoadFits road) (ok : limited road ≡ true) where
     -- 1
     pub grade-within : Within binary64 (slope_in road.elevations s) greatest_grade
     grade-within =
-        slope_within_lem road.elevations zero64 road.length road.length greatest_elevation s (along road.elevations greatest_elevation s o fit.elevations (const-within _ _ tt) parts.elevations)
+        slope_within_lem (along road.elevations greatest_elevation s o fit.elevations (const-within _ _ tt) parts.elevations)
         greatest_grade (const-within _ _ tt) parts.slopes
 
     -- 0.75
@@ -242,7 +242,7 @@ module _ (road : Road) (fit : RoadFits road) (ok : limited road ≡ true) where
 
       -- 36 of a border lane, 8 of a width lane
       pub lane_within_lem : (x : Float) → InSection road i x → Within binary64 (value_in (lane_of road i right k).extents x) (lane_limit (lane_of road i right k))
-      lane_within_lem x d = value-within (lane_of road i right k).extents (neg largest) largest (section_extent road i) (lane_limit (lane_of road i right k)) x (lane-ready x d)
+      lane_within_lem x d = value-within (lane-ready x d)
 
       pub width-within : (x : Float) → InSection road i x → (lane_of road i right k).border ≡ false → Within binary64 (value_in (lane_of road i right k).extents x) greatest_width
       width-within x d e =
@@ -289,11 +289,11 @@ module _ (road : Road) (fit : RoadFits road) (ok : limited road ≡ true) where
 
     pub shape-within : (t : Float) → Across t → Within binary64 (value_in (profile_at road i).shapes t) greatest_shape
     shape-within t a =
-        value-within (profile_at road i).shapes (neg greatest_shape_start) greatest_shape_start shapes_end greatest_shape t (shapes-ready t a)
+        value-within (shapes-ready t a)
 
     pub shape-constant-within : (j : ℕ) → j < length (profile_at road i).shapes → Within binary64 (cubic_at (profile_at road i).shapes j).a greatest_shape
     shape-constant-within j l =
-        constant-within (profile_at road i).shapes (neg greatest_shape_start) greatest_shape_start shapes_end greatest_shape zero64 (shapes-ready zero64 in-the-middle) j l
+        constant-within (shapes-ready zero64 in-the-middle) j l
 
   -- ---- strips: a width is at most 100, each term at most its greatest bound, the height across at most 88 at most 40
   module _ (i : ℕ) (h : i < 4) (s : Float) (o : OnRoad road s) where
@@ -305,7 +305,7 @@ module _ (road : Road) (fit : RoadFits road) (ok : limited road ≡ true) where
 
     pub term-within : (term : ℕ) → term < 4 → Within binary64 (value_in (column_of (strip_at road i) (term + 1)) s) (term_bound road (strip_at road i) term)
     term-within term l =
-        greatest-within (column_of (strip_at road i) (term + 1)) zero64 road.length road.length largest s (along (column_of (strip_at road i) (term + 1)) largest s o (fit.columns i (term + 1)) (const-within _ _ tt) (strip-limits.terms term l))
+        greatest-within (along (column_of (strip_at road i) (term + 1)) largest s o (fit.columns i (term + 1)) (const-within _ _ tt) (strip-limits.terms term l))
 
     -- by Horner from 0, as the strip's height is worked out
     pub strip_height-within :
