@@ -3,12 +3,14 @@ use Prim.Native.Nat.{ℕ, ◌+◌, ◌*◌, ◌/◌, ◌<◌, ◌≤◌}
 use native.Mathlib.Omega.{arith}
 use native.Mathlib.Nat.{add_assoc}
 use mathlib.Core.Path.{◌≡◌, refl, ap, ◌∙◌, sym, subst}
+use mathlib.Core.Logic.{⊎_elim}
 use mathlib.Core.Bool.{Bool, true, false, ◌&&◌, ◌||◌}
 use mathlib.Core.List.{List, [], ◌∷◌}
 use lib.ListN.{length, get_or, drop, length-take, length-drop}
 use lib.Dec.{leb, ltb, eqb}
 use lib.Ieee.{Float}
 use borrow.Author.Tests.{leb-true, ltb-true, ltb-false}
+use Rattle.std.proofs.lemmas.Bool.{cases_lt}
 use Rattle.records_lent.specs.Lists.{span, all_below}
 use Rattle.records.specs.declared.points.Mark.{Mark}
 use Rattle.records.specs.Roads.{Road, Section, Lane, Profile, road_of, word_at, cubics_in, heights_in, lane_in, profile_in, column_in, section_of, lane_of, no_lane, profile_at, strip_at, column_of, mark_in, mark_at}
@@ -110,22 +112,18 @@ module _ (words : List ℕ) (numbers : List Float) where
 
   module _ (i : ℕ) (h : i < get_or words 5 0) (s : SectionFew i) where
     left_lane : (k : ℕ) → LaneFew (lane_of road i false k)
-    left_lane k = go (ltb k (get_or words (72 + i * 3) 0)) refl
-      where
-        go : (b : Bool) → ltb k (get_or words (72 + i * 3) 0) ≡ b → LaneFew (lane_of road i false k)
-        go true l =
-            let m = ltb-true k (get_or words (72 + i * 3) 0) l in
-            rw (left_lane-in words numbers i k h m) (lane-few (get_or words (71 + i * 3) 0 + k) (s.lanes k (omega arith)))
-        go false l = rw (left_lane-past words numbers i k h (ltb-false k (get_or words (72 + i * 3) 0) l)) none-few
+    left_lane k =
+        ⊎_elim
+        (λ l. rw (left_lane-in words numbers i k h l) (lane-few (get_or words (71 + i * 3) 0 + k) (s.lanes k (omega arith))))
+        (λ l. rw (left_lane-past words numbers i k h l) none-few)
+        (cases_lt k (get_or words (72 + i * 3) 0))
 
     right_lane : (k : ℕ) → LaneFew (lane_of road i true k)
-    right_lane k = go (ltb k (get_or words (73 + i * 3) 0)) refl
-      where
-        go : (b : Bool) → ltb k (get_or words (73 + i * 3) 0) ≡ b → LaneFew (lane_of road i true k)
-        go true l =
-            let m = ltb-true k (get_or words (73 + i * 3) 0) l in
-            rw (right_lane-in words numbers i k h m, add_assoc (get_or words (71 + i * 3) 0) (get_or words (72 + i * 3) 0) k) (lane-few (get_or words (71 + i * 3) 0 + (get_or words (72 + i * 3) 0 + k)) (s.lanes (get_or words (72 + i * 3) 0 + k) (omega arith)))
-        go false l = rw (right_lane-past words numbers i k h (ltb-false k (get_or words (73 + i * 3) 0) l)) none-few
+    right_lane k =
+        ⊎_elim
+        (λ l. rw (right_lane-in words numbers i k h l, add_assoc (get_or words (71 + i * 3) 0) (get_or words (72 + i * 3) 0) k) (lane-few (get_or words (71 + i * 3) 0 + (get_or words (72 + i * 3) 0 + k)) (s.lanes (get_or words (72 + i * 3) 0 + k) (omega arith))))
+        (λ l. rw (right_lane-past words numbers i k h l) none-few)
+        (cases_lt k (get_or words (73 + i * 3) 0))
 
   -- ---- profiles and strips
   shapes-few : (i : ℕ) → 8449 ≤ length numbers → i < get_or words 6 0 → profile_ok words i ≡ true → Counted 1 16 (length (profile_at road i).shapes)
@@ -189,11 +187,11 @@ module _ (words : List ℕ) (numbers : List Float) where
     in-marks i l = marks-few i (all-at (marks_ok words) (get_or words 5 0) e i l)
 
     marks-most : (i : ℕ) → length (section_of road i).marks ≤ 16
-    marks-most i = go (ltb i (get_or words 5 0)) refl
-      where
-        go : (b : Bool) → ltb i (get_or words 5 0) ≡ b → length (section_of road i).marks ≤ 16
-        go true l = let m = ltb-true i (get_or words 5 0) l in rw (mark_count_lem words numbers i m) (in-marks i m).few
-        go false l = rw (section-past words numbers i (ltb-false i (get_or words 5 0) l)) (omega arith)
+    marks-most i =
+        ⊎_elim
+        (λ l. rw (mark_count_lem words numbers i l) (in-marks i l).few)
+        (λ l. rw (section-past words numbers i l) (omega arith))
+        (cases_lt i (get_or words 5 0))
 
     marks-on : (i j : ℕ) → j < length (section_of road i).marks → (mark_at road i j).lane < length (section_of road i).left + length (section_of road i).right
     unfolding mark_in
@@ -236,18 +234,18 @@ module _ (words : List ℕ) (numbers : List Float) where
     in-section i l = section-few i (all-at (section_ok words) (get_or words 5 0) e i l)
 
     lefts : (i : ℕ) → length (section_of road i).left ≤ 6
-    lefts i = go (ltb i (get_or words 5 0)) refl
-      where
-        go : (b : Bool) → ltb i (get_or words 5 0) ≡ b → length (section_of road i).left ≤ 6
-        go true l = let m = ltb-true i (get_or words 5 0) l in rw (left_count_lem words numbers i m) (in-section i m).left
-        go false l = rw (section-past words numbers i (ltb-false i (get_or words 5 0) l)) (omega arith)
+    lefts i =
+        ⊎_elim
+        (λ l. rw (left_count_lem words numbers i l) (in-section i l).left)
+        (λ l. rw (section-past words numbers i l) (omega arith))
+        (cases_lt i (get_or words 5 0))
 
     rights : (i : ℕ) → length (section_of road i).right ≤ 6
-    rights i = go (ltb i (get_or words 5 0)) refl
-      where
-        go : (b : Bool) → ltb i (get_or words 5 0) ≡ b → length (section_of road i).right ≤ 6
-        go true l = let m = ltb-true i (get_or words 5 0) l in rw (right_count_lem words numbers i m) (in-section i m).right
-        go false l = rw (section-past words numbers i (ltb-false i (get_or words 5 0) l)) (omega arith)
+    rights i =
+        ⊎_elim
+        (λ l. rw (right_count_lem words numbers i l) (in-section i l).right)
+        (λ l. rw (section-past words numbers i l) (omega arith))
+        (cases_lt i (get_or words 5 0))
 
     lanes-few : (i k : ℕ) (right : Bool) → LaneFew (lane_of road i right k)
     lanes-few i k right = go right (ltb i (get_or words 5 0)) refl
