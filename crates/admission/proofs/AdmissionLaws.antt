@@ -1,12 +1,12 @@
 -- What admission says of a road, and how a call goes on whose rows begin with the road's. The rows are one list, so each law is one of RowLaws at that list.
 use Prim.Native.Nat.{ℕ, ◌≤◌}
-use native.Mathlib.Omega.{arith}
-use mathlib.Core.Path.{◌≡◌, refl}
-use mathlib.Core.Bool.{Bool, true, false, ◌&&◌}
+use mathlib.Core.Path.{◌≡◌}
+use mathlib.Core.Bool.{true, ◌&&◌}
 use mathlib.Core.List.{List, ◌++◌}
 use lib.Dec.{leb}
 use lib.Ieee.{Float}
 use borrow.Author.Tests.{leb-true}
+use Rattle.std.proofs.lemmas.Bool.{and_parts}
 use Rattle.refusals.specs.Answer.{Answer, value, Row, checked}
 use Rattle.records.specs.Roads.{road_of}
 use Rattle.admission_structure.specs.Structure.{structured}
@@ -15,10 +15,6 @@ use Rattle.admission.specs.Limits.{limited}
 use Rattle.line_samples.specs.Samples.{samples_needed, most_samples}
 use Rattle.admission.specs.Admission.{road_rows, admit_call, admitted}
 use Rattle.admission.proofs.RowLaws.{checked-pass, checked-first, pass-more}
-
-both : (a b : Bool) → a && b ≡ true → (a ≡ true) × (b ≡ true)
-both true b e = (refl, e)
-both false b e = let z : ◌≡◌ {A = ℕ} 0 1 = cc in absurd (omega arith)
 
 module _ (words : List ℕ) (numbers : List Float) where
   pub value-admitted : admit_call words numbers ≡ value tt → admitted words numbers ≡ true
@@ -39,20 +35,20 @@ module _ (words : List ℕ) (numbers : List Float) where
     rows-hold : (structured words numbers && ordered (road_of words numbers) ≡ true)
         × (limited (road_of words numbers) && (leb (samples_needed (road_of words numbers)) most_samples && true) ≡ true)
     unfolding admitted
-    rows-hold = both (structured words numbers && ordered (road_of words numbers)) (limited (road_of words numbers) && (leb (samples_needed (road_of words numbers)) most_samples && true)) h
+    rows-hold = and_parts (structured words numbers && ordered (road_of words numbers)) (limited (road_of words numbers) && (leb (samples_needed (road_of words numbers)) most_samples && true)) h
 
     numbers-hold : (limited (road_of words numbers) ≡ true) × (leb (samples_needed (road_of words numbers)) most_samples && true ≡ true)
-    numbers-hold = both (limited (road_of words numbers)) (leb (samples_needed (road_of words numbers)) most_samples && true) rows-hold.1
+    numbers-hold = and_parts (limited (road_of words numbers)) (leb (samples_needed (road_of words numbers)) most_samples && true) rows-hold.1
 
     pub admitted-structured : structured words numbers ≡ true
-    admitted-structured = (both (structured words numbers) (ordered (road_of words numbers)) rows-hold.0).0
+    admitted-structured = (and_parts (structured words numbers) (ordered (road_of words numbers)) rows-hold.0).0
 
     pub admitted-ordered : ordered (road_of words numbers) ≡ true
-    admitted-ordered = (both (structured words numbers) (ordered (road_of words numbers)) rows-hold.0).1
+    admitted-ordered = (and_parts (structured words numbers) (ordered (road_of words numbers)) rows-hold.0).1
 
     pub admitted-limited : limited (road_of words numbers) ≡ true
     admitted-limited = numbers-hold.0
 
     pub admitted-samples : samples_needed (road_of words numbers) ≤ most_samples
     admitted-samples =
-        leb-true (samples_needed (road_of words numbers)) most_samples (both (leb (samples_needed (road_of words numbers)) most_samples) true numbers-hold.1).0
+        leb-true (samples_needed (road_of words numbers)) most_samples (and_parts (leb (samples_needed (road_of words numbers)) most_samples) true numbers-hold.1).0

@@ -18,7 +18,7 @@ use Rattle.float_laws.proofs.Units.{rnd, rnd-le}
 use Rattle.float_laws.proofs.Value.{mag, pl, mi, Real, mag_is, one_side, le→units, units→le, lt→units, nlt→units, nle→le, le_refl, under, neg-real, neg-pl, neg-mi}
 use Rattle.float_laws.proofs.Operation.{sub-Is}
 use Rattle.float_laws.proofs.Interval.{In, nil, nil-real, nil-pl, nil-mi, over-of, under_of, enclose, finite-between}
-use Rattle.float_laws.proofs.Size.{Within, within-mono, within-const, add-within, nn, nn-of_le, add-nn, mul-nn, add-fin, mul-fin, fin-of_le, size, size-nn, size-within, nn-within, cubic, cubic-admitted, slope, slope-admitted}
+use Rattle.float_laws.proofs.Size.{Within, within-mono, add-within, nn, nn-of_le, add-nn, mul-nn, add-fin, mul-fin, fin-of_le, size, size-nn, size-within, nn-within, cubic, cubic-admitted, slope, slope-admitted}
 use Rattle.float_laws.proofs.Exact.{fixed, self-Is, add-grow-l, add-grow-r}
 use Rattle.float_laws.proofs.Error.{Near, add-near}
 use Rattle.float_laws.proofs.Whole.{unit}
@@ -31,6 +31,7 @@ use Rattle.records.specs.Active.{active_margin, active_in, value_in, slope_in, a
 use Rattle.records.proofs.CubicLaws.{value-at, value_none, slope_at_lem, slope-none}
 use Rattle.arithmetic_ranges.specs.Ranges.{at_least_zero}
 use Rattle.admission_bounds.specs.Bounds.{end_at, reach_margin, reach_at, bound_of, bound_at, slope_bound_of, cubic_within, cubics_within, slopes_within}
+use Rattle.admission_laws.proofs.Constants.{const-within}
 use Rattle.admission_laws.proofs.Fitting.{Fits64, CubicFits, CubicsFit}
 use Rattle.admission_laws.proofs.ActiveRecord.{Active, active-at}
 use Rattle.records_lent.proofs.TestLaws.{all-at, and-fst, and-snd}
@@ -64,12 +65,10 @@ unfolding room unit
 room-is = lit< tt
 
 nano-own : Within binary64 active_margin active_margin
-unfolding of_bits fits le neg
-nano-own = within-const binary64 active_margin active_margin tt
+nano-own = const-within _ _ tt
 
 milli-own : Within binary64 reach_margin reach_margin
-unfolding of_bits fits le neg
-milli-own = within-const binary64 reach_margin reach_margin tt
+milli-own = const-within _ _ tt
 
 up_to-finite : T (finite (far ⊕ active_margin))
 unfolding of_bits add
@@ -107,8 +106,7 @@ unfolding of_bits pl mi
 zero_is = (refl, refl)
 
 pub zero-own : Within binary64 zero64 zero64
-unfolding of_bits fits le neg
-zero-own = within-const binary64 zero64 zero64 tt
+zero-own = const-within _ _ tt
 
 -- by its units
 pub nn-of-mi : (x : Float) → Real binary64 x → mi binary64 x ≡ 0 → T (nn x)
@@ -337,7 +335,7 @@ unfolding slopes_within
 slope-passes cs end m p i h =
     T_from_true (le (slope_bound_of (cubic_at cs i) (reach_at cs end i)) m) (all-at (λ k. le (slope_bound_of (cubic_at cs k) (reach_at cs end k)) m) (length cs) p i h)
 
-module _ (cs : List Cubic) (lo hi end limit s : Float) (r : Ready cs lo hi end limit s) where
+module _ {cs : List Cubic} {lo hi end limit s : Float} (r : Ready cs lo hi end limit s) where
   passes : (i : ℕ) → i < length cs → cubic_within cs lo hi end limit i ≡ true
   unfolding cubics_within
   passes i h = all-at (cubic_within cs lo hi end limit) (length cs) r.passed i h

@@ -14,7 +14,7 @@ use lib.Ieee.Scale.{finite}
 use Rattle.float_laws.specs.Binary64.{◌⊕◌, ◌⊖◌, ◌⊗◌, ◌⊘◌, f64, zero64, abs_of}
 use Rattle.float_laws.proofs.Value.{Real, mag, pl, pl-le, neg-real, le→units, lt→units}
 use Rattle.float_laws.proofs.Interval.{In, sub_in, le→parts}
-use Rattle.float_laws.proofs.Size.{Within, within-of_le, le_of-within, within-mono, within-const, add-within, sub_within, mul-within, neg-mag}
+use Rattle.float_laws.proofs.Size.{Within, within-of_le, le_of-within, within-mono, add-within, sub_within, mul-within, neg-mag}
 use Rattle.float_laws.proofs.Order.{div-within}
 use Rattle.float_laws.proofs.Checker.{good, good-real}
 use Rattle.arithmetic_sine.specs.Sine.{sine_range, one, sine_of, cosine_of}
@@ -30,11 +30,12 @@ use Rattle.line_samples.specs.declared.points.Pose.{Pose}
 use Rattle.line_pose.specs.Poses.{line_pose, arc_pose}
 use Rattle.arithmetic_ranges.specs.Ranges.{in_range, sized}
 use Rattle.admission.specs.Limits.{greatest_length, greatest_place, greatest_heading, least_arc_curvature, greatest_arc_curvature, shape_limited, limited}
+use Rattle.admission_laws.proofs.Constants.{const-real, const-within}
 use Rattle.admission_laws.proofs.Fitting.{RoadFits}
 use Rattle.admission_laws.proofs.ActiveRecord.{found_at}
 use Rattle.records_lent.proofs.TestLaws.{and-fst}
 use Rattle.admission_laws.proofs.LimitParts.{arc-parts}
-use Rattle.admission_laws.proofs.RoadBounds.{OnRoad, station-within, geom-start-in}
+use Rattle.admission_laws.proofs.RoadBounds.{GeomWithin, OnRoad, station-within, geom-start-in}
 
 -- ---- the constants
 
@@ -105,15 +106,11 @@ high-order : T (le (greatest_length ⊖ zero64) greatest_length)
 unfolding of_bits sub le
 high-order = tt
 
-length-real : Within binary64 zero64 greatest_length
-unfolding of_bits fits le neg
-length-real = within-const binary64 zero64 greatest_length tt
-
 module _ (road : Road) (fit : RoadFits road) (ok : limited road ≡ true) where
   station-in : (s : Float) → OnRoad road s → In binary64 zero64 greatest_length s
   station-in s o =
       let w = station-within road fit ok s o in
-      record { low = length-real.value; high = length-real.bound; value = w.value; above = o.above; below = (le_of-within binary64 s greatest_length w).1 }
+      record { low = const-real _ tt; high = const-real _ tt; value = w.value; above = o.above; below = (le_of-within binary64 s greatest_length w).1 }
 
   -- a geometry's start lies on the road
   pub start-on : (i : ℕ) → i < length road.geoms → OnRoad road (geom_at road i).s
@@ -124,7 +121,7 @@ module _ (road : Road) (fit : RoadFits road) (ok : limited road ≡ true) where
   away-within i h s o =
       let a = (geom_at road i).s in
       let d = sub_in binary64 zero64 greatest_length zero64 greatest_length s a (station-in s o) (station-in a (start-on i h)) low-finite high-finite in
-      let t = length-real.bound in
+      let t : Real binary64 greatest_length = const-real _ tt in
       within-of_le binary64 (s ⊖ a) greatest_length d.value t
       (float_trans (neg greatest_length) (zero64 ⊖ greatest_length) (s ⊖ a) low-order d.above)
       (float_trans (s ⊖ a) (greatest_length ⊖ zero64) greatest_length d.below high-order)
@@ -145,14 +142,6 @@ size-real k r = go (lt k zero64)
     go true = neg-real binary64 k r
     go false = r
 
-straight-real : Real binary64 straight_curvature
-unfolding of_bits fits
-straight-real = good-real binary64 straight_curvature tt
-
-least-real : Real binary64 least_arc_curvature
-unfolding of_bits fits
-least-real = good-real binary64 least_arc_curvature tt
-
 clash : (a b c d : ℕ) → a + b ≤ c + d → c + d < a + b → ⊥
 clash a b c d h k = omega arith
 
@@ -161,9 +150,9 @@ pub arc-curved : (k : Float) → Real binary64 k → shape_limited (Arc k) ≡ t
 arc-curved k r e h =
     let q = size-real k r in
     ⊎_elim
-    (λ (p : sized straight_curvature k ≡ true). absurd (clash _ _ _ _ (le→units binary64 (abs_of k) straight_curvature q straight-real (T_from_true (le (abs_of k) straight_curvature) p)) (lt→units binary64 straight_curvature (abs_of k) straight-real q h)))
+    (λ (p : sized straight_curvature k ≡ true). absurd (clash _ _ _ _ (le→units binary64 (abs_of k) straight_curvature q (const-real _ tt) (T_from_true (le (abs_of k) straight_curvature) p)) (lt→units binary64 straight_curvature (abs_of k) (const-real _ tt) q h)))
     (λ (p : in_range least_arc_curvature greatest_arc_curvature (abs_of k) ≡ true).
-    let a = le→parts binary64 least_arc_curvature (abs_of k) least-real q (T_from_true (le least_arc_curvature (abs_of k)) (and-fst (le least_arc_curvature (abs_of k)) (le (abs_of k) greatest_arc_curvature) p)) in
+    let a = le→parts binary64 least_arc_curvature (abs_of k) (const-real _ tt) q (T_from_true (le least_arc_curvature (abs_of k)) (and-fst (le least_arc_curvature (abs_of k)) (le (abs_of k) greatest_arc_curvature) p)) in
     le_trans a.0 (le_trans (pl-le binary64 (abs_of k)) (le_of_eq (size-mag k r))))
     (arc-parts k e)
 
@@ -176,14 +165,6 @@ line-test = tt
 turn-test : T (sum-passes greatest_heading one greatest_length arc-turn)
 unfolding of_bits fits le add mul
 turn-test = tt
-
-heading-range : Within binary64 greatest_heading sine_range
-unfolding of_bits fits le neg
-heading-range = within-const binary64 greatest_heading sine_range tt
-
-turn-range : Within binary64 arc-turn sine_range
-unfolding of_bits fits le neg
-turn-range = within-const binary64 arc-turn sine_range tt
 
 curve-pos : 0 < pl binary64 least_arc_curvature
 unfolding of_bits pl
@@ -205,33 +186,29 @@ arc-order : T (le (greatest_place ⊕ (one ⊕ one) ⊘ least_arc_curvature) arc
 unfolding of_bits add div le
 arc-order = tt
 
-arc-far-real : Real binary64 arc-far
-unfolding of_bits fits
-arc-far-real = good-real binary64 arc-far tt
-
 -- (a - b) / k for two numbers of size 1 at most
 chord-within : (a b k : Float) → Within binary64 a one → Within binary64 b one → Real binary64 k → pl binary64 least_arc_curvature ≤ mag binary64 k → Within binary64 ((a ⊖ b) ⊘ k) ((one ⊕ one) ⊘ least_arc_curvature)
-chord-within a b k v w r h = div-within binary64 (a ⊖ b) k (one ⊕ one) least_arc_curvature (sub_within binary64 a b one one v w two-finite) r least-real curve-pos h radius-finite
+chord-within a b k v w r h = div-within binary64 (a ⊖ b) k (one ⊕ one) least_arc_curvature (sub_within binary64 a b one one v w two-finite) r (const-real _ tt) curve-pos h radius-finite
 
-module _ (g : GeomRec) (wx : Within binary64 g.x greatest_place) (wy : Within binary64 g.y greatest_place) (wh : Within binary64 g.hdg greatest_heading) (ds : Float) (wd : Within binary64 ds greatest_length) where
+module _ (g : GeomRec) (own : GeomWithin g) (ds : Float) (wd : Within binary64 ds greatest_length) where
   up_to-range : Within binary64 g.hdg sine_range
-  up_to-range = within-mono binary64 g.hdg greatest_heading sine_range wh heading-range.bound (le_of-within binary64 greatest_heading sine_range heading-range).1
+  up_to-range = within-mono binary64 g.hdg greatest_heading sine_range own.hdg (const-real _ tt) (le_of-within binary64 greatest_heading sine_range (const-within _ _ tt)).1
 
   pub line_pose-within : PoseWithin (line_pose g ds) line-far greatest_heading
   unfolding line_pose
   line_pose-within =
       record {
-        x = sum-within g.x ds (cosine_of g.hdg) greatest_place greatest_length one line-far wx wd (cosine-within g.hdg up_to-range) line-test;
-        y = sum-within g.y ds (sine_of g.hdg) greatest_place greatest_length one line-far wy wd (sine-within g.hdg up_to-range) line-test;
-        heading = wh;
+        x = sum-within g.x ds (cosine_of g.hdg) greatest_place greatest_length one line-far own.x wd (cosine-within g.hdg up_to-range) line-test;
+        y = sum-within g.y ds (sine_of g.hdg) greatest_place greatest_length one line-far own.y wd (sine-within g.hdg up_to-range) line-test;
+        heading = own.hdg;
       }
 
   module _ (k : Float) (wk : Within binary64 k one) (h : pl binary64 least_arc_curvature ≤ mag binary64 k) where
     pub arc-heading-within : Within binary64 (g.hdg ⊕ k ⊗ ds) arc-turn
-    arc-heading-within = sum-within g.hdg k ds greatest_heading one greatest_length arc-turn wh wk wd turn-test
+    arc-heading-within = sum-within g.hdg k ds greatest_heading one greatest_length arc-turn own.hdg wk wd turn-test
 
     turned : Within binary64 (g.hdg ⊕ k ⊗ ds) sine_range
-    turned = within-mono binary64 (g.hdg ⊕ k ⊗ ds) arc-turn sine_range arc-heading-within turn-range.bound (le_of-within binary64 arc-turn sine_range turn-range).1
+    turned = within-mono binary64 (g.hdg ⊕ k ⊗ ds) arc-turn sine_range arc-heading-within (const-real _ tt) (le_of-within binary64 arc-turn sine_range (const-within _ _ tt)).1
 
     pub arc_pose-within : PoseWithin (arc_pose g k ds) arc-far arc-turn
     unfolding arc_pose
@@ -241,7 +218,7 @@ module _ (g : GeomRec) (wx : Within binary64 g.x greatest_place) (wy : Within bi
         let sx = (sine_of t ⊖ sine_of g.hdg) ⊘ k in
         let cy = (cosine_of t ⊖ cosine_of g.hdg) ⊘ k in
         record {
-          x = within-mono binary64 (g.x ⊕ sx) (greatest_place ⊕ R) arc-far (add-within binary64 g.x sx greatest_place R wx (chord-within (sine_of t) (sine_of g.hdg) k (sine-within t turned) (sine-within g.hdg up_to-range) wk.value h) arc-finite) arc-far-real arc-order;
-          y = within-mono binary64 (g.y ⊖ cy) (greatest_place ⊕ R) arc-far (sub_within binary64 g.y cy greatest_place R wy (chord-within (cosine_of t) (cosine_of g.hdg) k (cosine-within t turned) (cosine-within g.hdg up_to-range) wk.value h) arc-finite) arc-far-real arc-order;
+          x = within-mono binary64 (g.x ⊕ sx) (greatest_place ⊕ R) arc-far (add-within binary64 g.x sx greatest_place R own.x (chord-within (sine_of t) (sine_of g.hdg) k (sine-within t turned) (sine-within g.hdg up_to-range) wk.value h) arc-finite) (const-real _ tt) arc-order;
+          y = within-mono binary64 (g.y ⊖ cy) (greatest_place ⊕ R) arc-far (sub_within binary64 g.y cy greatest_place R own.y (chord-within (cosine_of t) (cosine_of g.hdg) k (cosine-within t turned) (cosine-within g.hdg up_to-range) wk.value h) arc-finite) (const-real _ tt) arc-order;
           heading = arc-heading-within;
         }

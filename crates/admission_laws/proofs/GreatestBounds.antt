@@ -9,14 +9,14 @@ use mathlib.Core.Logic.{⊎_elim}
 use lib.ListN.{length}
 use lib.Dec.{T}
 use lib.Pow.{pow_pos}
-use lib.Ieee.{Float, binary64, of_bits, fits, le, lt, neg, mul}
+use lib.Ieee.{Float, binary64, of_bits, le, lt, mul}
 use lib.Ieee.Scale.{finite}
 use Rattle.std.proofs.lemmas.Float.{le_trans as float_trans}
 use Rattle.float_laws.specs.Binary64.{◌⊕◌, ◌⊗◌, zero64}
 use Rattle.float_laws.proofs.Units.{rnd}
 use Rattle.float_laws.proofs.Value.{mag, pl, mi, Real, mag_is, le_refl, lt→units, nlt→units, units→le, under}
 use Rattle.float_laws.proofs.Operation.{add-Is}
-use Rattle.float_laws.proofs.Size.{Within, within-mono, within-const, add-within, mul-within, is-bounded, add-nn, mul-nn, add-fin, mul-fin, fin-of_le}
+use Rattle.float_laws.proofs.Size.{Within, within-mono, add-within, mul-within, is-bounded, add-nn, mul-nn, add-fin, mul-fin, fin-of_le}
 use Rattle.float_laws.proofs.Exact.{fixed}
 use Rattle.records_cubic.specs.declared.cubics.Cubic.{Cubic}
 use Rattle.std.specs.declared.option.Option.{Option}
@@ -25,6 +25,7 @@ use Rattle.records.specs.Active.{active_in, value_in}
 use Rattle.records.proofs.CubicLaws.{value_none}
 use Rattle.admission_bounds.specs.Bounds.{bound_at, greatest, greatest_bound}
 use Rattle.admission.specs.Limits.{farthest_across, times_farthest}
+use Rattle.admission_laws.proofs.Constants.{const-plus, const-real}
 use Rattle.admission_laws.proofs.ActiveRecord.{active-at}
 use Rattle.admission_laws.proofs.CubicBounds.{Ready, zero-own, nn-of-mi, active-within, bound_real}
 
@@ -72,20 +73,20 @@ greatest-over f (suc n) h i l =
 
 -- ---- the value of a list
 
-module _ (cs : List Cubic) (lo hi end limit s : Float) (r : Ready cs lo hi end limit s) where
+module _ {cs : List Cubic} {lo hi end limit s : Float} (r : Ready cs lo hi end limit s) where
   pub greatest-real : Within binary64 (greatest_bound cs end) (greatest_bound cs end)
   unfolding greatest_bound
-  greatest-real = greatest-own (bound_at cs end) (length cs) (bound_real cs lo hi end limit s r)
+  greatest-real = greatest-own (bound_at cs end) (length cs) (bound_real r)
 
   bound-under : (i : ℕ) → i < length cs → T (le (bound_at cs end i) (greatest_bound cs end))
   unfolding greatest_bound
-  bound-under i h = greatest-over (bound_at cs end) (length cs) (bound_real cs lo hi end limit s r) i h
+  bound-under i h = greatest-over (bound_at cs end) (length cs) (bound_real r) i h
 
   pub greatest-within : Within binary64 (value_in cs s) (greatest_bound cs end)
   greatest-within = go (active_in cs s) refl
     where
       go : (x : Option ℕ) → active_in cs s ≡ x → Within binary64 (value_in cs s) (greatest_bound cs end)
-      go (Some i) e = within-mono binary64 (value_in cs s) (bound_at cs end i) (greatest_bound cs end) (active-within cs lo hi end limit s r i e) greatest-real.bound (bound-under i (active-at cs s i e).below)
+      go (Some i) e = within-mono binary64 (value_in cs s) (bound_at cs end i) (greatest_bound cs end) (active-within r i e) greatest-real.bound (bound-under i (active-at cs s i e).below)
       go None e = subst (λ (v : Float). Within binary64 v (greatest_bound cs end)) (sym (value_none cs s e)) (zero-within (greatest_bound cs end) greatest-real)
 
 -- ---- Horner
@@ -103,10 +104,6 @@ add_nothing z c G r e w =
 
     minus : mag binary64 z ≡ pl binary64 z + mi binary64 z → mag binary64 c ≡ pl binary64 c + mi binary64 c → mi binary64 z + mi binary64 c - (pl binary64 z + pl binary64 c) ≤ mag binary64 c
     minus m n = omega arith
-
-place-own : Within binary64 farthest_across farthest_across
-unfolding of_bits fits le neg
-place-own = within-const binary64 farthest_across farthest_across tt
 
 nothing-finite : T (finite (zero64 ⊗ farthest_across))
 unfolding of_bits mul
@@ -128,7 +125,7 @@ horner-within c0 c1 c2 c3 G0 G1 G2 G3 u limit w0 w1 w2 w3 wu r h =
     let P2 = times_farthest G3 ⊕ G2 in
     let P1 = times_farthest P2 ⊕ G1 in
     let P0 = times_farthest P1 ⊕ G0 in
-    let k = nn-of-mi farthest_across place-own.bound place-own.plus in
+    let k = nn-of-mi farthest_across (const-real _ tt) (const-plus _ tt) in
     let n2 = add-nn binary64 (times_farthest G3) G2 (mul-nn binary64 G3 farthest_across (nn-of-mi G3 w3.bound w3.plus) k) (nn-of-mi G2 w2.bound w2.plus) in
     let n1 = add-nn binary64 (times_farthest P2) G1 (mul-nn binary64 P2 farthest_across n2 k) (nn-of-mi G1 w1.bound w1.plus) in
     let n0 = add-nn binary64 (times_farthest P1) G0 (mul-nn binary64 P1 farthest_across n1 k) (nn-of-mi G0 w0.bound w0.plus) in

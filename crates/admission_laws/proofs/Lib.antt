@@ -1,5 +1,6 @@
 pub mod FractionLaws
 pub mod FractionExamples
+pub mod Constants
 pub mod Fitting
 pub mod ActiveRecord
 pub mod LimitParts

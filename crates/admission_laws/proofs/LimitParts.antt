@@ -1,23 +1,21 @@
 -- What passing row 4 says, part by part. A test at every index passes at each; a conjunction's parts pass.
 use Prim.Native.Nat.{ℕ, ◌+◌, ◌<◌}
-use mathlib.Core.Path.{◌≡◌, refl}
-use mathlib.Core.Bool.{Bool, true, false, ◌&&◌, ◌||◌, cond}
-use mathlib.Core.Logic.{◌⊎◌, inl, inr}
-use lib.ListN.{length}
+use mathlib.Core.Path.{◌≡◌}
+use mathlib.Core.Bool.{Bool, true, false, cond}
+use mathlib.Core.Logic.{◌⊎◌}
+use mathlib.Core.List.{[], ◌∷◌}
+use lib.ListN.{length, get_or}
 use lib.Ieee.{Float, le, neg}
+use Rattle.std.proofs.lemmas.Bool.{or_cases}
 use Rattle.float_laws.specs.Binary64.{abs_of}
 use Rattle.records.specs.declared.points.GeomShape.TheVariants.{Arc, Spiral}
 use Rattle.records.specs.declared.points.HeightDef.{HeightDef}
 use Rattle.records_lent.specs.Lists.{all_below}
-use Rattle.records_lent.proofs.TestLaws.{and-fst, and-snd, all-at}
+use Rattle.records_lent.proofs.TestLaws.{and-fst, and-snd, chain-at, all-at}
 use Rattle.records.specs.Roads.{Road, Lane, Strip, straight_curvature, geom_at, unused_zero, section_of, lane_of, profile_at, strip_at, column_of, height_def_at}
 use Rattle.arithmetic_ranges.specs.Ranges.{in_range, sized, largest, finite64}
 use Rattle.admission_bounds.specs.Bounds.{cubics_within, slopes_within}
 use Rattle.admission.specs.Limits.{greatest_shape_start, greatest_place, greatest_heading, least_arc_curvature, greatest_arc_curvature, greatest_spiral_curvature, greatest_lane_height, shapes_end, greatest_elevation, greatest_bank, greatest_offset, greatest_shift, greatest_width, greatest_border, greatest_shape, greatest_strip_width, greatest_grade, greatest_strip_height, length_ok, geom_length_ok, on_road, road_cubics_within, shape_limited, geom_limited, section_extent, height_limited, heights_limited, lane_limited, section_limited, profile_limited, terms_bound, strip_limited, marks_limited, limited}
-
-pub or_parts : (a b : Bool) → a || b ≡ true → (a ≡ true) ⊎ (b ≡ true)
-or_parts true b e = inl refl
-or_parts false b e = inr e
 
 -- ---- the road
 
@@ -37,38 +35,24 @@ pub record Limited (road : Road) : Type 0 where
 pub limited-parts : (road : Road) → limited road ≡ true → Limited road
 unfolding limited
 limited-parts road e =
-    let l = length_ok road.length in
-    let g = all_below (geom_limited road) (length road.geoms) in
-    let v = road_cubics_within road road.elevations greatest_elevation in
-    let s = slopes_within road.elevations road.length greatest_grade in
-    let b = road_cubics_within road road.superelevations greatest_bank in
-    let o = road_cubics_within road road.offsets greatest_offset in
-    let t = road_cubics_within road road.tshifts greatest_shift in
-    let x = all_below (section_limited road) (length road.sections) in
-    let p = all_below (profile_limited road) (length road.profiles) in
-    let y = all_below (λ i. strip_limited road (strip_at road i)) 4 in
-    let m = all_below (marks_limited road) (length road.sections) in
-    let ey = and-fst (l && g && v && s && b && o && t && x && p && y) m e in
-    let ep = and-fst (l && g && v && s && b && o && t && x && p) y ey in
-    let ex = and-fst (l && g && v && s && b && o && t && x) p ep in
-    let et = and-fst (l && g && v && s && b && o && t) x ex in
-    let eo = and-fst (l && g && v && s && b && o) t et in
-    let eb = and-fst (l && g && v && s && b) o eo in
-    let es = and-fst (l && g && v && s) b eb in
-    let ev = and-fst (l && g && v) s es in
-    let eg = and-fst (l && g) v ev in
+    let t =
+    chain-at
+    (length_ok road.length)
+    (all_below (geom_limited road) (length road.geoms) ∷ road_cubics_within road road.elevations greatest_elevation ∷ slopes_within road.elevations road.length greatest_grade ∷ road_cubics_within road road.superelevations greatest_bank ∷ road_cubics_within road road.offsets greatest_offset ∷ road_cubics_within road road.tshifts greatest_shift ∷ all_below (section_limited road) (length road.sections) ∷ all_below (profile_limited road) (length road.profiles) ∷ all_below (λ i. strip_limited road (strip_at road i)) 4 ∷ all_below (marks_limited road) (length road.sections) ∷ [])
+    e
+    in
     record {
-      of_length_ok = and-fst l g eg;
-      geoms = λ i h. all-at (geom_limited road) (length road.geoms) (and-snd l g eg) i h;
-      elevations = and-snd (l && g) v ev;
-      slopes = and-snd (l && g && v) s es;
-      superelevations = and-snd (l && g && v && s) b eb;
-      offsets = and-snd (l && g && v && s && b) o eo;
-      tshifts = and-snd (l && g && v && s && b && o) t et;
-      sections = λ i h. all-at (section_limited road) (length road.sections) (and-snd (l && g && v && s && b && o && t) x ex) i h;
-      profiles = λ i h. all-at (profile_limited road) (length road.profiles) (and-snd (l && g && v && s && b && o && t && x) p ep) i h;
-      strips = λ i h. all-at (λ i. strip_limited road (strip_at road i)) 4 (and-snd (l && g && v && s && b && o && t && x && p) y ey) i h;
-      marks = λ i h. all-at (marks_limited road) (length road.sections) (and-snd (l && g && v && s && b && o && t && x && p && y) m e) i h;
+      of_length_ok = t 0;
+      geoms = all-at (geom_limited road) (length road.geoms) (t 1);
+      elevations = t 2;
+      slopes = t 3;
+      superelevations = t 4;
+      offsets = t 5;
+      tshifts = t 6;
+      sections = all-at (section_limited road) (length road.sections) (t 7);
+      profiles = all-at (profile_limited road) (length road.profiles) (t 8);
+      strips = all-at (λ i. strip_limited road (strip_at road i)) 4 (t 9);
+      marks = all-at (marks_limited road) (length road.sections) (t 10);
     }
 
 -- ---- a geometry and its shape
@@ -86,31 +70,17 @@ pub geom-parts : (road : Road) (i : ℕ) → geom_limited road i ≡ true → Ge
 unfolding geom_limited
 geom-parts road i e =
     let g = geom_at road i in
-    let a = on_road road g.s in
-    let x = sized greatest_place g.x in
-    let y = sized greatest_place g.y in
-    let h = sized greatest_heading g.hdg in
-    let l = geom_length_ok g.length in
-    let s = shape_limited g.shape in
-    let u = unused_zero road i in
-    let es = and-fst (a && x && y && h && l && s) u e in
-    let el = and-fst (a && x && y && h && l) s es in
-    let eh = and-fst (a && x && y && h) l el in
-    let ey = and-fst (a && x && y) h eh in
-    let ex = and-fst (a && x) y ey in
-    record {
-      s = and-fst a x ex;
-      x = and-snd a x ex;
-      y = and-snd (a && x) y ey;
-      hdg = and-snd (a && x && y) h eh;
-      length = and-snd (a && x && y && h) l el;
-      shape = and-snd (a && x && y && h && l) s es;
-      unused = and-snd (a && x && y && h && l && s) u e;
-    }
+    let t =
+    chain-at
+    (on_road road g.s)
+    (sized greatest_place g.x ∷ sized greatest_place g.y ∷ sized greatest_heading g.hdg ∷ geom_length_ok g.length ∷ shape_limited g.shape ∷ unused_zero road i ∷ [])
+    e
+    in
+    record { s = t 0; x = t 1; y = t 2; hdg = t 3; length = t 4; shape = t 5; unused = t 6 }
 
 pub arc-parts : (k : Float) → shape_limited (Arc k) ≡ true → (sized straight_curvature k ≡ true) ⊎ (in_range least_arc_curvature greatest_arc_curvature (abs_of k) ≡ true)
 unfolding shape_limited
-arc-parts k e = or_parts (sized straight_curvature k) (in_range least_arc_curvature greatest_arc_curvature (abs_of k)) e
+arc-parts k e = or_cases (sized straight_curvature k) (in_range least_arc_curvature greatest_arc_curvature (abs_of k)) e
 
 pub spiral-parts : (a b : Float) → shape_limited (Spiral a b) ≡ true → (sized greatest_spiral_curvature a ≡ true) × (sized greatest_spiral_curvature b ≡ true)
 unfolding shape_limited
@@ -118,29 +88,25 @@ spiral-parts a b e = (and-fst (sized greatest_spiral_curvature a) (sized greates
 
 -- ---- a section and its lanes
 
-pub section_start-on : (road : Road) (i : ℕ) → section_limited road i ≡ true → on_road road (section_of road i).start ≡ true
+-- its three tests
+section-chain : (road : Road) (i : ℕ) → section_limited road i ≡ true → (n : ℕ)
+    → get_or (on_road road (section_of road i).start ∷ all_below (λ k. lane_limited (section_extent road i) (lane_of road i false k)) (length (section_of road i).left) ∷ all_below (λ k. lane_limited (section_extent road i) (lane_of road i true k)) (length (section_of road i).right) ∷ []) n true ≡ true
 unfolding section_limited
-section_start-on road i e =
-    let a = on_road road (section_of road i).start in
-    let l = all_below (λ k. lane_limited (section_extent road i) (lane_of road i false k)) (length (section_of road i).left) in
-    let r = all_below (λ k. lane_limited (section_extent road i) (lane_of road i true k)) (length (section_of road i).right) in
-    and-fst a l (and-fst (a && l) r e)
+section-chain road i =
+    chain-at
+    (on_road road (section_of road i).start)
+    (all_below (λ k. lane_limited (section_extent road i) (lane_of road i false k)) (length (section_of road i).left) ∷ all_below (λ k. lane_limited (section_extent road i) (lane_of road i true k)) (length (section_of road i).right) ∷ [])
+
+pub section_start-on : (road : Road) (i : ℕ) → section_limited road i ≡ true → on_road road (section_of road i).start ≡ true
+section_start-on road i e = section-chain road i e 0
 
 -- how many lanes a side has
 abbrev pub lane_count : Road → ℕ → Bool → ℕ
 lane_count road i right = length (cond right (section_of road i).right (section_of road i).left)
 
 pub lane-parts : (road : Road) (i : ℕ) (right : Bool) (k : ℕ) → section_limited road i ≡ true → k < lane_count road i right → lane_limited (section_extent road i) (lane_of road i right k) ≡ true
-unfolding section_limited
-lane-parts road i true k e h =
-    let a = on_road road (section_of road i).start in
-    let p : ℕ → Bool = λ k. lane_limited (section_extent road i) (lane_of road i true k) in
-    all-at p (length (section_of road i).right) (and-snd (a && all_below (λ k. lane_limited (section_extent road i) (lane_of road i false k)) (length (section_of road i).left)) (all_below p (length (section_of road i).right)) e) k h
-lane-parts road i false k e h =
-    let a = on_road road (section_of road i).start in
-    let p : ℕ → Bool = λ k. lane_limited (section_extent road i) (lane_of road i false k) in
-    let n = length (section_of road i).left in
-    all-at p n (and-snd a (all_below p n) (and-fst (a && all_below p n) (all_below (λ k. lane_limited (section_extent road i) (lane_of road i true k)) (length (section_of road i).right)) e)) k h
+lane-parts road i true k e h = all-at (λ k. lane_limited (section_extent road i) (lane_of road i true k)) (length (section_of road i).right) (section-chain road i e 2) k h
+lane-parts road i false k e h = all-at (λ k. lane_limited (section_extent road i) (lane_of road i false k)) (length (section_of road i).left) (section-chain road i e 1) k h
 
 abbrev pub lane_limit : Lane → Float
 lane_limit lane = cond lane.border greatest_border greatest_width
@@ -158,12 +124,9 @@ pub height-parts : (extent : Float) (lane : Lane) → lane_limited extent lane �
 unfolding lane_limited heights_limited height_limited
 height-parts extent lane e j l =
     let h = height_def_at lane.heights j in
-    let a = finite64 h.s_offset in
-    let b = sized greatest_lane_height h.inner in
-    let c = sized greatest_lane_height h.outer in
-    let p = all-at (λ i. height_limited (height_def_at lane.heights i)) (length lane.heights) (and-snd (cubics_within lane.extents (neg largest) largest extent (lane_limit lane)) (heights_limited lane.heights) e) j l in
-    let q = and-fst (a && b) c p in
-    record { start = and-fst a b q; inner = and-snd a b q; outer = and-snd (a && b) c p }
+    let p = and-snd (cubics_within lane.extents (neg largest) largest extent (lane_limit lane)) (heights_limited lane.heights) e in
+    let t = chain-at (finite64 h.s_offset) (sized greatest_lane_height h.inner ∷ sized greatest_lane_height h.outer ∷ []) (all-at (λ i. height_limited (height_def_at lane.heights i)) (length lane.heights) p j l) in
+    record { start = t 0; inner = t 1; outer = t 2 }
 
 -- ---- a profile and a strip
 
@@ -183,8 +146,6 @@ pub record StripLimited (road : Road) (strip : Strip) : Type 0 where
 pub strip-parts : (road : Road) (strip : Strip) → strip_limited road strip ≡ true → StripLimited road strip
 unfolding strip_limited
 strip-parts road strip e =
-    let a = road_cubics_within road (column_of strip 0) greatest_strip_width in
     let p : ℕ → Bool = λ term. road_cubics_within road (column_of strip (term + 1)) largest in
-    let c = le (terms_bound road strip) greatest_strip_height in
-    let q = and-fst (a && all_below p 4) c e in
-    record { width = and-fst a (all_below p 4) q; terms = λ k h. all-at p 4 (and-snd a (all_below p 4) q) k h; height = and-snd (a && all_below p 4) c e }
+    let t = chain-at (road_cubics_within road (column_of strip 0) greatest_strip_width) (all_below p 4 ∷ le (terms_bound road strip) greatest_strip_height ∷ []) e in
+    record { width = t 0; terms = all-at p 4 (t 1); height = t 2 }

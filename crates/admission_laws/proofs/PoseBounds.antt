@@ -8,11 +8,11 @@ use mathlib.Core.Bool.{Bool, true, false, not, cond}
 use mathlib.Core.List.{List, ◌++◌}
 use lib.ListN.{length, get_or}
 use lib.Dec.{T, lit<, lit≤, ltb, ltb→lt, nltb→le, T_not}
-use lib.Ieee.{Float, nan, binary64, of_bits, fits, le, lt, neg}
+use lib.Ieee.{Float, nan, binary64, of_bits, fits, le, lt}
 use Rattle.float_laws.specs.Binary64.{◌⊖◌, ◌⊘◌, f64, zero64, abs_of}
 use Rattle.float_laws.proofs.Value.{Real, pl, mi, le_refl, units→le, lt→units, nlt→units, nle→le}
 use Rattle.float_laws.proofs.Interval.{le→parts}
-use Rattle.float_laws.proofs.Size.{Within, within-const}
+use Rattle.float_laws.proofs.Size.{Within}
 use Rattle.float_laws.proofs.Order.{sub-mono}
 use Rattle.float_laws.proofs.Interpolate.{interpolate-within}
 use Rattle.float_laws.proofs.Checker.{good-real}
@@ -26,8 +26,9 @@ use Rattle.line_pose.specs.Poses.{line_pose, arc_pose, held, leading, segment, f
 use Rattle.line_samples.proofs.SpiralLaws.{count-spiral, samples-held, first-distance}
 use Rattle.line_pose.proofs.PoseLaws.{segment-in}
 use Rattle.admission.specs.Limits.{greatest_length, greatest_heading, shape_limited, limited}
+use Rattle.admission_laws.proofs.Constants.{const-at_most, const-plus, const-real, const-within}
 use Rattle.admission_laws.proofs.Fitting.{Fits64, ShapeFits, RoadFits}
-use Rattle.admission_laws.proofs.RoadBounds.{OnRoad, geom-x-within, geom-y-within, geom-hdg-within, geom-length-in, geom-shape-passes, arc-within, spiral-within}
+use Rattle.admission_laws.proofs.RoadBounds.{OnRoad, geom-within, geom-shape-passes, arc-within, spiral-within}
 use Rattle.admission_laws.proofs.Powers.{Plus, none_below, sub-plus, ratio-plus, sub-above}
 use Rattle.admission_laws.proofs.SpiralFirst.{admitted-count}
 use Rattle.admission_laws.proofs.Geometry.{line-far, arc-far, arc-turn, PoseWithin, pose-mono, index_below, away-within, arc-curved, line_pose-within, arc_pose-within}
@@ -173,33 +174,9 @@ spiral-far = f64 0x412e_886a_0000_0000
 abbrev pub spiral-turn : Float
 spiral-turn = f64 0x40ab_5a00_0000_0000
 
-far-real : Real binary64 spiral-far
-unfolding of_bits fits
-far-real = good-real binary64 spiral-far tt
-
-far-plus : mi binary64 spiral-far ≡ 0
-unfolding of_bits mi
-far-plus = refl
-
-far-power : pl binary64 sample-far ≤ 2 ^ 1094
-unfolding of_bits pl
-far-power = lit≤ tt
-
 far-wider : pl binary64 sample-far + 3 * 2 ^ (1094 - 53) ≤ pl binary64 spiral-far
 unfolding of_bits pl
 far-wider = lit≤ tt
-
-turn-real : Real binary64 spiral-turn
-unfolding of_bits fits
-turn-real = good-real binary64 spiral-turn tt
-
-turn-plus : mi binary64 spiral-turn ≡ 0
-unfolding of_bits mi
-turn-plus = refl
-
-turn-power : pl binary64 sample-turn ≤ 2 ^ 1086
-unfolding of_bits pl
-turn-power = lit≤ tt
 
 turn-wider : pl binary64 sample-turn + 3 * 2 ^ (1086 - 53) ≤ pl binary64 spiral-turn
 unfolding of_bits pl
@@ -209,9 +186,9 @@ turn-wider = lit≤ tt
 pub between-within : (a b : Sample) (t : Float) → SampleWithin a → SampleWithin b → Plus binary64 t (2 ^ 1074) → PoseWithin (between a b t) spiral-far spiral-turn
 between-within a b t v w p =
     record {
-      x = interpolate-within binary64 a.x b.x t sample-far spiral-far 1094 v.x w.x p.value p.plus p.le far-power (lit< tt) far-real far-plus far-wider;
-      y = interpolate-within binary64 a.y b.y t sample-far spiral-far 1094 v.y w.y p.value p.plus p.le far-power (lit< tt) far-real far-plus far-wider;
-      heading = interpolate-within binary64 a.heading b.heading t sample-turn spiral-turn 1086 v.heading w.heading p.value p.plus p.le turn-power (lit< tt) turn-real turn-plus turn-wider;
+      x = interpolate-within binary64 a.x b.x t sample-far spiral-far 1094 v.x w.x p.value p.plus p.le (const-at_most _ _ tt) (lit< tt) (const-real _ tt) (const-plus _ tt) far-wider;
+      y = interpolate-within binary64 a.y b.y t sample-far spiral-far 1094 v.y w.y p.value p.plus p.le (const-at_most _ _ tt) (lit< tt) (const-real _ tt) (const-plus _ tt) far-wider;
+      heading = interpolate-within binary64 a.heading b.heading t sample-turn spiral-turn 1086 v.heading w.heading p.value p.plus p.le (const-at_most _ _ tt) (lit< tt) (const-real _ tt) (const-plus _ tt) turn-wider;
     }
 
 -- for any two samples or more that keep to their bounds, the first at distance 0
@@ -239,30 +216,6 @@ spiral_pose-within samples first n ds two ok zero-first r =
 abbrev pub pose-far : Float
 pose-far = f64 0x4133_d620_0000_0000
 
-line-far-within : Within binary64 line-far pose-far
-unfolding of_bits fits le neg
-line-far-within = within-const binary64 line-far pose-far tt
-
-arc-far-within : Within binary64 arc-far pose-far
-unfolding of_bits fits le neg
-arc-far-within = within-const binary64 arc-far pose-far tt
-
-spiral-far-within : Within binary64 spiral-far pose-far
-unfolding of_bits fits le neg
-spiral-far-within = within-const binary64 spiral-far pose-far tt
-
-heading-within : Within binary64 greatest_heading sine_range
-unfolding of_bits fits le neg
-heading-within = within-const binary64 greatest_heading sine_range tt
-
-arc-turn-within : Within binary64 arc-turn sine_range
-unfolding of_bits fits le neg
-arc-turn-within = within-const binary64 arc-turn sine_range tt
-
-spiral-turn-within : Within binary64 spiral-turn sine_range
-unfolding of_bits fits le neg
-spiral-turn-within = within-const binary64 spiral-turn sine_range tt
-
 abbrev no_sample : Sample
 no_sample = record { distance = nan; x = nan; y = nan; heading = nan }
 
@@ -276,11 +229,11 @@ module _ (road : Road) (fit : RoadFits road) (ok : limited road ≡ true) (few :
     held-within k h =
         let c = count-spiral (geom_at road i) e refl in
         subst SampleWithin (sym (samples-held road rest i k no_sample h))
-        (sample-within (geom_at road i) k0 k1 (geom-x-within road fit ok i below) (geom-y-within road fit ok i below) (geom-hdg-within road fit ok i below) curves.0 curves.1 (geom-length-in road fit ok i below) k no_sample e (few-steps road i below e few)
+        (sample-within (geom_at road i) k0 k1 (geom-within road fit ok i below) curves.0 curves.1 k no_sample e (few-steps road i below e few)
         (let o : k ≤ spiral_steps (geom_at road i).length = omega arith in o))
 
     pub two-samples : 2 ≤ sample_count (geom_at road i)
-    two-samples = let l = geom-length-in road fit ok i below in admitted-count (geom_at road i) e (fit.geoms i).length l.above l.below
+    two-samples = let l = (geom-within road fit ok i below).length in admitted-count (geom_at road i) e (fit.geoms i).length l.above l.below
 
     pub first-zero : (sample_at (samples_of road ++ rest) (samples_before road i) 0).distance ≡ zero64
     first-zero =
@@ -292,7 +245,7 @@ module _ (road : Road) (fit : RoadFits road) (ok : limited road ≡ true) (few :
         let c = count-spiral g e refl in
         subst (λ (p : Sample). T (lt p.distance (sample_at (samples_of road ++ rest) (samples_before road i) (suc k)).distance)) (sym (samples-held road rest i k no_sample (let o : k < sample_count g = omega arith in o)))
         (subst (λ (p : Sample). T (lt (get_or (geom_samples g) k no_sample).distance p.distance)) (sym (samples-held road rest i (suc k) no_sample h))
-        (samples-rise g k0 k1 (geom-x-within road fit ok i below) (geom-y-within road fit ok i below) (geom-hdg-within road fit ok i below) curves.0 curves.1 (geom-length-in road fit ok i below) e (few-steps road i below e few) no_sample k
+        (samples-rise g k0 k1 (geom-within road fit ok i below) curves.0 curves.1 e (few-steps road i below e few) no_sample k
         (let o : k < spiral_steps g.length = omega arith in o)))
 
   module _ (s : Float) (o : OnRoad road s) where
@@ -302,13 +255,13 @@ module _ (road : Road) (fit : RoadFits road) (ok : limited road ≡ true) (few :
     on_line : PoseWithin (line_pose (geom_at road i) (s ⊖ (geom_at road i).s)) pose-far sine_range
     on_line =
         pose-mono (line_pose (geom_at road i) (s ⊖ (geom_at road i).s)) line-far pose-far greatest_heading sine_range
-        (line_pose-within (geom_at road i) (geom-x-within road fit ok i below) (geom-y-within road fit ok i below) (geom-hdg-within road fit ok i below) (s ⊖ (geom_at road i).s) away) line-far-within heading-within
+        (line_pose-within (geom_at road i) (geom-within road fit ok i below) (s ⊖ (geom_at road i).s) away) (const-within _ _ tt) (const-within _ _ tt)
 
     on-arc : (k : Float) → Fits64 k → shape_limited (Arc k) ≡ true → T (lt straight_curvature (abs_of k)) → PoseWithin (arc_pose (geom_at road i) k (s ⊖ (geom_at road i).s)) pose-far sine_range
     on-arc k f e h =
         let w = arc-within k f e in
         pose-mono (arc_pose (geom_at road i) k (s ⊖ (geom_at road i).s)) arc-far pose-far arc-turn sine_range
-        (arc_pose-within (geom_at road i) (geom-x-within road fit ok i below) (geom-y-within road fit ok i below) (geom-hdg-within road fit ok i below) (s ⊖ (geom_at road i).s) away k w (arc-curved k w.value e h)) arc-far-within arc-turn-within
+        (arc_pose-within (geom_at road i) (geom-within road fit ok i below) (s ⊖ (geom_at road i).s) away k w (arc-curved k w.value e h)) (const-within _ _ tt) (const-within _ _ tt)
 
     by_shape : (shape : GeomShape) → (geom_at road i).shape ≡ shape → ShapeFits shape → shape_limited shape ≡ true → PoseWithin (pose_by road (samples_of road ++ rest) i (s ⊖ (geom_at road i).s) shape) pose-far sine_range
     by_shape Line e f l = on_line
@@ -320,7 +273,7 @@ module _ (road : Road) (fit : RoadFits road) (ok : limited road ≡ true) (few :
     by_shape (Spiral k0 k1) e f l =
         pose-mono (spiral_pose (samples_of road ++ rest) (samples_before road i) (sample_count (geom_at road i)) (s ⊖ (geom_at road i).s)) spiral-far pose-far spiral-turn sine_range
         (spiral_pose-within (samples_of road ++ rest) (samples_before road i) (sample_count (geom_at road i)) (s ⊖ (geom_at road i).s) (two-samples e f.0 f.1) (held-within e f.0 f.1) (first-zero e f.0 f.1) away.value)
-        spiral-far-within spiral-turn-within
+        (const-within _ _ tt) (const-within _ _ tt)
 
     -- of any geometry of the road, at any station
     pub pose-within : PoseWithin (pose_of road (samples_of road ++ rest) i s) pose-far sine_range

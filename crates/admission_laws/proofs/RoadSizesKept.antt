@@ -17,6 +17,7 @@ use Rattle.records.specs.declared.points.GeomShape.TheVariants.{Line, Arc, Spira
 use Rattle.records.specs.Active.{value_in, slope_in}
 use Rattle.records.specs.Roads.{Road, road_of, geom_at, geom_index, profile_at, strip_at, column_of}
 use Rattle.admission.specs.Limits.{farthest_across, limited}
+use Rattle.admission_laws.proofs.Constants.{const-at_most}
 use Rattle.admission_laws.specs.Fractions.{IsF64, AllF64, AtMost}
 use Rattle.admission_laws.proofs.FractionLaws.{at_most-part, within-at_most, within-at_most-part, at_most-within, lt_under, below_none}
 use Rattle.admission_laws.proofs.Fitting.{RoadFits, ShapeFits, road-fits}
@@ -38,53 +39,17 @@ use Rattle.admission_laws.proofs.Admitted.{pose-kept}
 
 -- ---- the bounds in units of the least f64
 
-ten-thousand-units : pl binary64 (f64 0x40c3_8800_0000_0000) ≤ 10000 * 2 ^ low binary64
-unfolding of_bits pl
-ten-thousand-units = lit≤ tt
-
-one-units : pl binary64 (f64 0x3ff0_0000_0000_0000) ≤ 1 * 2 ^ low binary64
-unfolding of_bits pl
-one-units = lit≤ tt
-
 three_quarters-units : pl binary64 (f64 0x3fe8_0000_0000_0000) * 4 ≤ 3 * 2 ^ low binary64
 unfolding of_bits pl
 three_quarters-units = lit≤ tt
-
-eight-units : pl binary64 (f64 0x4020_0000_0000_0000) ≤ 8 * 2 ^ low binary64
-unfolding of_bits pl
-eight-units = lit≤ tt
-
-forty-units : pl binary64 (f64 0x4044_0000_0000_0000) ≤ 40 * 2 ^ low binary64
-unfolding of_bits pl
-forty-units = lit≤ tt
 
 farthest-is : Real binary64 farthest_across × (pl binary64 farthest_across ≡ 88 * 2 ^ low binary64) × (mi binary64 farthest_across ≡ 0)
 unfolding of_bits fits pl mi
 farthest-is = (record { finite = tt; fits = tt }, refl, refl)
 
-hundred-units : pl binary64 (f64 0x4059_0000_0000_0000) ≤ 100 * 2 ^ low binary64
-unfolding of_bits pl
-hundred-units = lit≤ tt
-
 end-units : pl binary64 sample-end * 4 ≤ 1999 * 2 ^ low binary64
 unfolding of_bits pl
 end-units = lit≤ tt
-
-sample-units : pl binary64 sample-far ≤ 1000500 * 2 ^ low binary64
-unfolding of_bits pl
-sample-units = lit≤ tt
-
-turn-units : pl binary64 sample-turn ≤ 3500 * 2 ^ low binary64
-unfolding of_bits pl
-turn-units = lit≤ tt
-
-pose-units : pl binary64 pose-far ≤ 1300000 * 2 ^ low binary64
-unfolding of_bits pl
-pose-units = lit≤ tt
-
-heading-units : pl binary64 sine_range ≤ 12000 * 2 ^ low binary64
-unfolding of_bits pl
-heading-units = lit≤ tt
 
 -- ---- samples and poses
 
@@ -103,17 +68,17 @@ sample-of p w =
     record {
       from = below_none p.distance w.distance.value (not_below_zero_lem p.distance w.distance.value w.distance.above);
       to = at_most-part binary64 p.distance w.distance.value 1999 4 (end-size p.distance w.distance);
-      x_size = within-at_most p.x sample-far w.x 1000500 sample-units;
-      y_size = within-at_most p.y sample-far w.y 1000500 sample-units;
-      turn = within-at_most p.heading sample-turn w.heading 3500 turn-units;
+      x_size = within-at_most p.x sample-far w.x 1000500 (const-at_most _ _ tt);
+      y_size = within-at_most p.y sample-far w.y 1000500 (const-at_most _ _ tt);
+      turn = within-at_most p.heading sample-turn w.heading 3500 (const-at_most _ _ tt);
     }
 
 pose_of_lem : (p : Pose) → PoseWithin p pose-far sine_range → PoseKept p
 pose_of_lem p w =
     record {
-      x_size = within-at_most p.x pose-far w.x 1300000 pose-units;
-      y_size = within-at_most p.y pose-far w.y 1300000 pose-units;
-      turn = within-at_most p.heading sine_range w.heading 12000 heading-units;
+      x_size = within-at_most p.x pose-far w.x 1300000 (const-at_most _ _ tt);
+      y_size = within-at_most p.y pose-far w.y 1300000 (const-at_most _ _ tt);
+      turn = within-at_most p.heading sine_range w.heading 12000 (const-at_most _ _ tt);
     }
 
 -- ---- an admitted road
@@ -131,17 +96,17 @@ module _ (words : List ℕ) (numbers : List Float) (fitting : AllF64 numbers) (o
   along-kept : (s : Float) → OnRoad road s → AlongKept road s
   along-kept s o =
       record {
-        elevation = within-at_most (value_in road.elevations s) (f64 0x40c3_8800_0000_0000) (elevation-within road fit limits s o) 10000 ten-thousand-units;
-        grade = within-at_most (slope_in road.elevations s) (f64 0x3ff0_0000_0000_0000) (grade-within road fit limits s o) 1 one-units;
+        elevation = within-at_most (value_in road.elevations s) (f64 0x40c3_8800_0000_0000) (elevation-within road fit limits s o) 10000 (const-at_most _ _ tt);
+        grade = within-at_most (slope_in road.elevations s) (f64 0x3ff0_0000_0000_0000) (grade-within road fit limits s o) 1 (const-at_most _ _ tt);
         bank = within-at_most-part (value_in road.superelevations s) (f64 0x3fe8_0000_0000_0000) (superelevation-within road fit limits s o) 3 4 three_quarters-units;
-        offset = within-at_most (value_in road.offsets s) (f64 0x4020_0000_0000_0000) (offset-within road fit limits s o) 8 eight-units;
-        shift = within-at_most (value_in road.tshifts s) (f64 0x4020_0000_0000_0000) (tshift-within road fit limits s o) 8 eight-units;
-        strip_width = λ i l. within-at_most (value_in (column_of (strip_at road i) 0) s) (f64 0x4059_0000_0000_0000) (strip-width-within road fit limits i l s o) 100 hundred-units;
-        of_strip_height = λ i l u f m. within-at_most (terms_across (strip_at road i) s u) (f64 0x4044_0000_0000_0000) (strip_height-within road fit limits i l s o u (at_most-within u farthest_across f 88 farthest-is m)) 40 forty-units;
+        offset = within-at_most (value_in road.offsets s) (f64 0x4020_0000_0000_0000) (offset-within road fit limits s o) 8 (const-at_most _ _ tt);
+        shift = within-at_most (value_in road.tshifts s) (f64 0x4020_0000_0000_0000) (tshift-within road fit limits s o) 8 (const-at_most _ _ tt);
+        strip_width = λ i l. within-at_most (value_in (column_of (strip_at road i) 0) s) (f64 0x4059_0000_0000_0000) (strip-width-within road fit limits i l s o) 100 (const-at_most _ _ tt);
+        of_strip_height = λ i l u f m. within-at_most (terms_across (strip_at road i) s u) (f64 0x4044_0000_0000_0000) (strip_height-within road fit limits i l s o u (at_most-within u farthest_across f 88 farthest-is m)) 40 (const-at_most _ _ tt);
       }
 
   shape-kept : (i : ℕ) → i < length road.profiles → (t : Float) → Across t → AtMost 40 (value_in (profile_at road i).shapes t)
-  shape-kept i l t a = within-at_most (value_in (profile_at road i).shapes t) (f64 0x4044_0000_0000_0000) (shape-within road fit limits i l t a) 40 forty-units
+  shape-kept i l t a = within-at_most (value_in (profile_at road i).shapes t) (f64 0x4044_0000_0000_0000) (shape-within road fit limits i l t a) 40 (const-at_most _ _ tt)
 
   -- with anything after the samples
   module _ (rest : List Float) (i : ℕ) (below : i < length road.geoms) where
@@ -177,10 +142,10 @@ module _ (words : List ℕ) (numbers : List Float) (fitting : AllF64 numbers) (o
   kept-before : (rest : List Float) → RoadKept road (samples_of road ++ rest)
   kept-before rest =
       record {
-        length_size = within-at_most road.length (f64 0x40c3_8800_0000_0000) (length-within road fit limits) 10000 ten-thousand-units;
+        length_size = within-at_most road.length (f64 0x40c3_8800_0000_0000) (length-within road fit limits) 10000 (const-at_most _ _ tt);
         along = λ s f on. along-kept s (on_road_lem road s f on);
         shapes = λ i l t f in-t. shape-kept i l t (across_of_lem t f in-t);
-        constants = λ i l j b. within-at_most (cubic_at (profile_at road i).shapes j).a (f64 0x4044_0000_0000_0000) (shape-constant-within road fit limits i l j b) 40 forty-units;
+        constants = λ i l j b. within-at_most (cubic_at (profile_at road i).shapes j).a (f64 0x4044_0000_0000_0000) (shape-constant-within road fit limits i l j b) 40 (const-at_most _ _ tt);
         sampled = λ i l. by_shape rest i l (geom_at road i).shape refl (fit.geoms i).shape;
         pose = λ s f on. pose_of_lem (pose_of road (samples_of road ++ rest) (geom_index road s) s) (pose-kept words numbers fitting ok rest s (on_road_lem road s f on));
       }

@@ -10,12 +10,12 @@ use mathlib.Core.List.{List, ◌∷◌}
 use lib.ListN.{length, get_or}
 use lib.Dec.{T, lit<, lit≤}
 use lib.Pow.{pow_pos}
-use lib.Ieee.{Float, Format, prec, emax, low, binary64, of_bits, fits, le, lt, neg, add, mul}
+use lib.Ieee.{Float, Format, prec, emax, low, binary64, of_bits, fits, le, lt, add, mul}
 use lib.Ieee.Scale.{finite}
 use Rattle.float_laws.specs.Binary64.{◌⊕◌, ◌⊖◌, ◌⊗◌, ◌⊘◌, f64, zero64}
 use Rattle.float_laws.proofs.Value.{Real, mag, pl, mi, mag_is, parts→le, lt→units}
 use Rattle.float_laws.proofs.Interval.{In, le→parts, from_zero}
-use Rattle.float_laws.proofs.Size.{Within, within-mono, within-const, le_of-within, sub_within}
+use Rattle.float_laws.proofs.Size.{Within, within-mono, le_of-within, sub_within}
 use Rattle.float_laws.proofs.Exact.{exponent}
 use Rattle.float_laws.proofs.Checker.{good-real}
 use Rattle.arithmetic_sine.specs.Sine.{sine_range, half, one, sine_of, cosine_of}
@@ -26,7 +26,9 @@ use Rattle.records.specs.Roads.{Road, geom_at}
 use Rattle.line_samples.specs.declared.points.Sample.{Sample}
 use Rattle.line_samples.specs.Samples.{most_samples, end_margin, goes_on, whole_step, step_at, steps_from, most_steps, spiral_steps, sample_count, samples_before, samples_needed, no_turn_length, turn_rate, heading_at, first_sample, next_sample, later_samples, geom_samples}
 use Rattle.line_samples.proofs.SpiralLaws.{count-spiral, before-next, before-mono, samples-are}
-use Rattle.admission.specs.Limits.{greatest_place, greatest_heading, least_geom_length, greatest_geom_length}
+use Rattle.admission.specs.Limits.{greatest_heading, least_geom_length, greatest_geom_length}
+use Rattle.admission_laws.proofs.Constants.{const-at_least, const-at_most, const-plus, const-real, const-within}
+use Rattle.admission_laws.proofs.RoadBounds.{GeomWithin}
 use Rattle.admission_laws.proofs.Powers.{Small, mul_small, div-small, Plus, none_below, plus-small, plus-mono, sub-plus, lesser-plus, div-plus, add-plus, sum-next, power_below}
 use Rattle.admission_laws.proofs.Geometry.{sum-passes, sum-within}
 
@@ -73,30 +75,6 @@ half-small : Small binary64 half 1073
 unfolding of_bits fits mag
 half-small = record { value = good-real binary64 half tt; le = lit≤ tt }
 
-two-real : Real binary64 two
-unfolding of_bits fits
-two-real = good-real binary64 two tt
-
-two-large : 2 ^ 1074 ≤ pl binary64 two
-unfolding of_bits pl
-two-large = lit≤ tt
-
-hundredth-large : 2 ^ 1067 ≤ pl binary64 least_geom_length
-unfolding of_bits pl
-hundredth-large = lit≤ tt
-
-hundredth-plus : mi binary64 least_geom_length ≡ 0
-unfolding of_bits mi
-hundredth-plus = refl
-
-ten-thousand-small : pl binary64 greatest_geom_length ≤ 2 ^ 1088
-unfolding of_bits pl
-ten-thousand-small = lit≤ tt
-
-one-small : pl binary64 one ≤ 2 ^ 1074
-unfolding of_bits pl
-one-small = lit≤ tt
-
 twice-finite : T (finite (one ⊕ one))
 unfolding of_bits add
 twice-finite = tt
@@ -104,58 +82,6 @@ twice-finite = tt
 twice-small : pl binary64 (one ⊕ one) ≤ 2 ^ 1075
 unfolding of_bits add pl
 twice-small = lit≤ tt
-
-four-real : Real binary64 four
-unfolding of_bits fits
-four-real = good-real binary64 four tt
-
-four-plus : mi binary64 four ≡ 0
-unfolding of_bits mi
-four-plus = refl
-
-four-large : 2 ^ 1076 ≤ pl binary64 four
-unfolding of_bits pl
-four-large = lit≤ tt
-
-five-hundred-real : Real binary64 five-hundred
-unfolding of_bits fits
-five-hundred-real = good-real binary64 five-hundred tt
-
-five-hundred-plus : mi binary64 five-hundred ≡ 0
-unfolding of_bits mi
-five-hundred-plus = refl
-
-five-hundred-large : 2000 * 2 ^ 1072 ≤ pl binary64 five-hundred
-unfolding of_bits pl
-five-hundred-large = lit≤ tt
-
-end-real : Real binary64 sample-end
-unfolding of_bits fits
-end-real = good-real binary64 sample-end tt
-
-end-plus : mi binary64 sample-end ≡ 0
-unfolding of_bits mi
-end-plus = refl
-
-end-large : 1999 * 2 ^ 1072 ≤ pl binary64 sample-end
-unfolding of_bits pl
-end-large = lit≤ tt
-
-million-small : pl binary64 greatest_place ≤ 4000000 * 2 ^ 1072
-unfolding of_bits pl
-million-small = lit≤ tt
-
-far-real : Real binary64 sample-far
-unfolding of_bits fits
-far-real = good-real binary64 sample-far tt
-
-far-plus : mi binary64 sample-far ≡ 0
-unfolding of_bits mi
-far-plus = refl
-
-far-large : 4002000 * 2 ^ 1072 ≤ pl binary64 sample-far
-unfolding of_bits pl
-far-large = lit≤ tt
 
 first-test : T (sum-passes greatest_heading one five-hundred fifteen-hundred)
 unfolding of_bits fits le add mul
@@ -165,13 +91,8 @@ second-test : T (sum-passes fifteen-hundred four five-hundred sample-turn)
 unfolding of_bits fits le add mul
 second-test = tt
 
-thousand-turn : Within binary64 greatest_heading sample-turn
-unfolding of_bits fits le neg
-thousand-turn = within-const binary64 greatest_heading sample-turn tt
-
 pub turn_in-range : Within binary64 sample-turn sine_range
-unfolding of_bits fits le neg
-turn_in-range = within-const binary64 sample-turn sine_range tt
+turn_in-range = const-within _ _ tt
 
 -- a value from 0 on has no minus part
 pub not_below_zero_lem : (x : Float) → Real binary64 x → T (le zero64 x) → mi binary64 x ≡ 0
@@ -184,7 +105,7 @@ module _ (len : Float) (il : In binary64 least_geom_length greatest_geom_length 
   length-large = (le→parts binary64 least_geom_length len il.low il.value il.above).0
 
   pub length-plus : mi binary64 len ≡ 0
-  length-plus = none_below (mi binary64 len) (mi binary64 least_geom_length) (le→parts binary64 least_geom_length len il.low il.value il.above).1 hundredth-plus
+  length-plus = none_below (mi binary64 len) (mi binary64 least_geom_length) (le→parts binary64 least_geom_length len il.low il.value il.above).1 (const-plus _ tt)
 
   -- over 1e-9
   pub nano-below : Plus binary64 end_margin (pl binary64 len)
@@ -223,7 +144,7 @@ within-small x A p w h = record { value = w.value; le = le_trans w.le h }
 -- from 0 to 500
 plus-within : (u : Float) → Plus binary64 u (2000 * 2 ^ 1072) → Within binary64 u five-hundred
 plus-within u v =
-    record { value = v.value; bound = five-hundred-real; plus = five-hundred-plus; le = le_trans (le_of_eq (whole (pl binary64 u) (mi binary64 u) (mag binary64 u) (mag_is binary64 u) v.plus)) (le_trans v.le five-hundred-large) }
+    record { value = v.value; bound = const-real _ tt; plus = const-plus _ tt; le = le_trans (le_of_eq (whole (pl binary64 u) (mi binary64 u) (mag binary64 u) (mag_is binary64 u) v.plus)) (le_trans v.le (const-at_least _ _ tt)) }
   where
     whole : (p m g : ℕ) → g ≡ p + m → m ≡ 0 → g ≡ p
     whole p m g e z = omega arith
@@ -255,14 +176,13 @@ record Sampled (a k : ℕ) (p : Sample) : Type 0 where
   heading : Within binary64 p.heading sample-turn
 
 module _ (g : GeomRec) (k0 k1 : Float)
-    (wx : Within binary64 g.x greatest_place) (wy : Within binary64 g.y greatest_place) (wh : Within binary64 g.hdg greatest_heading)
-    (w0 : Within binary64 k0 one) (w1 : Within binary64 k1 one) (il : In binary64 least_geom_length greatest_geom_length g.length) where
+    (own : GeomWithin g) (w0 : Within binary64 k0 one) (w1 : Within binary64 k1 one) where
   module _ (a : ℕ) (la : 2 ^ a ≤ pl binary64 g.length) (ha : pl binary64 g.length ≤ 2 ^ suc a) where
     a-high : a ≤ 1088
-    a-high = exponent a 1088 (le_trans la (le_trans (le→parts binary64 g.length greatest_geom_length il.value il.high il.below).0 ten-thousand-small))
+    a-high = exponent a 1088 (le_trans la (le_trans (le→parts binary64 g.length greatest_geom_length own.length.value own.length.high own.length.below).0 (const-at_most _ _ tt)))
 
     a-low : 1066 ≤ a
-    a-low = le_of_suc-le-suc (exponent 1067 (suc a) (le_trans hundredth-large (le_trans (length-large g.length il) ha)))
+    a-low = le_of_suc-le-suc (exponent 1067 (suc a) (le_trans (const-at_least _ _ tt) (le_trans (length-large g.length own.length) ha)))
 
     -- ---- the heading
 
@@ -271,7 +191,7 @@ module _ (g : GeomRec) (k0 k1 : Float)
       where
         go : (b : Bool) → Small binary64 (cond b ((k1 ⊖ k0) ⊘ g.length) zero64) (2149 - a)
         go true =
-            div-small binary64 (k1 ⊖ k0) g.length 1075 a (2149 - a) (within-small (k1 ⊖ k0) (one ⊕ one) 1075 (sub_within binary64 k1 k0 one one w1 w0 twice-finite) twice-small) il.value la (sum-rate a a-high) (room-rate a a-low)
+            div-small binary64 (k1 ⊖ k0) g.length 1075 a (2149 - a) (within-small (k1 ⊖ k0) (one ⊕ one) 1075 (sub_within binary64 k1 k0 one one w1 w0 twice-finite) twice-small) own.length.value la (sum-rate a a-high) (room-rate a a-low)
         go false = zero-small (2149 - a)
 
     heading-within : (u : Float) → Plus binary64 u (2000 * 2 ^ 1072) → pl binary64 u ≤ 2 ^ suc (suc a) → Within binary64 (heading_at g k0 k1 u) sample-turn
@@ -281,19 +201,19 @@ module _ (g : GeomRec) (k0 k1 : Float)
         let e = mul_small binary64 half c 1073 (2149 - a) (2148 - a) half-small rate-small (sum-half a a-high) (room-half a a-low) in
         let w = mul_small binary64 (half ⊗ c) u (2148 - a) (suc (suc a)) 1076 e (plus-small binary64 u (suc (suc a)) (record { value = v.value; plus = v.plus; le = l })) (sum-four a a-high) (lit< tt) in
         sum-within (g.hdg ⊕ k0 ⊗ u) (half ⊗ c ⊗ u) u fifteen-hundred four five-hundred sample-turn
-        (sum-within g.hdg k0 u greatest_heading one five-hundred fifteen-hundred wh w0 wu first-test) (small-within (half ⊗ c ⊗ u) four 1076 w four-real four-plus four-large) wu second-test
+        (sum-within g.hdg k0 u greatest_heading one five-hundred fifteen-hundred own.hdg w0 wu first-test) (small-within (half ⊗ c ⊗ u) four 1076 w (const-real _ tt) (const-plus _ tt) (const-at_least _ _ tt)) wu second-test
 
     -- ---- a step
 
     near-end : Plus binary64 (g.length ⊖ end_margin) (pl binary64 g.length)
-    near-end = sub-plus binary64 g.length end_margin il.value (length-plus g.length il) (nano-below g.length il)
+    near-end = sub-plus binary64 g.length end_margin own.length.value (length-plus g.length own.length) (nano-below g.length own.length)
 
     before-end : (u : Float) (M : ℕ) → Plus binary64 u M → T (goes_on g.length u) → Plus binary64 u (pl binary64 g.length)
     unfolding goes_on
     before-end u M v t = below binary64 u (g.length ⊖ end_margin) (pl binary64 g.length) v.value v.plus near-end t
 
     step-plus : (u : Float) → Plus binary64 u (pl binary64 g.length) → Plus binary64 (step_at g.length u) (pl binary64 g.length) × Plus binary64 (step_at g.length u) (2 ^ 1072)
-    step-plus u v = lesser-plus binary64 (g.length ⊖ u) whole_step (pl binary64 g.length) (2 ^ 1072) (sub-plus binary64 g.length u il.value (length-plus g.length il) v) quarter-plus
+    step-plus u v = lesser-plus binary64 (g.length ⊖ u) whole_step (pl binary64 g.length) (2 ^ 1072) (sub-plus binary64 g.length u own.length.value (length-plus g.length own.length) v) quarter-plus
 
     ahead : (u w : Float) (k : ℕ) → k < 2000 → Plus binary64 u (k * 2 ^ 1072) → Plus binary64 u (pl binary64 g.length) → Plus binary64 w (pl binary64 g.length) → Plus binary64 w (2 ^ 1072)
         → Plus binary64 (u ⊕ w) (suc k * 2 ^ 1072) × (pl binary64 (u ⊕ w) ≤ 2 ^ suc (suc a))
@@ -312,7 +232,7 @@ module _ (g : GeomRec) (k0 k1 : Float)
     -- c * step more, for a c of size 1 at most
     shifted : (x c w : Float) (k : ℕ) → k < 2000 → Real binary64 x → mag binary64 x ≤ (k + 4000000) * 2 ^ 1072 → Within binary64 c one → Plus binary64 w (2 ^ 1072) → Real binary64 (x ⊕ c ⊗ w) × (mag binary64 (x ⊕ c ⊗ w) ≤ (suc k + 4000000) * 2 ^ 1072)
     shifted x c w k h r l v q =
-        let m = mul_small binary64 c w 1074 1072 1072 (within-small c one 1074 v one-small) (plus-small binary64 w 1072 q) refl (lit< tt) in
+        let m = mul_small binary64 c w 1074 1072 1072 (within-small c one 1074 v (const-at_most _ _ tt)) (plus-small binary64 w 1072 q) refl (lit< tt) in
         let s = sum-next binary64 x (c ⊗ w) (k + 4000000) 1072 (few k h) (lit< tt) (lit< tt) r l m in
         (s.0, le_trans s.1 (le_of_eq (ap (λ (n : ℕ). n * 2 ^ 1072) (onward k))))
       where
@@ -332,7 +252,7 @@ module _ (g : GeomRec) (k0 k1 : Float)
         let b = before-end u (k * 2 ^ 1072) v.distance t in
         let step = step_at g.length u in
         let s = step-plus u b in
-        let m = ahead u (step ⊘ two) k h v.distance b (div-plus binary64 step two (pl binary64 g.length) s.0 two-real two-large) (div-plus binary64 step two (2 ^ 1072) s.1 two-real two-large) in
+        let m = ahead u (step ⊘ two) k h v.distance b (div-plus binary64 step two (pl binary64 g.length) s.0 (const-real _ tt) (const-at_least _ _ tt)) (div-plus binary64 step two (2 ^ 1072) s.1 (const-real _ tt) (const-at_least _ _ tt)) in
         let n = ahead u step k h v.distance b s.0 s.1 in
         let mid = u ⊕ step ⊘ two in
         let q = in_range_lem (heading_at g k0 k1 mid) (heading-within mid (plus-mono binary64 mid (suc k * 2 ^ 1072) (2000 * 2 ^ 1072) (up_to-2000 (suc k) h) m.0) m.1) in
@@ -353,11 +273,11 @@ module _ (g : GeomRec) (k0 k1 : Float)
         record {
           distance = zero-plus;
           short = le_trans zero-plus.le zero-le;
-          x_real = wx.value;
-          x = le_trans wx.le million-small;
-          y_real = wy.value;
-          y = le_trans wy.le million-small;
-          heading = within-mono binary64 g.hdg greatest_heading sample-turn wh thousand-turn.bound (le_of-within binary64 greatest_heading sample-turn thousand-turn).1;
+          x_real = own.x.value;
+          x = le_trans own.x.le (const-at_most _ _ tt);
+          y_real = own.y.value;
+          y = le_trans own.y.le (const-at_most _ _ tt);
+          heading = within-mono binary64 g.hdg greatest_heading sample-turn own.hdg (const-real _ tt) (le_of-within binary64 greatest_heading sample-turn (const-within _ _ tt)).1;
         }
 
     -- ---- all samples: i steps after p, where k are made before; the test of going on is an argument, as in `steps_from`
@@ -400,28 +320,28 @@ pub record SampleWithin (p : Sample) : Type 0 where
 shown : (a k : ℕ) (p : Sample) → k ≤ 1999 → Sampled a k p → SampleWithin p
 shown a k p h s =
     let v = s.distance in
-    let far = le_trans (mul-le-mul_right (2 ^ 1072) (let o : k + 4000000 ≤ 4002000 = omega arith in o)) far-large in
+    let far = le_trans (mul-le-mul_right (2 ^ 1072) (let o : k + 4000000 ≤ 4002000 = omega arith in o)) (const-at_least _ _ tt) in
     record {
       distance =
           record {
             low = zero-plus.value;
-            high = end-real;
+            high = const-real _ tt;
             value = v.value;
             above = parts→le binary64 zero64 p.distance zero-plus.value v.value (le_trans zero-plus.le zero-le) (le_trans (le_of_eq v.plus) zero-le);
-            below = parts→le binary64 p.distance sample-end v.value end-real (le_trans v.le (le_trans (mul-le-mul_right (2 ^ 1072) h) end-large)) (le_trans (le_of_eq end-plus) zero-le);
+            below = parts→le binary64 p.distance sample-end v.value (const-real _ tt) (le_trans v.le (le_trans (mul-le-mul_right (2 ^ 1072) h) (const-at_least _ _ tt))) (le_trans (le_of_eq (const-plus _ tt)) zero-le);
           };
-      x = record { value = s.x_real; bound = far-real; plus = far-plus; le = le_trans s.x far };
-      y = record { value = s.y_real; bound = far-real; plus = far-plus; le = le_trans s.y far };
+      x = record { value = s.x_real; bound = const-real _ tt; plus = const-plus _ tt; le = le_trans s.x far };
+      y = record { value = s.y_real; bound = const-real _ tt; plus = const-plus _ tt; le = le_trans s.y far };
       heading = s.heading;
     }
 
 -- every sample of a spiral of at most 1,999 steps
-pub sample-within : (g : GeomRec) (k0 k1 : Float) → Within binary64 g.x greatest_place → Within binary64 g.y greatest_place → Within binary64 g.hdg greatest_heading → Within binary64 k0 one → Within binary64 k1 one → In binary64 least_geom_length greatest_geom_length g.length
+pub sample-within : (g : GeomRec) (k0 k1 : Float) → GeomWithin g → Within binary64 k0 one → Within binary64 k1 one
     → (i : ℕ) (d : Sample) → g.shape ≡ Spiral k0 k1 → spiral_steps g.length ≤ 1999 → i ≤ spiral_steps g.length → SampleWithin (get_or (geom_samples g) i d)
-sample-within g k0 k1 wx wy wh w0 w1 il i d e b h =
-    let l = length-large g.length il in
-    let w = power_below (pl binary64 g.length) (lt_of_lt_of_le (pow_pos 1067) (le_trans hundredth-large l)) in
-    shown w.0 i (get_or (geom_samples g) i d) (le_trans h b) (sampled-at g k0 k1 wx wy wh w0 w1 il w.0 w.1.0 w.1.1 i d e b h)
+sample-within g k0 k1 own w0 w1 i d e b h =
+    let l = length-large g.length own.length in
+    let w = power_below (pl binary64 g.length) (lt_of_lt_of_le (pow_pos 1067) (le_trans (const-at_least _ _ tt) l)) in
+    shown w.0 i (get_or (geom_samples g) i d) (le_trans h b) (sampled-at g k0 k1 own w0 w1 w.0 w.1.0 w.1.1 i d e b h)
 
 -- a road that passes row 5 has no spiral of more steps
 pub few-steps : (road : Road) (i : ℕ) {k0 k1 : Float} → i < length road.geoms → (geom_at road i).shape ≡ Spiral k0 k1 → samples_needed road ≤ most_samples → spiral_steps (geom_at road i).length ≤ 1999

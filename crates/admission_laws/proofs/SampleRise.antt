@@ -10,13 +10,12 @@ use mathlib.Core.List.{List, ◌∷◌}
 use lib.ListN.{get_or}
 use lib.Dec.{T, lit<, lit≤}
 use lib.Pow.{pow_pos}
-use lib.Ieee.{Float, Format, prec, binary64, of_bits, le, lt, add, sub}
-use lib.Ieee.Scale.{finite}
+use lib.Ieee.{Float, Format, prec, binary64, of_bits, lt, add, sub}
 use Rattle.float_laws.specs.Binary64.{◌⊕◌, zero64}
 use Rattle.float_laws.proofs.Units.{rnd, rnd-err, rnd-le, rnd-pow, rnd-zero}
 use Rattle.float_laws.proofs.Value.{Real, pl, mi, lt→units, units→lt}
 use Rattle.float_laws.proofs.Operation.{add-Is, sub-Is}
-use Rattle.float_laws.proofs.Interval.{In, le→parts}
+use Rattle.float_laws.proofs.Interval.{le→parts}
 use Rattle.float_laws.proofs.Size.{Within}
 use Rattle.arithmetic_sine.specs.Sine.{one}
 use Rattle.records.specs.declared.points.GeomRec.{GeomRec}
@@ -24,8 +23,10 @@ use Rattle.records.specs.declared.points.GeomShape.TheVariants.{Spiral}
 use Rattle.line_samples.specs.declared.points.Sample.{Sample}
 use Rattle.line_samples.specs.Samples.{end_margin, goes_on, whole_step, step_at, steps_from, most_steps, spiral_steps, first_sample, next_sample, later_samples, geom_samples}
 use Rattle.line_samples.proofs.SpiralLaws.{samples-are, samples-next}
+use Rattle.admission_laws.proofs.Constants.{const-at_least}
+use Rattle.admission_laws.proofs.RoadBounds.{GeomWithin}
 use Rattle.admission_laws.proofs.Powers.{Plus, sub-plus}
-use Rattle.admission.specs.Limits.{greatest_place, greatest_heading, least_geom_length, greatest_geom_length}
+use Rattle.admission.specs.Limits.{greatest_geom_length}
 use Rattle.admission_laws.proofs.SampleBounds.{quarter-plus, not_below_zero_lem, length-plus, nano-below, sample-end, SampleWithin, sample-within}
 
 -- ---- one step, in any format: what is left is at least 2 ^ s units, and the distance changes by it
@@ -81,10 +82,6 @@ module _ (f : Format) (len u v q : Float) (s J K : ℕ) (rl : Real f len) (zl : 
   rises t r = let w = step-large (left t) in risen (cond (lt (sub f len u) q) (sub f len u) q) w.0 w.1 w.2 r
 
 -- ---- the constants
-quarter-large : 2 ^ 1043 ≤ pl binary64 whole_step
-unfolding of_bits pl
-quarter-large = lit≤ tt
-
 nano-large : 2 ^ (1088 - 53) + 2 * 2 ^ 1043 ≤ 2 * pl binary64 end_margin
 unfolding of_bits pl
 nano-large = lit≤ tt
@@ -115,11 +112,10 @@ module _ (g : GeomRec) (k0 k1 : Float) where
   goes_at i d e h = subst (λ (ps : List Sample). T (goes_on g.length (get_or ps i d).distance)) (sym (samples-are g e)) (goes most_steps (goes_on g.length zero64) (first_sample g) i d refl h)
 
 module _ (g : GeomRec) (k0 k1 : Float)
-    (wx : Within binary64 g.x greatest_place) (wy : Within binary64 g.y greatest_place) (wh : Within binary64 g.hdg greatest_heading)
-    (w0 : Within binary64 k0 one) (w1 : Within binary64 k1 one) (il : In binary64 least_geom_length greatest_geom_length g.length)
+    (own : GeomWithin g) (w0 : Within binary64 k0 one) (w1 : Within binary64 k1 one)
     (e : g.shape ≡ Spiral k0 k1) (few : spiral_steps g.length ≤ 1999) (d : Sample) where
   at : (k : ℕ) → k ≤ spiral_steps g.length → SampleWithin (get_or (geom_samples g) k d)
-  at k h = sample-within g k0 k1 wx wy wh w0 w1 il k d e few h
+  at k h = sample-within g k0 k1 own w0 w1 k d e few h
 
   -- each distance is below the next
   pub samples-rise : (k : ℕ) → k < spiral_steps g.length → T (lt (get_or (geom_samples g) k d).distance (get_or (geom_samples g) (suc k) d).distance)
@@ -132,7 +128,7 @@ module _ (g : GeomRec) (k0 k1 : Float)
       let n = samples-next g d k e h in
       let r : Real f (u ⊕ step_at g.length u) = subst (λ (p : Sample). Real f p.distance) n (at (suc k) h).distance.value in
       subst (λ (p : Sample). T (lt u p.distance)) (sym n)
-      (rises f g.length u end_margin whole_step 1043 1088 1083 il.value (length-plus g.length il) a.value zu (nano-below g.length il) quarter-plus.value quarter-plus.plus quarter-large
-      (lt_of_le_of_lt (le→parts f g.length greatest_geom_length il.value il.high il.below).0 ten-thousand-small)
+      (rises f g.length u end_margin whole_step 1043 1088 1083 own.length.value (length-plus g.length own.length) a.value zu (nano-below g.length own.length) quarter-plus.value quarter-plus.plus (const-at_least _ _ tt)
+      (lt_of_le_of_lt (le→parts f g.length greatest_geom_length own.length.value own.length.high own.length.below).0 ten-thousand-small)
       (under (pl f u) (pl f sample-end) (2 ^ 1043) (2 ^ 1083) (le→parts f u sample-end a.value a.high a.below).0 end-small) nano-large (lit< tt)
       (goes_at g k0 k1 k d e h) r)

@@ -6,34 +6,20 @@ use lib.Dec.{T}
 use lib.Ieee.{Float, binary64, of_bits, sub, lt, le, fits}
 use lib.Ieee.Scale.{finite}
 use Rattle.float_laws.specs.Binary64.{◌⊖◌, zero64}
-use Rattle.float_laws.proofs.Value.{Real, pl, mi, lt→units, le→units, units→lt}
+use Rattle.float_laws.proofs.Value.{Real, pl, mi, le_refl, lt→units, le→units, units→lt}
 use Rattle.float_laws.proofs.Interval.{In, in-of_le, sub_in}
-use Rattle.float_laws.proofs.Checker.{good-real}
 use Rattle.records.specs.declared.points.GeomRec.{GeomRec}
 use Rattle.records.specs.declared.points.GeomShape.TheVariants.{Spiral}
 use Rattle.line_samples.specs.Samples.{end_margin, goes_on, spiral_steps, sample_count}
 use Rattle.line_samples.proofs.SpiralLaws.{steps-some, count-spiral}
 use Rattle.admission.specs.Limits.{least_geom_length, greatest_geom_length}
-
-low_real : Real binary64 least_geom_length
-unfolding fits of_bits
-low_real = good-real binary64 least_geom_length tt
-
-high_real : Real binary64 greatest_geom_length
-unfolding fits of_bits
-high_real = good-real binary64 greatest_geom_length tt
-
-near-real : Real binary64 end_margin
-unfolding fits of_bits
-near-real = good-real binary64 end_margin tt
-
-zero-real : Real binary64 zero64
-unfolding fits of_bits
-zero-real = good-real binary64 zero64 tt
+use Rattle.admission_laws.proofs.Constants.{const-real}
 
 near-in : In binary64 end_margin end_margin end_margin
-unfolding le of_bits
-near-in = record { low = near-real; high = near-real; value = near-real; above = tt; below = tt }
+near-in =
+    let r : Real binary64 end_margin = const-real _ tt in
+    let same = le_refl binary64 end_margin r in
+    record { low = r; high = r; value = r; above = same; below = same }
 
 low-finite : T (finite (least_geom_length ⊖ end_margin))
 unfolding sub of_bits
@@ -53,14 +39,14 @@ chain zp zm ap am bp bm h k = omega arith
 
 module _ (len : Float) (f : T (fits binary64 len)) (l : T (le least_geom_length len)) (h : T (le len greatest_geom_length)) where
   left : In binary64 (least_geom_length ⊖ end_margin) (greatest_geom_length ⊖ end_margin) (len ⊖ end_margin)
-  left = sub_in binary64 least_geom_length greatest_geom_length end_margin end_margin len end_margin (in-of_le binary64 least_geom_length greatest_geom_length len low_real high_real f l h) near-in low-finite high-finite
+  left = sub_in binary64 least_geom_length greatest_geom_length end_margin end_margin len end_margin (in-of_le binary64 least_geom_length greatest_geom_length len (const-real _ tt) (const-real _ tt) f l h) near-in low-finite high-finite
 
   goes : T (lt zero64 (len ⊖ end_margin))
   goes =
       let i = left in
-      let a = lt→units binary64 zero64 (least_geom_length ⊖ end_margin) zero-real i.low above_zero in
+      let a = lt→units binary64 zero64 (least_geom_length ⊖ end_margin) (const-real _ tt) i.low above_zero in
       let b = le→units binary64 (least_geom_length ⊖ end_margin) (len ⊖ end_margin) i.low i.value i.above in
-      units→lt binary64 zero64 (len ⊖ end_margin) zero-real i.value (chain (pl binary64 zero64) (mi binary64 zero64) (pl binary64 (least_geom_length ⊖ end_margin)) (mi binary64 (least_geom_length ⊖ end_margin)) (pl binary64 (len ⊖ end_margin)) (mi binary64 (len ⊖ end_margin)) a b)
+      units→lt binary64 zero64 (len ⊖ end_margin) (const-real _ tt) i.value (chain (pl binary64 zero64) (mi binary64 zero64) (pl binary64 (least_geom_length ⊖ end_margin)) (mi binary64 (least_geom_length ⊖ end_margin)) (pl binary64 (len ⊖ end_margin)) (mi binary64 (len ⊖ end_margin)) a b)
 
   pub admitted-steps : 1 ≤ spiral_steps len
   unfolding goes_on

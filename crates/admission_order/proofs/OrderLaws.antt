@@ -2,6 +2,7 @@
 use Prim.Native.Nat.{ℕ, ◌+◌, ◌-◌, ◌<◌, ◌≤◌}
 use native.Mathlib.Omega.{arith}
 use mathlib.Core.Path.{◌≡◌, refl, ap}
+use mathlib.Core.Logic.{⊎_elim}
 use mathlib.Core.Bool.{Bool, true, false, not, ◌&&◌, ◌||◌}
 use mathlib.Core.List.{List, [], ◌∷◌}
 use lib.ListN.{length, get_or, get_or-eq_default}
@@ -9,6 +10,7 @@ use lib.Dec.{T, eqb, ltb}
 use lib.Ieee.{Float, le, lt, eq}
 use borrow.Author.Tests.{eq-eqb, ltb-true, ltb-false}
 use Rattle.std.proofs.lemmas.Float.{T_from_true}
+use Rattle.std.proofs.lemmas.Bool.{cases_lt}
 use Rattle.float_laws.specs.Binary64.{◌⊖◌, zero64}
 use Rattle.records_cubic.specs.declared.cubics.Cubic.{Cubic}
 use Rattle.records.specs.declared.points.HeightDef.{HeightDef}
@@ -85,11 +87,11 @@ no_lane_lem = record { extents = λ i l. none i l; heights = λ i l. none i l }
 
 -- the k-th of some lanes whose tests passed
 lane_of_lem : (lanes : List Lane) → all_below (λ k. lane_in_order (get_or lanes k no_lane)) (length lanes) ≡ true → (k : ℕ) → LaneOrdered (get_or lanes k no_lane)
-lane_of_lem lanes e k = go (ltb k (length lanes)) refl
-  where
-    go : (b : Bool) → ltb k (length lanes) ≡ b → LaneOrdered (get_or lanes k no_lane)
-    go true l = lane-ordered (get_or lanes k no_lane) (all-at (λ k. lane_in_order (get_or lanes k no_lane)) (length lanes) e k (ltb-true k (length lanes) l))
-    go false l = rw (get_or-eq_default lanes no_lane {n = k} (ltb-false k (length lanes) l)) no_lane_lem
+lane_of_lem lanes e k =
+    ⊎_elim
+    (λ l. lane-ordered (get_or lanes k no_lane) (all-at (λ k. lane_in_order (get_or lanes k no_lane)) (length lanes) e k l))
+    (λ l. rw (get_or-eq_default lanes no_lane {n = k} l) no_lane_lem)
+    (cases_lt k (length lanes))
 
 -- the lanes of a section whose tests passed, and of none
 section-ordered : (road : Road) (i : ℕ) → section_in_order road i ≡ true → (k : ℕ) (right : Bool) → LaneOrdered (lane_of road i right k)
@@ -110,18 +112,18 @@ no_section_lem road i k true l = rw (get_or-eq_default road.sections no_section 
 no_section_lem road i k false l = rw (get_or-eq_default road.sections no_section {n = i} l) no_lane_lem
 
 lanes-ordered : (road : Road) → all_below (section_in_order road) (length road.sections) ≡ true → (i k : ℕ) (right : Bool) → LaneOrdered (lane_of road i right k)
-lanes-ordered road e i k right = go (ltb i (length road.sections)) refl
-  where
-    go : (b : Bool) → ltb i (length road.sections) ≡ b → LaneOrdered (lane_of road i right k)
-    go true l = section-ordered road i (all-at (section_in_order road) (length road.sections) e i (ltb-true i (length road.sections) l)) k right
-    go false l = no_section_lem road i k right (ltb-false i (length road.sections) l)
+lanes-ordered road e i k right =
+    ⊎_elim
+    (λ l. section-ordered road i (all-at (section_in_order road) (length road.sections) e i l) k right)
+    (λ l. no_section_lem road i k right l)
+    (cases_lt i (length road.sections))
 
 shapes-ordered : (road : Road) → all_below (λ i. cubics_in_order (profile_at road i).shapes) (length road.profiles) ≡ true → (i : ℕ) → CubicsRise (profile_at road i).shapes
-shapes-ordered road e i = go (ltb i (length road.profiles)) refl
-  where
-    go : (b : Bool) → ltb i (length road.profiles) ≡ b → CubicsRise (profile_at road i).shapes
-    go true l = cubics-rise (profile_at road i).shapes (all-at (λ i. cubics_in_order (profile_at road i).shapes) (length road.profiles) e i (ltb-true i (length road.profiles) l))
-    go false l = rw (get_or-eq_default road.profiles no_profile {n = i} (ltb-false i (length road.profiles) l)) (λ j m. none j m)
+shapes-ordered road e i =
+    ⊎_elim
+    (λ l. cubics-rise (profile_at road i).shapes (all-at (λ i. cubics_in_order (profile_at road i).shapes) (length road.profiles) e i l))
+    (λ l. rw (get_or-eq_default road.profiles no_profile {n = i} l) (λ j m. none j m))
+    (cases_lt i (length road.profiles))
 
 columns-ordered : (strip : Strip) → strip_in_order strip ≡ true → (column : ℕ) → column < 5 → CubicsRise (column_of strip column)
 unfolding strip_in_order

@@ -3,12 +3,14 @@ use Prim.Native.Nat.{ℕ, ◌+◌, ◌*◌, ◌/◌, ◌<◌, ◌≤◌}
 use native.Mathlib.Omega.{arith}
 use native.Mathlib.Nat.{add_assoc}
 use mathlib.Core.Path.{◌≡◌, refl, ap, ◌∙◌, sym, subst}
+use mathlib.Core.Logic.{⊎_elim}
 use mathlib.Core.Bool.{Bool, true, false, ◌&&◌, ◌||◌}
 use mathlib.Core.List.{List, [], ◌∷◌}
 use lib.ListN.{length, get_or, drop, length-take, length-drop}
 use lib.Dec.{leb, ltb, eqb}
 use lib.Ieee.{Float}
 use borrow.Author.Tests.{leb-true, ltb-true, ltb-false}
+use Rattle.std.proofs.lemmas.Bool.{cases_lt}
 use Rattle.records_lent.specs.Lists.{span, all_below}
 use Rattle.records.specs.declared.points.Mark.{Mark}
 use Rattle.records.specs.Roads.{Road, Section, Lane, Profile, road_of, word_at, cubics_in, heights_in, lane_in, profile_in, column_in, section_of, lane_of, no_lane, profile_at, strip_at, column_of, mark_in, mark_at}
@@ -78,7 +80,7 @@ module _ (words : List ℕ) (numbers : List Float) where
   road = road_of words numbers
 
   -- ---- lanes
-  lane-few : (j : ℕ) → lane_ok words numbers j ≡ true → LaneFew (lane_in words numbers j)
+  lane-few : (j : ℕ) → lane_ok words j ≡ true → LaneFew (lane_in words numbers j)
   unfolding lane_ok lane_in
   lane-few j e =
       let at : ℕ → ℕ = λ i. word_at words numbers (119 + j * 6 + i) in
@@ -94,41 +96,37 @@ module _ (words : List ℕ) (numbers : List Float) where
   record SectionFew (i : ℕ) : Type 0 where
     left : get_or words (72 + i * 3) 0 ≤ 6
     right : get_or words (73 + i * 3) 0 ≤ 6
-    lanes : (j : ℕ) → j < get_or words (72 + i * 3) 0 + get_or words (73 + i * 3) 0 → lane_ok words numbers (get_or words (71 + i * 3) 0 + j) ≡ true
+    lanes : (j : ℕ) → j < get_or words (72 + i * 3) 0 + get_or words (73 + i * 3) 0 → lane_ok words (get_or words (71 + i * 3) 0 + j) ≡ true
 
-  section-few : (i : ℕ) → section_ok words numbers i ≡ true → SectionFew i
+  section-few : (i : ℕ) → section_ok words i ≡ true → SectionFew i
   unfolding section_ok
   section-few i e =
       let first : ℕ = get_or words (71 + i * 3) 0 in
       let left : ℕ = get_or words (72 + i * 3) 0 in
       let right : ℕ = get_or words (73 + i * 3) 0 in
-      let f : leb left 6 && leb right 6 && leb (first + (left + right)) 192 && all_below (λ j. lane_ok words numbers (first + j)) (left + right) ≡ true =
+      let f : leb left 6 && leb right 6 && leb (first + (left + right)) 192 && all_below (λ j. lane_ok words (first + j)) (left + right) ≡ true =
       rw (plus 71 1 (i * 3), plus 71 2 (i * 3)) at e
       in
-      let t = chain-at (leb left 6) (leb right 6 ∷ leb (first + (left + right)) 192 ∷ all_below (λ j. lane_ok words numbers (first + j)) (left + right) ∷ []) f in
-      record { left = leb-true left 6 (t 0); right = leb-true right 6 (t 1); lanes = all-at (λ j. lane_ok words numbers (first + j)) (left + right) (t 3) }
+      let t = chain-at (leb left 6) (leb right 6 ∷ leb (first + (left + right)) 192 ∷ all_below (λ j. lane_ok words (first + j)) (left + right) ∷ []) f in
+      record { left = leb-true left 6 (t 0); right = leb-true right 6 (t 1); lanes = all-at (λ j. lane_ok words (first + j)) (left + right) (t 3) }
 
   module _ (i : ℕ) (h : i < get_or words 5 0) (s : SectionFew i) where
     left_lane : (k : ℕ) → LaneFew (lane_of road i false k)
-    left_lane k = go (ltb k (get_or words (72 + i * 3) 0)) refl
-      where
-        go : (b : Bool) → ltb k (get_or words (72 + i * 3) 0) ≡ b → LaneFew (lane_of road i false k)
-        go true l =
-            let m = ltb-true k (get_or words (72 + i * 3) 0) l in
-            rw (left_lane-in words numbers i k h m) (lane-few (get_or words (71 + i * 3) 0 + k) (s.lanes k (omega arith)))
-        go false l = rw (left_lane-past words numbers i k h (ltb-false k (get_or words (72 + i * 3) 0) l)) none-few
+    left_lane k =
+        ⊎_elim
+        (λ l. rw (left_lane-in words numbers i k h l) (lane-few (get_or words (71 + i * 3) 0 + k) (s.lanes k (omega arith))))
+        (λ l. rw (left_lane-past words numbers i k h l) none-few)
+        (cases_lt k (get_or words (72 + i * 3) 0))
 
     right_lane : (k : ℕ) → LaneFew (lane_of road i true k)
-    right_lane k = go (ltb k (get_or words (73 + i * 3) 0)) refl
-      where
-        go : (b : Bool) → ltb k (get_or words (73 + i * 3) 0) ≡ b → LaneFew (lane_of road i true k)
-        go true l =
-            let m = ltb-true k (get_or words (73 + i * 3) 0) l in
-            rw (right_lane-in words numbers i k h m, add_assoc (get_or words (71 + i * 3) 0) (get_or words (72 + i * 3) 0) k) (lane-few (get_or words (71 + i * 3) 0 + (get_or words (72 + i * 3) 0 + k)) (s.lanes (get_or words (72 + i * 3) 0 + k) (omega arith)))
-        go false l = rw (right_lane-past words numbers i k h (ltb-false k (get_or words (73 + i * 3) 0) l)) none-few
+    right_lane k =
+        ⊎_elim
+        (λ l. rw (right_lane-in words numbers i k h l, add_assoc (get_or words (71 + i * 3) 0) (get_or words (72 + i * 3) 0) k) (lane-few (get_or words (71 + i * 3) 0 + (get_or words (72 + i * 3) 0 + k)) (s.lanes (get_or words (72 + i * 3) 0 + k) (omega arith))))
+        (λ l. rw (right_lane-past words numbers i k h l) none-few)
+        (cases_lt k (get_or words (73 + i * 3) 0))
 
   -- ---- profiles and strips
-  shapes-few : (i : ℕ) → 8449 ≤ length numbers → i < get_or words 6 0 → profile_ok words numbers i ≡ true → Counted 1 16 (length (profile_at road i).shapes)
+  shapes-few : (i : ℕ) → 8449 ≤ length numbers → i < get_or words 6 0 → profile_ok words i ≡ true → Counted 1 16 (length (profile_at road i).shapes)
   unfolding profile_ok profile_in
   shapes-few i m l e =
       let first : ℕ = get_or words (1271 + i * 2) 0 in
@@ -139,7 +137,7 @@ module _ (words : List ℕ) (numbers : List Float) where
       in
       record { enough = omega arith; few = omega arith }
 
-  column-few : (i column : ℕ) → column_ok words numbers i column ≡ true → length (column_in words numbers i column) ≤ 8
+  column-few : (i column : ℕ) → column_ok words i column ≡ true → length (column_in words numbers i column) ≤ 8
   unfolding column_ok column_in
   column-few i column e =
       let first : ℕ = get_or words (1303 + i * 11 + 1 + column * 2) 0 in
@@ -148,7 +146,7 @@ module _ (words : List ℕ) (numbers : List Float) where
       let n = cubics-most words numbers 7137 first count in
       omega arith
 
-  columns-few : (i column : ℕ) → i < 4 → column < 5 → strip_ok words numbers i ≡ true → length (column_of (strip_at road i) column) ≤ 8
+  columns-few : (i column : ℕ) → i < 4 → column < 5 → strip_ok words i ≡ true → length (column_of (strip_at road i) column) ≤ 8
   unfolding strip_ok
   columns-few i column l m e = go (eqb (get_or words (1303 + i * 11) 0) 0) refl
     where
@@ -156,15 +154,15 @@ module _ (words : List ℕ) (numbers : List Float) where
       go true f = rw (column-absent words numbers i column l f) (omega arith)
       go false f =
           let code : ℕ = get_or words (1303 + i * 11) 0 in
-          let t = chain-at (ltb code 3) ((eqb code 0 || all_below (column_ok words numbers i) 5) ∷ []) e in
-          let a = either (eqb code 0) (all_below (column_ok words numbers i) 5) (t 1) f in
-          rw (column_in_lem words numbers i column l m f) (column-few i column (all-at (column_ok words numbers i) 5 a column m))
+          let t = chain-at (ltb code 3) ((eqb code 0 || all_below (column_ok words i) 5) ∷ []) e in
+          let a = either (eqb code 0) (all_below (column_ok words i) 5) (t 1) f in
+          rw (column_in_lem words numbers i column l m f) (column-few i column (all-at (column_ok words i) 5 a column m))
 
-  columns_most_lem : all_below (strip_ok words numbers) 4 ≡ true → (i column : ℕ) → length (column_of (strip_at road i) column) ≤ 8
+  columns_most_lem : all_below (strip_ok words) 4 ≡ true → (i column : ℕ) → length (column_of (strip_at road i) column) ≤ 8
   columns_most_lem e i column = go (ltb i 4) (ltb column 5) refl refl
     where
       go : (a b : Bool) → ltb i 4 ≡ a → ltb column 5 ≡ b → length (column_of (strip_at road i) column) ≤ 8
-      go true true l m = let k = ltb-true i 4 l in columns-few i column k (ltb-true column 5 m) (all-at (strip_ok words numbers) 4 e i k)
+      go true true l m = let k = ltb-true i 4 l in columns-few i column k (ltb-true column 5 m) (all-at (strip_ok words) 4 e i k)
       go true false l m = rw (column-over words numbers i column (ltb-true i 4 l) (ltb-false column 5 m)) (omega arith)
       go false b l m = rw (column-past words numbers i column (ltb-false i 4 l)) (omega arith)
 
@@ -173,7 +171,7 @@ module _ (words : List ℕ) (numbers : List Float) where
     few : get_or words (1348 + i * 2) 0 ≤ 16
     lanes : (j : ℕ) → j < get_or words (1348 + i * 2) 0 → get_or words (1379 + (get_or words (1347 + i * 2) 0 + j) * 2) 0 < get_or words (72 + i * 3) 0 + get_or words (73 + i * 3) 0
 
-  marks-few : (i : ℕ) → marks_ok words numbers i ≡ true → MarksFew i
+  marks-few : (i : ℕ) → marks_ok words i ≡ true → MarksFew i
   unfolding marks_ok
   marks-few i e =
       let first : ℕ = get_or words (1347 + i * 2) 0 in
@@ -184,16 +182,16 @@ module _ (words : List ℕ) (numbers : List Float) where
       let t = chain-at (leb 0 count && leb count 16 && leb (first + count) 256) (all_below on count ∷ []) f in
       record { few = (range-is 0 16 256 first count (t 0)).few; lanes = λ j l. ltb-true (get_or words (1379 + (first + j) * 2) 0) lanes (all-at on count (t 1) j l) }
 
-  module _ (e : all_below (marks_ok words numbers) (get_or words 5 0) ≡ true) where
+  module _ (e : all_below (marks_ok words) (get_or words 5 0) ≡ true) where
     in-marks : (i : ℕ) → i < get_or words 5 0 → MarksFew i
-    in-marks i l = marks-few i (all-at (marks_ok words numbers) (get_or words 5 0) e i l)
+    in-marks i l = marks-few i (all-at (marks_ok words) (get_or words 5 0) e i l)
 
     marks-most : (i : ℕ) → length (section_of road i).marks ≤ 16
-    marks-most i = go (ltb i (get_or words 5 0)) refl
-      where
-        go : (b : Bool) → ltb i (get_or words 5 0) ≡ b → length (section_of road i).marks ≤ 16
-        go true l = let m = ltb-true i (get_or words 5 0) l in rw (mark_count_lem words numbers i m) (in-marks i m).few
-        go false l = rw (section-past words numbers i (ltb-false i (get_or words 5 0) l)) (omega arith)
+    marks-most i =
+        ⊎_elim
+        (λ l. rw (mark_count_lem words numbers i l) (in-marks i l).few)
+        (λ l. rw (section-past words numbers i l) (omega arith))
+        (cases_lt i (get_or words 5 0))
 
     marks-on : (i j : ℕ) → j < length (section_of road i).marks → (mark_at road i j).lane < length (section_of road i).left + length (section_of road i).right
     unfolding mark_in
@@ -231,23 +229,23 @@ module _ (words : List ℕ) (numbers : List Float) where
     pub marks : (i : ℕ) → length (section_of road i).marks ≤ 16
     pub mark_lanes : (i j : ℕ) → j < length (section_of road i).marks → (mark_at road i j).lane < length (section_of road i).left + length (section_of road i).right
 
-  module _ (e : all_below (section_ok words numbers) (get_or words 5 0) ≡ true) where
+  module _ (e : all_below (section_ok words) (get_or words 5 0) ≡ true) where
     in-section : (i : ℕ) → i < get_or words 5 0 → SectionFew i
-    in-section i l = section-few i (all-at (section_ok words numbers) (get_or words 5 0) e i l)
+    in-section i l = section-few i (all-at (section_ok words) (get_or words 5 0) e i l)
 
     lefts : (i : ℕ) → length (section_of road i).left ≤ 6
-    lefts i = go (ltb i (get_or words 5 0)) refl
-      where
-        go : (b : Bool) → ltb i (get_or words 5 0) ≡ b → length (section_of road i).left ≤ 6
-        go true l = let m = ltb-true i (get_or words 5 0) l in rw (left_count_lem words numbers i m) (in-section i m).left
-        go false l = rw (section-past words numbers i (ltb-false i (get_or words 5 0) l)) (omega arith)
+    lefts i =
+        ⊎_elim
+        (λ l. rw (left_count_lem words numbers i l) (in-section i l).left)
+        (λ l. rw (section-past words numbers i l) (omega arith))
+        (cases_lt i (get_or words 5 0))
 
     rights : (i : ℕ) → length (section_of road i).right ≤ 6
-    rights i = go (ltb i (get_or words 5 0)) refl
-      where
-        go : (b : Bool) → ltb i (get_or words 5 0) ≡ b → length (section_of road i).right ≤ 6
-        go true l = let m = ltb-true i (get_or words 5 0) l in rw (right_count_lem words numbers i m) (in-section i m).right
-        go false l = rw (section-past words numbers i (ltb-false i (get_or words 5 0) l)) (omega arith)
+    rights i =
+        ⊎_elim
+        (λ l. rw (right_count_lem words numbers i l) (in-section i l).right)
+        (λ l. rw (section-past words numbers i l) (omega arith))
+        (cases_lt i (get_or words 5 0))
 
     lanes-few : (i k : ℕ) (right : Bool) → LaneFew (lane_of road i right k)
     lanes-few i k right = go right (ltb i (get_or words 5 0)) refl
@@ -261,11 +259,11 @@ module _ (words : List ℕ) (numbers : List Float) where
     record Tests : Type 0 where
       long_words : leb 1891 (length words) ≡ true
       long_numbers : leb 8449 (length numbers) ≡ true
-      counts : counts_ok words numbers ≡ true
-      sections : all_below (section_ok words numbers) (get_or words 5 0) ≡ true
-      profiles : all_below (profile_ok words numbers) (get_or words 6 0) ≡ true
-      strips : all_below (strip_ok words numbers) 4 ≡ true
-      marks : all_below (marks_ok words numbers) (get_or words 5 0) ≡ true
+      counts : counts_ok words ≡ true
+      sections : all_below (section_ok words) (get_or words 5 0) ≡ true
+      profiles : all_below (profile_ok words) (get_or words 6 0) ≡ true
+      strips : all_below (strip_ok words) 4 ≡ true
+      marks : all_below (marks_ok words) (get_or words 5 0) ≡ true
 
     tests : Tests
     unfolding structured
@@ -273,7 +271,7 @@ module _ (words : List ℕ) (numbers : List Float) where
         let t =
         chain-at
         (leb 1891 (length words))
-        (leb 8449 (length numbers) ∷ counts_ok words numbers ∷ kinds_ok words numbers ∷ all_below (section_ok words numbers) (get_or words 5 0) ∷ all_below (profile_ok words numbers) (get_or words 6 0) ∷ all_below (strip_ok words numbers) 4 ∷ all_below (marks_ok words numbers) (get_or words 5 0) ∷ [])
+        (leb 8449 (length numbers) ∷ counts_ok words ∷ kinds_ok words ∷ all_below (section_ok words) (get_or words 5 0) ∷ all_below (profile_ok words) (get_or words 6 0) ∷ all_below (strip_ok words) 4 ∷ all_below (marks_ok words) (get_or words 5 0) ∷ [])
         e
         in
         record { long_words = t 0; long_numbers = t 1; counts = t 2; sections = t 4; profiles = t 5; strips = t 6; marks = t 7 }
@@ -310,7 +308,7 @@ module _ (words : List ℕ) (numbers : List Float) where
           right = rights tests.sections;
           lanes = lanes-few tests.sections;
           profiles = rw (profile_count_lem words numbers) (leb-true (get_or words 6 0) 16 (count-tests 8));
-          shapes = λ i l. let m = rw (profile_count_lem words numbers) at l in shapes-few i n m (all-at (profile_ok words numbers) (get_or words 6 0) tests.profiles i m);
+          shapes = λ i l. let m = rw (profile_count_lem words numbers) at l in shapes-few i n m (all-at (profile_ok words) (get_or words 6 0) tests.profiles i m);
           columns = columns_most_lem tests.strips;
           marks = marks-most tests.marks;
           mark_lanes = marks-on tests.marks;

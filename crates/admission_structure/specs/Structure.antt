@@ -1,24 +1,19 @@
 -- Document 01, row 3, "counts, references or order wrong": counts and references. They are tested on the lent words themselves, before anything is decoded:
 -- "In a lent road a code that stands for no listed word, or a range past its slice's end, is 3", and so is a count over its limit or a slice shorter than the layout.
 -- A range of no lines has to start inside its table or at its end. Ranges may overlap. The ranges of a strip that is not there are not read.
-use Rattle.std.specs.Prelude.{ℕ, ◌+◌, ◌*◌, Bool, ◌&&◌, ◌||◌, List, length, eqb, Float}
+use Rattle.std.specs.Prelude.{ℕ, ◌+◌, ◌*◌, Bool, ◌&&◌, ◌||◌, List, length, get_or, eqb, Float}
 use Rattle.std.proofs.Math.Dec.{leb, ltb}
 use Rattle.records_lent.specs.Lists.{all_below}
-use Rattle.records.specs.Roads.{word_at}
 use Rattle.records.specs.Layout.{geom_count_at, elev_count_at, bank_count_at, offset_count_at, tshift_count_at, section_count_at, profile_count_at, kind_words, section_words, section_stride, lane_words, lane_stride, profile_words, profile_stride, strip_words, strip_stride, words_needed, numbers_needed, most_geoms, most_elevs, most_banks, most_offsets, most_shifts, most_sections, most_lanes_a_side, most_lanes, most_extents_a_lane, most_extents, most_heights_a_lane, most_heights, most_profiles, most_shapes_a_profile, most_shapes, most_cubics_a_term, most_cubics, section_mark_words, section_mark_stride, mark_words, mark_stride, most_marks_a_section, most_marks}
 
 -- "a range past its slice's end, is 3": least to most lines, inside a table of limit lines
 abbrev pub range_ok : ℕ → ℕ → ℕ → ℕ → ℕ → Bool
 range_ok least most limit first count = leb least count && leb count most && leb (first + count) limit
 
-module _ (words : List ℕ) (numbers : List Float) where
-  -- a lent word
+module _ (words : List ℕ) where
+  -- a lent word, 0 past the end
   abbrev pub w : ℕ → ℕ
-  w = word_at words numbers
-
-  -- both slices as long as the layout
-  abbrev pub slices_ok : Bool
-  slices_ok = leb words_needed (length words) && leb numbers_needed (length numbers)
+  w k = get_or words k 0
 
   -- "geom: .. (1..64)", "elev, bank, offset, tshift: .. (0..64 each)", "section: start (1..16)", "profile: s (0..16)"
   unfoldable pub counts_ok : Bool
@@ -63,8 +58,13 @@ module _ (words : List ℕ) (numbers : List Float) where
       let lanes = w (section_words + i * section_stride + 1) + w (section_words + i * section_stride + 2) in
       range_ok 0 most_marks_a_section most_marks (w k) (w (k + 1)) && all_below (λ j. ltb (w (mark_words + (w k + j) * mark_stride)) lanes) (w (k + 1))
 
-  -- "counts, references or order wrong", but for the order
-  unfoldable pub structured : Bool
-  unfolding all_below counts_ok kinds_ok section_ok profile_ok strip_ok marks_ok
-  structured =
-      slices_ok && counts_ok && kinds_ok && all_below section_ok (w section_count_at) && all_below profile_ok (w profile_count_at) && all_below strip_ok 4 && all_below marks_ok (w section_count_at)
+  module _ (numbers : List Float) where
+    -- both slices as long as the layout
+    abbrev pub slices_ok : Bool
+    slices_ok = leb words_needed (length words) && leb numbers_needed (length numbers)
+
+    -- "counts, references or order wrong", but for the order
+    unfoldable pub structured : Bool
+    unfolding all_below counts_ok kinds_ok section_ok profile_ok strip_ok marks_ok
+    structured =
+        slices_ok && counts_ok && kinds_ok && all_below section_ok (w section_count_at) && all_below profile_ok (w profile_count_at) && all_below strip_ok 4 && all_below marks_ok (w section_count_at)

@@ -1,4 +1,4 @@
-// The marks of each section: how many, and on which lanes. By the slices, since this speaks of the words, which a road's model hides.
+// The marks of each section: how many, and on which lanes. Over the words, which a road's model hides.
 ghost use Rattle.std.specs.Prelude.{◌≡◌, ◌+◌, ◌*◌, ◌<◌, get_or, ltb};
 ghost use Rattle.records_lent.specs.Lists.{all_below};
 ghost use Rattle.records.specs.Layout.{section_count_at, mark_words, mark_stride};
@@ -21,9 +21,9 @@ fn on_lanes(words: &[u16], first: usize, n: usize, lanes: usize) -> bool
 
 // A section's marks: their number first, then the lane of each.
 #[tactic(auto, unfolding(crate::specs::Structure::marks_ok))]
-fn section_marks_ok(words: &[u16], numbers: &[f64], i: usize) -> bool
+fn section_marks_ok(words: &[u16], i: usize) -> bool
     requires { i < 65536 }
-    ensures { result ≡ marks_ok words.now numbers.now i }
+    ensures { result ≡ marks_ok words.now i }
 {
     let k = SECTION_MARK_WORDS + i * SECTION_MARK_STRIDE;
     let first = word(words, k);
@@ -34,9 +34,9 @@ fn section_marks_ok(words: &[u16], numbers: &[f64], i: usize) -> bool
         && on_lanes(words, first, count, lanes)
 }
 
-pub(crate) fn marks_ok(words: &[u16], numbers: &[f64]) -> bool
-    ensures { result ≡ all_below (marks_ok words.now numbers.now) (get_or words.now section_count_at 0) }
+pub(crate) fn marks_ok(words: &[u16]) -> bool
+    ensures { result ≡ all_below (marks_ok words.now) (get_or words.now section_count_at 0) }
 {
     let n = word(words, SECTION_COUNT_AT);
-    (0..n).all(|i| section_marks_ok(words, numbers, i))
+    (0..n).all(|i| section_marks_ok(words, i))
 }

@@ -1,5 +1,5 @@
 // Counts, codes and ranges of the lent words. Each count is tested before anything loops over it, so that a broken road is refused at once.
-// The functions take the two slices and no LentRoad: they speak of the words, which a road's model hides, and the definitions name both lists.
+// They are over the words, and no LentRoad, whose model hides them.
 ghost use Rattle.std.specs.Prelude.{◌≡◌, ◌+◌, ◌<◌, get_or};
 ghost use Rattle.records_lent.specs.Lists.{all_below};
 ghost use Rattle.records.specs.Layout.{section_count_at, profile_count_at};
@@ -25,8 +25,8 @@ pub(crate) fn range_ok(least: usize, most: usize, limit: usize, first: usize, co
 }
 
 #[tactic(auto, unfolding(crate::specs::Structure::counts_ok))]
-fn counts_ok(words: &[u16], numbers: &[f64]) -> bool
-    ensures { result ≡ counts_ok words.now numbers.now }
+fn counts_ok(words: &[u16]) -> bool
+    ensures { result ≡ counts_ok words.now }
 {
     let geoms = word(words, GEOM_COUNT_AT);
     let sections = word(words, SECTION_COUNT_AT);
@@ -41,8 +41,8 @@ fn counts_ok(words: &[u16], numbers: &[f64]) -> bool
         && (word(words, PROFILE_COUNT_AT) <= MOST_PROFILES)
 }
 
-fn kinds_ok(words: &[u16], numbers: &[f64]) -> bool
-    ensures { result ≡ kinds_ok words.now numbers.now }
+fn kinds_ok(words: &[u16]) -> bool
+    ensures { result ≡ kinds_ok words.now }
 {
     let n = word(words, GEOM_COUNT_AT);
     (0..n).all(|i| word(words, KIND_WORDS + i) < 3)
@@ -50,9 +50,9 @@ fn kinds_ok(words: &[u16], numbers: &[f64]) -> bool
 
 // The j-th lane's codes and ranges.
 #[tactic(auto, unfolding(crate::specs::Structure::lane_ok))]
-fn lane_ok(words: &[u16], numbers: &[f64], j: usize) -> bool
+fn lane_ok(words: &[u16], j: usize) -> bool
     requires { j < 262144 }
-    ensures { result ≡ lane_ok words.now numbers.now j }
+    ensures { result ≡ lane_ok words.now j }
 {
     let k = LANE_WORDS + j * LANE_STRIDE;
     let codes = (word(words, k) < 2) & (word(words, k + 1) < 2);
@@ -73,18 +73,18 @@ fn lane_ok(words: &[u16], numbers: &[f64], j: usize) -> bool
     codes & extents & heights
 }
 
-fn lanes_ok(words: &[u16], numbers: &[f64], first: usize, n: usize) -> bool
+fn lanes_ok(words: &[u16], first: usize, n: usize) -> bool
     requires { (first < 65536) × (n < 131072) }
-    ensures { result ≡ all_below (λ j. lane_ok words.now numbers.now (first + j)) n }
+    ensures { result ≡ all_below (λ j. lane_ok words.now (first + j)) n }
 {
-    (0..n).all(|j| lane_ok(words, numbers, first + j))
+    (0..n).all(|j| lane_ok(words, first + j))
 }
 
 // A section's lanes: their number first, then each.
 #[tactic(auto, unfolding(crate::specs::Structure::section_ok))]
-fn section_ok(words: &[u16], numbers: &[f64], i: usize) -> bool
+fn section_ok(words: &[u16], i: usize) -> bool
     requires { i < 65536 }
-    ensures { result ≡ section_ok words.now numbers.now i }
+    ensures { result ≡ section_ok words.now i }
 {
     let k = SECTION_WORDS + i * SECTION_STRIDE;
     let first = word(words, k);
@@ -93,20 +93,20 @@ fn section_ok(words: &[u16], numbers: &[f64], i: usize) -> bool
     (left <= MOST_LANES_A_SIDE)
         && (right <= MOST_LANES_A_SIDE)
         && (first + (left + right) <= MOST_LANES)
-        && lanes_ok(words, numbers, first, left + right)
+        && lanes_ok(words, first, left + right)
 }
 
-fn sections_ok(words: &[u16], numbers: &[f64]) -> bool
-    ensures { result ≡ all_below (section_ok words.now numbers.now) (get_or words.now section_count_at 0) }
+fn sections_ok(words: &[u16]) -> bool
+    ensures { result ≡ all_below (section_ok words.now) (get_or words.now section_count_at 0) }
 {
     let n = word(words, SECTION_COUNT_AT);
-    (0..n).all(|i| section_ok(words, numbers, i))
+    (0..n).all(|i| section_ok(words, i))
 }
 
 #[tactic(auto, unfolding(crate::specs::Structure::profile_ok))]
-fn profile_ok(words: &[u16], numbers: &[f64], i: usize) -> bool
+fn profile_ok(words: &[u16], i: usize) -> bool
     requires { i < 65536 }
-    ensures { result ≡ profile_ok words.now numbers.now i }
+    ensures { result ≡ profile_ok words.now i }
 {
     let k = PROFILE_WORDS + i * PROFILE_STRIDE;
     range_ok(
@@ -118,17 +118,17 @@ fn profile_ok(words: &[u16], numbers: &[f64], i: usize) -> bool
     )
 }
 
-fn profiles_ok(words: &[u16], numbers: &[f64]) -> bool
-    ensures { result ≡ all_below (profile_ok words.now numbers.now) (get_or words.now profile_count_at 0) }
+fn profiles_ok(words: &[u16]) -> bool
+    ensures { result ≡ all_below (profile_ok words.now) (get_or words.now profile_count_at 0) }
 {
     let n = word(words, PROFILE_COUNT_AT);
-    (0..n).all(|i| profile_ok(words, numbers, i))
+    (0..n).all(|i| profile_ok(words, i))
 }
 
 #[tactic(auto, unfolding(crate::specs::Structure::column_ok))]
-fn column_ok(words: &[u16], numbers: &[f64], i: usize, column: usize) -> bool
+fn column_ok(words: &[u16], i: usize, column: usize) -> bool
     requires { (i < 4) × (column < 5) }
-    ensures { result ≡ column_ok words.now numbers.now i column }
+    ensures { result ≡ column_ok words.now i column }
 {
     let k = STRIP_WORDS + i * STRIP_STRIDE + 1 + column * 2;
     range_ok(
@@ -140,19 +140,19 @@ fn column_ok(words: &[u16], numbers: &[f64], i: usize, column: usize) -> bool
     )
 }
 
-fn strip_ok(words: &[u16], numbers: &[f64], i: usize) -> bool
+fn strip_ok(words: &[u16], i: usize) -> bool
     requires { i < 4 }
-    ensures { result ≡ strip_ok words.now numbers.now i }
+    ensures { result ≡ strip_ok words.now i }
 {
     let code = word(words, STRIP_WORDS + i * STRIP_STRIDE);
-    let columns = (0..5).all(|column| column_ok(words, numbers, i, column));
+    let columns = (0..5).all(|column| column_ok(words, i, column));
     (code < 3) & ((code == 0) | columns)
 }
 
-fn strips_ok(words: &[u16], numbers: &[f64]) -> bool
-    ensures { result ≡ all_below (strip_ok words.now numbers.now) 4 }
+fn strips_ok(words: &[u16]) -> bool
+    ensures { result ≡ all_below (strip_ok words.now) 4 }
 {
-    (0..4).all(|i| strip_ok(words, numbers, i))
+    (0..4).all(|i| strip_ok(words, i))
 }
 
 // Whether the lent slices hold a road at all: long enough, counts within their limits, codes listed, ranges inside their tables.
@@ -162,10 +162,10 @@ pub fn structured(words: &[u16], numbers: &[f64]) -> bool
 {
     words.len() >= WORDS_NEEDED
         && numbers.len() >= NUMBERS_NEEDED
-        && counts_ok(words, numbers)
-        && kinds_ok(words, numbers)
-        && sections_ok(words, numbers)
-        && profiles_ok(words, numbers)
-        && strips_ok(words, numbers)
-        && marks_ok(words, numbers)
+        && counts_ok(words)
+        && kinds_ok(words)
+        && sections_ok(words)
+        && profiles_ok(words)
+        && strips_ok(words)
+        && marks_ok(words)
 }

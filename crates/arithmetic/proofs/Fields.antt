@@ -1,20 +1,13 @@
 -- A value's pattern as its sign, exponent's field and fraction, at any format, and the value that these stand for: m * 2 ^ j smallest values, with the leading digit put on where the field is not 0.
 -- Root and narrowing both start here.
-use mathlib.Core.Path.{◌≡◌, subst}
-use mathlib.Core.Bool.{Bool, false, not}
+use mathlib.Core.Path.{◌≡◌}
+use mathlib.Core.Bool.{Bool}
 use Prim.Native.Nat.{ℕ, suc, ◌+◌, ◌*◌, ◌/◌, ◌%◌, ◌^◌}
 use lib.Dec.{T, leb}
-use lib.Ieee.{Float, nan, inf, fin, Format, prec, low, of_fields, of_bits, to_bits, fits, is_nan, hid, ones, top, ne}
+use lib.Ieee.{Float, Format, prec, low, of_fields, of_bits, to_bits, fits, hid, ones, top}
 use lib.Ieee.Exact.{HasValue, odd_sign}
 use lib.Ieee.Bits.{of_bits-to_bits}
 use borrow.Author.Tests.{ne_eqb}
-
--- the code's test for a NaN failed
-pub no_nan : (x : Float) → ne x x ≡ false → T (not (is_nan x))
-unfolding ne is_nan
-no_nan nan h = subst T h tt
-no_nan (inf s) h = tt
-no_nan (fin s m e) h = tt
 
 -- ---- what fields stand for
 

@@ -1,12 +1,11 @@
 -- The answers of `magnitude`, one law for each range of the exponent's field: `case-none` to 872 (under half the smallest f32), `case-low` to 896 (subnormal), `case-high` to 1150, `case-top` beyond. Each gives the record `NarrowsTo`,
 -- which holds for either sign; then the sign's bit and the fields of a value's own pattern.
-use mathlib.Core.Path.{◌≡◌, refl, sym, ap, ◌∙◌, subst}
+use mathlib.Core.Path.{◌≡◌, refl, ap, ◌∙◌, subst}
 use mathlib.Core.Bool.{Bool, true, false, cond, not}
 use Prim.Native.Nat.{ℕ, zero, suc, ◌+◌, ◌-◌, ◌*◌, ◌/◌, ◌%◌, ◌^◌, ◌≤◌, ◌<◌}
 use native.Mathlib.Nat.{le_antisymm, le_of_suc-le-suc, le_trans, add_comm}
 use native.Mathlib.Omega.{arith}
-use lib.Ieee.{Float, nan, inf, binary32, binary64, of_fields, of_bits, to_bits, nan_bits, is_nan, ne, fits}
-use lib.Ieee.Compare.{differs_from_itself}
+use lib.Ieee.{Float, nan, inf, fin, binary32, binary64, of_fields, of_bits, to_bits, nan_bits, is_nan, fits}
 use lib.Ieee.Bits.{of_bits-to_bits, to_bits-lt, nan_bits_is, nan_bits_above, is_false}
 use lib.Dec.{T, leb, ltb, eqb}
 use borrow.Author.Tests.{leb-true, leb-false, eq-eqb, eqb-true, not-false, le-ltb, ltb-true, ltb-false}
@@ -80,9 +79,11 @@ case-top field frac g h b z = go (ltb field 2047) refl
 
 -- ---- the sign, and the two fields of a value's own pattern
 
-pub nan-narrows : (x : Float) → ne x x ≡ true → nan ≡ narrowed x
-unfolding narrowed
-nan-narrows x h = rw (differs_from_itself x (subst T (sym h) tt))
+pub nan-narrows : (x : Float) → is_nan x ≡ true → nan ≡ narrowed x
+unfolding narrowed is_nan
+nan-narrows nan h = refl
+nan-narrows (inf s) h = cc
+nan-narrows (fin s m e) h = cc
 
 sign-is : (b : ℕ) → b < 2 ^ 64 → b / 2 ^ 63 * 2 ^ 31 ≡ cond (leb (2 ^ 63) b) (2 ^ 31) 0
 sign-is b h = go (leb (2 ^ 63) b) refl

@@ -14,5 +14,5 @@ pub(crate) fn places(m: u64, p: u64) -> u64
     requires { (0 < m) × (m < 2 ^ p) × (p ≤ 64) }
     ensures { (result < p) × (2 ^ (p - 1) ≤ m * 2 ^ result) × (m * 2 ^ result < 2 ^ p) }
 {
-    u64::leading_zeros(m) as u64 - (64 - p)
+    m.leading_zeros() as u64 - (64 - p)
 }

@@ -1,6 +1,6 @@
 // An f64 narrowed to an f32, by integer work on the bit pattern: the digits that an f32 has no room for are dropped, to the nearest and half to even.
 //
-// Not the library's `nearest_f64_to_f32_with_nan`, as fast: narrowing and the root are to rest on one rounding fact, `round-pattern` of float_laws.
+// The library's `nearest_f64_to_f32_with_nan` is as fast, and not used: narrowing and the root are to rest on one rounding fact, `round-pattern` of float_laws.
 //
 // By the exponent's field of the f64: to 872 the value is under half the smallest f32; to 896 it is a subnormal f32, with fewer digits the smaller it is; to 1150 it is a normal one, with 24 digits of the 53; beyond, it is too large.
 ghost use Rattle.std.specs.Prelude.{◌≡◌, ◌<◌, ◌^◌};
@@ -70,10 +70,10 @@ fn magnitude(field: u64, frac: u64) -> u64
 pub fn narrow(x: f64) -> f32
     ensures { result ≡ narrowed x }
 {
-    if x != x {
-        return 0.0f32 / 0.0f32;
+    if x.is_nan() {
+        return f32::NAN;
     }
-    let bits = f64::to_bits(x);
+    let bits = x.to_bits();
     let field = bits % SIGN64 / LEADING64;
     let frac = bits % LEADING64;
     let sign = bits / SIGN64;

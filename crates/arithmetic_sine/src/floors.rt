@@ -37,7 +37,7 @@ pub(crate) fn below(x: f64) -> WholePart
     let over = excess(x, n);
     WholePart {
         n: n - over,
-        quarter: f64::to_bits(y - over) % 4,
+        quarter: (y - over).to_bits() % 4,
     }
 }
 

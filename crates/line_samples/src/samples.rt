@@ -31,8 +31,7 @@ const GREATEST_ESTIMATED: f64 = 10000.0;
 fn step_at(length: f64, u: f64) -> f64
     ensures { result ≡ step_at length u }
 {
-    let left = length - u;
-    if left < WHOLE_STEP { left } else { WHOLE_STEP }
+    (length - u).min(WHOLE_STEP)
 }
 
 // About how many steps of 0.25 fit below x: the low bits of a sum which is rounded to a whole number, 4 x less 1.

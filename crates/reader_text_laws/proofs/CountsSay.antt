@@ -109,7 +109,7 @@ module _ (text : List ℕ) (l m n at count : ℕ) (progress : Progress) (ws : Li
 
   -- ---- lanes
 
-  lane-says : (j : ℕ) → j < length (T 7) → lane_ok ws ns j ≡ lane_counts (lane_said T (get_or (T 7) j no_cells))
+  lane-says : (j : ℕ) → j < length (T 7) → lane_ok ws j ≡ lane_counts (lane_said T (get_or (T 7) j no_cells))
   unfolding lane_ok lane_counts lane_said
   lane-says j h =
       let c = lane-cells text j in
@@ -128,9 +128,9 @@ module _ (text : List ℕ) (l m n at count : ℕ) (progress : Progress) (ws : Li
   module _ (i : ℕ) (h : i < length (T 6)) where
     -- a section's tests by its three words
     abbrev section_by : ℕ → ℕ → ℕ → Bool
-    section_by first left right = leb left 6 && leb right 6 && leb (first + (left + right)) 192 && all_below (λ j. lane_ok ws ns (first + j)) (left + right)
+    section_by first left right = leb left 6 && leb right 6 && leb (first + (left + right)) 192 && all_below (λ j. lane_ok ws (first + j)) (left + right)
 
-    section_words_lem : section_ok ws ns i ≡ section_by (first_at ws i) (lefts_at ws i) (rights_at ws i)
+    section_words_lem : section_ok ws i ≡ section_by (first_at ws i) (lefts_at ws i) (rights_at ws i)
     unfolding section_ok
     section_words_lem = ap (λ (k : ℕ). section_by (get_or ws k 0) (get_or ws (k + 1) 0) (get_or ws (k + 2) 0)) place
       where
@@ -147,7 +147,7 @@ module _ (text : List ℕ) (l m n at count : ℕ) (progress : Progress) (ws : Li
     rights = right-part (T 7) (length (T 6)) ws rows i h
 
     -- a section's marks: all are on its lanes, so what is left is their count
-    marks-say : marks_ok ws ns i ≡ within 0 16 (length (map (mark_said T i) (those (under i) (T 14))))
+    marks-say : marks_ok ws i ≡ within 0 16 (length (map (mark_said T i) (those (under i) (T 14))))
     unfolding marks_ok
     marks-say =
         let e = limits-are in
@@ -167,24 +167,24 @@ module _ (text : List ℕ) (l m n at count : ℕ) (progress : Progress) (ws : Li
             let c : get_or ws (71 + i * 3 + 2) 0 ≡ rights_at ws i = word_at (omega arith) in
             lt-ltb (get_or ws (1379 + j * 2) 0) (get_or ws (71 + i * 3 + 1) 0 + get_or ws (71 + i * 3 + 2) 0) (omega arith)
 
-    section-says : section_ok ws ns i && marks_ok ws ns i ≡ section_counts (section_said T i (get_or (T 6) i no_cells))
+    section-says : section_ok ws i && marks_ok ws i ≡ section_counts (section_said T i (get_or (T 6) i no_cells))
     unfolding section_counts section_said
     section-says =
         let e = limits-are in
         let f = few 7 (omega arith) in
         let r = rights.fits in
-        ap (λ (x : Bool). x && marks_ok ws ns i) section_words_lem
-        ∙ ap (λ (x : Bool). (leb (lefts_at ws i) 6 && leb (rights_at ws i) 6 && leb (first_at ws i + (lefts_at ws i + rights_at ws i)) 192 && x) && marks_ok ws ns i) (all_split (lane_ok ws ns) (first_at ws i) (lefts_at ws i) (rights_at ws i))
+        ap (λ (x : Bool). x && marks_ok ws i) section_words_lem
+        ∙ ap (λ (x : Bool). (leb (lefts_at ws i) 6 && leb (rights_at ws i) 6 && leb (first_at ws i + (lefts_at ws i + rights_at ws i)) 192 && x) && marks_ok ws i) (all_split (lane_ok ws) (first_at ws i) (lefts_at ws i) (rights_at ws i))
         ∙ section-chain (most-says 6 (lefts_at ws i) ∙ ap (within 0 6) (sym (part_count (lane_said T) (left_under i) (T 7) (first_at ws i) (lefts_at ws i) lefts)))
         (most-says 6 (rights_at ws i) ∙ ap (within 0 6) (sym (part_count (lane_said T) (right_under i) (T 7) (first_at ws i + lefts_at ws i) (rights_at ws i) rights)))
         (le-leb (first_at ws i + (lefts_at ws i + rights_at ws i)) 192 (omega arith))
-        (every-part lane_counts (lane_ok ws ns) (T 7) (lane_said T) (left_under i) (first_at ws i) (lefts_at ws i) lefts lane-says)
-        (every-part lane_counts (lane_ok ws ns) (T 7) (lane_said T) (right_under i) (first_at ws i + lefts_at ws i) (rights_at ws i) rights lane-says)
+        (every-part lane_counts (lane_ok ws) (T 7) (lane_said T) (left_under i) (first_at ws i) (lefts_at ws i) lefts lane-says)
+        (every-part lane_counts (lane_ok ws) (T 7) (lane_said T) (right_under i) (first_at ws i + lefts_at ws i) (rights_at ws i) rights lane-says)
         marks-say
 
   -- ---- profiles
 
-  profile-says : (i : ℕ) → i < length (T 10) → profile_ok ws ns i ≡ profile_counts (profile_said T i (get_or (T 10) i no_cells))
+  profile-says : (i : ℕ) → i < length (T 10) → profile_ok ws i ≡ profile_counts (profile_said T i (get_or (T 10) i no_cells))
   unfolding profile_ok profile_counts profile_said
   profile-says i h =
       let e = limits-are in
@@ -194,7 +194,7 @@ module _ (text : List ℕ) (l m n at count : ℕ) (progress : Progress) (ws : Li
   -- ---- strips
 
   module _ (a b : ℕ) (side : a < 2) (place : b < 2) where
-    column-says : (c : ℕ) → c < 5 → column_ok ws ns (a * 2 + b) c ≡ term_counts (term_said T a b c)
+    column-says : (c : ℕ) → c < 5 → column_ok ws (a * 2 + b) c ≡ term_counts (term_said T a b c)
     unfolding column_ok term_counts
     column-says c h =
         let e = limits-are in
@@ -202,25 +202,25 @@ module _ (text : List ℕ) (l m n at count : ℕ) (progress : Progress) (ws : Li
         range-says (cubic_in 3) (of_term a b c) (T 13) (get_or ws (1303 + (a * 2 + b) * 11 + 1 + c * 2) 0) (get_or ws (1303 + (a * 2 + b) * 11 + 1 + c * 2 + 1) 0)
         (part_same (of_term a b c) (T 13) (word_at (omega arith)) (word_at (omega arith)) (column-part text l m n at count progress ws ns vs read a b side place c h)) 0 8 160 (omega arith)
 
-    columns-say : all_below (column_ok ws ns (a * 2 + b)) 5 ≡ every term_counts (tabulate (term_said T a b) 5)
-    columns-say = all_same (column_ok ws ns (a * 2 + b)) (λ c. term_counts (term_said T a b c)) 5 column-says ∙ sym (every-table term_counts (term_said T a b) 5)
+    columns-say : all_below (column_ok ws (a * 2 + b)) 5 ≡ every term_counts (tabulate (term_said T a b) 5)
+    columns-say = all_same (column_ok ws (a * 2 + b)) (λ c. term_counts (term_said T a b c)) 5 column-says ∙ sym (every-table term_counts (term_said T a b) 5)
 
     strip_by_lem : (v : ℕ) (rows : List Cells) → get_or ws (1303 + (a * 2 + b) * 11) 0 ≡ v → those (of_strip a b) (T 12) ≡ rows
-        → ltb v 3 && (eqb v 0 || every term_counts (tabulate (term_said T a b) 5)) ≡ strip_counts (strip_by T a b rows) → strip_ok ws ns (a * 2 + b) ≡ strip_counts (strip_said T a b)
+        → ltb v 3 && (eqb v 0 || every term_counts (tabulate (term_said T a b) 5)) ≡ strip_counts (strip_by T a b rows) → strip_ok ws (a * 2 + b) ≡ strip_counts (strip_said T a b)
     unfolding strip_ok strip_said
     strip_by_lem v rows e f g =
-        ap (λ (w : ℕ). ltb w 3 && (eqb w 0 || all_below (column_ok ws ns (a * 2 + b)) 5)) e ∙ ap (λ (x : Bool). ltb v 3 && (eqb v 0 || x)) columns-say ∙ g ∙ ap (λ (xs : List Cells). strip_counts (strip_by T a b xs)) (sym f)
+        ap (λ (w : ℕ). ltb w 3 && (eqb w 0 || all_below (column_ok ws (a * 2 + b)) 5)) e ∙ ap (λ (x : Bool). ltb v 3 && (eqb v 0 || x)) columns-say ∙ g ∙ ap (λ (xs : List Cells). strip_counts (strip_by T a b xs)) (sym f)
 
-    strip-says : strip_ok ws ns (a * 2 + b) ≡ strip_counts (strip_said T a b)
+    strip-says : strip_ok ws (a * 2 + b) ≡ strip_counts (strip_said T a b)
     unfolding every tabulate
     strip-says =
         strip-cases text l m n at count progress ws ns vs read a b side place (λ v e. strip_by_lem 0 [] v e refl)
         (λ r h v e. strip_by_lem (cell_of r 2 % 2 + 1) (r ∷ []) v e (rw (lt-ltb (cell_of r 2 % 2 + 1) 3 (omega arith), ne_eqb (cell_of r 2 % 2 + 1) 0 (λ z. omega arith))))
 
-  strips-say : all_below (strip_ok ws ns) 4 ≡ every strip_counts (strip_said T 0 0 ∷ strip_said T 0 1 ∷ strip_said T 1 0 ∷ strip_said T 1 1 ∷ [])
+  strips-say : all_below (strip_ok ws) 4 ≡ every strip_counts (strip_said T 0 0 ∷ strip_said T 0 1 ∷ strip_said T 1 0 ∷ strip_said T 1 1 ∷ [])
   unfolding tabulate
   strips-say =
-      all_same (strip_ok ws ns) (λ i. strip_counts (strip_said T (i / 2) (i % 2))) 4 (λ i h. ap (strip_ok ws ns) (halves i) ∙ strip-says (i / 2) (i % 2) (omega arith) (omega arith))
+      all_same (strip_ok ws) (λ i. strip_counts (strip_said T (i / 2) (i % 2))) 4 (λ i h. ap (strip_ok ws) (halves i) ∙ strip-says (i / 2) (i % 2) (omega arith) (omega arith))
       ∙ sym (every-table strip_counts (λ i. strip_said T (i / 2) (i % 2)) 4)
     where
       halves : (i : ℕ) → i ≡ i / 2 * 2 + i % 2
@@ -236,20 +236,20 @@ module _ (text : List ℕ) (l m n at count : ℕ) (progress : Progress) (ws : Li
       held : (t p : ℕ) → t < 16 → count_place t ≡ Some p → get_or ws p 0 ≡ length (T t)
       held = count_kept_lem text l m n at count progress ws ns vs read
 
-  kinds-say : kinds_ok ws ns ≡ true
+  kinds-say : kinds_ok ws ≡ true
   unfolding kinds_ok
   kinds-say =
       let c = counts-held.0 in
       all_pass (λ i. ltb (get_or ws (7 + i) 0) 3) (get_or ws 0 0)
       (λ i h. ap (λ (v : ℕ). ltb v 3) (kind-kept text l m n at count progress ws ns vs read i (omega arith)) ∙ code-small (cell_of (get_or (T 1) i no_cells) 5) 3 (geom-cell text i) (omega arith))
 
-  sections-say : all_below (section_ok ws ns) (get_or ws 5 0) && all_below (marks_ok ws ns) (get_or ws 5 0) ≡ every section_counts (numbered (section_said T) 0 (T 6))
+  sections-say : all_below (section_ok ws) (get_or ws 5 0) && all_below (marks_ok ws) (get_or ws 5 0) ≡ every section_counts (numbered (section_said T) 0 (T 6))
   sections-say =
-      sym (all_both (section_ok ws ns) (marks_ok ws ns) (get_or ws 5 0)) ∙ ap (all_below (λ i. section_ok ws ns i && marks_ok ws ns i)) counts-held.5
-      ∙ every-numbered section_counts (λ i. section_ok ws ns i && marks_ok ws ns i) (T 6) (section_said T) section-says
+      sym (all_both (section_ok ws) (marks_ok ws) (get_or ws 5 0)) ∙ ap (all_below (λ i. section_ok ws i && marks_ok ws i)) counts-held.5
+      ∙ every-numbered section_counts (λ i. section_ok ws i && marks_ok ws i) (T 6) (section_said T) section-says
 
-  profiles-say : all_below (profile_ok ws ns) (get_or ws 6 0) ≡ every profile_counts (numbered (profile_said T) 0 (T 10))
-  profiles-say = ap (all_below (profile_ok ws ns)) counts-held.6 ∙ every-numbered profile_counts (profile_ok ws ns) (T 10) (profile_said T) profile-says
+  profiles-say : all_below (profile_ok ws) (get_or ws 6 0) ≡ every profile_counts (numbered (profile_said T) 0 (T 10))
+  profiles-say = ap (all_below (profile_ok ws)) counts-held.6 ∙ every-numbered profile_counts (profile_ok ws) (T 10) (profile_said T) profile-says
 
   pub structured-says : structured ws ns ≡ counts_said (road_said T)
   unfolding structured counts_ok counts_said road_said
@@ -257,7 +257,7 @@ module _ (text : List ℕ) (l m n at count : ℕ) (progress : Progress) (ws : Li
       let c = counts-held in
       let along : (t : ℕ) → length (T t) ≡ length (map (cubic_in 0) (T t)) = λ t. sym (length-map (T t) (cubic_in 0)) in
       let sections : get_or ws 5 0 ≡ length (numbered (section_said T) 0 (T 6)) = c.5 ∙ sym (numbered-count (section_said T) 0 (T 6)) in
-      structured-chain (all_below (section_ok ws ns) (get_or ws 5 0)) (all_below (marks_ok ws ns) (get_or ws 5 0)) (le-leb 1891 (length ws) (let a = read.words_long in let e = words-kept text l m n at count progress ws ns vs read in omega arith))
+      structured-chain (all_below (section_ok ws) (get_or ws 5 0)) (all_below (marks_ok ws) (get_or ws 5 0)) (le-leb 1891 (length ws) (let a = read.words_long in let e = words-kept text l m n at count progress ws ns vs read in omega arith))
       (le-leb 8449 (length ns) (let a = read.numbers_long in let e = numbers-length text l m n at count progress ws ns vs read in omega arith)) kinds-say
       (ap (within 1 64) (c.0 ∙ sym (length-map (T 1) geom_said))) (most-says 64 (get_or ws 1 0) ∙ ap (within 0 64) (c.1 ∙ along 2)) (most-says 64 (get_or ws 2 0) ∙ ap (within 0 64) (c.2 ∙ along 3)) (most-says 64 (get_or ws 3 0) ∙ ap (within 0 64) (c.3 ∙ along 4)) (most-says 64 (get_or ws 4 0) ∙ ap (within 0 64) (c.4 ∙ along 5))
       (ap (λ (k : ℕ). leb 1 k) sections) (ap (λ (k : ℕ). leb k 16) sections) (most-says 16 (get_or ws 6 0) ∙ ap (within 0 16) (c.6 ∙ sym (numbered-count (profile_said T) 0 (T 10)))) sections-say profiles-say strips-say

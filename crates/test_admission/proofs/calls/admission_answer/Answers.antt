@@ -1,7 +1,12 @@
 -- What `admit` answered, in the words of `admit_call`.
-use Rattle.std.proofs.Common.{◌∙◌}
-use Rattle.test_admission.proofs.AdmissionLaws.{admitted_number}
+use mathlib.Core.Path.{◌∙◌, refl}
+use Rattle.records.specs.Roads.{road_of}
+use Rattle.admission_calls.proofs.AdmitLaws.{admit-alike}
+use Rattle.test_support.specs.Answers.{answer_number}
 use Rattle.test_admission.proofs.calls.admission_answer.Goals as goal
 
 pub returns : goal.returns
-returns c = c.from.ensures ∙ c.number_of.ensures ∙ admitted_number c.args.words.now c.args.numbers.now _ _ c.admit.ensures
+returns c =
+    let w = c.args.words.now in
+    let n = c.args.numbers.now in
+    c.from.ensures ∙ c.number_of.ensures ∙ admit-alike w n (road_of w n) answer_number answer_number (λ x. refl) (λ k. refl) _ c.admit.ensures
