@@ -1,6 +1,6 @@
 -- What the callees give, put in its place.
 use Rattle.line_samples.specs.Samples.{next_sample}
-use Rattle.line_samples.proofs.samples.next_sample.Goals as goal
+use Rattle.line_samples.proofs.points.Spiral.next_sample.Goals as goal
 
 pub returns : goal.returns
 unfolding next_sample
