@@ -2,11 +2,13 @@
 use Prim.Native.Nat.{ℕ, zero, suc, ◌+◌, ◌-◌, ◌*◌, ◌≤◌, ◌<◌, zero-le, suc-le-suc}
 use native.Mathlib.Omega.{arith}
 use native.Mathlib.Nat.{add-zero, zero-add}
-use mathlib.Core.Path.{◌≡◌}
+use mathlib.Core.Path.{◌≡◌, refl, ◌∙◌, ap}
 use mathlib.Core.Bool.{Bool, true, false, cond}
 use mathlib.Core.List.{List}
 use lib.ListN.{get_or}
 use lib.Ieee.{Float, nan, le, lt}
+use Rattle.std.specs.Prelude.{Option, Some, None}
+use Rattle.std.specs.Option.{MatchOption, unwrap_or}
 use Rattle.float_laws.specs.Binary64.{◌⊖◌, abs_of}
 use Rattle.records.specs.declared.points.GeomRec.{GeomRec}
 use Rattle.records.specs.declared.points.GeomShape.TheVariants.{Line, Arc, Spiral}
@@ -47,6 +49,30 @@ module _ (samples : List Float) (d : Float) where
 
   pub lead-full : (first n k : ℕ) → n ≤ k → k + leading samples (first + k) d (n - k) ≡ k
   lead-full first n k h = let l = leading_le (first + k) (n - k) in omega arith
+
+  module _ (first n : ℕ) where
+    leads : ℕ → Bool
+    leads k = le (get_or samples ((first + k) * 4) nan) d
+
+    left : ℕ → ℕ
+    left k = k + leading samples (first + k) d (n - k)
+
+    -- all from the k-th to before the j-th lead
+    run : (k m j : ℕ) → j ≡ k + m → j ≤ n → ((i : ℕ) → k ≤ i → i < j → leads i ≡ true) → left k ≡ left j
+    unfolding leads left
+    run k zero j e l h = let p : k ≡ j = omega arith in ap left p
+    run k (suc m) j e l h =
+        let q : k + m + 1 ≡ j = omega arith in
+        run k m (k + m) refl (omega arith) (λ i a b. h i a (omega arith)) ∙ lead-next first n (k + m) (omega arith) (h (k + m) (omega arith) (omega arith)) ∙ ap left q
+
+    -- what is found from the k-th on is the first that does not lead
+    pub lead_found : (k : ℕ) (r : Option ℕ) → k ≤ n
+        → MatchOption r ((i : ℕ) → k ≤ i → i < n → le (get_or samples ((first + i) * 4) nan) d ≡ true)
+        (λ j. (k ≤ j) × (j < n) × (le (get_or samples ((first + j) * 4) nan) d ≡ false) × ((i : ℕ) → k ≤ i → i < j → le (get_or samples ((first + i) * 4) nan) d ≡ true))
+        → k + leading samples (first + k) d (n - k) ≡ unwrap_or r n
+    unfolding leads left
+    lead_found k None l h = run k (n - k) n (omega arith) (omega arith) h ∙ lead-full first n n (omega arith)
+    lead_found k (Some j) l h = run k (j - k) j (omega (arith, h.0)) (omega (arith, h.1)) h.3 ∙ lead-stop first n j h.1 h.2
 
 -- a segment of two or more samples ends at one of them
 pub segment-in : (lead n : ℕ) → 2 ≤ n → segment lead n + 1 < n
