@@ -1,4 +1,5 @@
 // A place on the reference line and the heading there, or a refusal.
+// Slices are lent and no `SampledRoad`: they are one only once `sampled` has answered it.
 ghost use Rattle.std.specs.Prelude.{◌≡◌};
 ghost use Rattle.refusals.specs.Answer.{answered};
 ghost use Rattle.line_calls.specs.PoseCall.{pose_call};

@@ -1,4 +1,5 @@
 // The samples of a road's spirals, written into a lent slice, four f64 each: distance, x, y, heading.
+// Two slices are lent and no `LentRoad`: they are a road only once `admit` has answered one.
 ghost use Rattle.std.specs.Prelude.{◌≡◌, [], ◌∷◌, ◌++◌, ◌+◌, ◌*◌, ◌≤◌, length, drop};
 ghost use Rattle.std.proofs.lemmas.List.Edits.{sets};
 ghost use Rattle.refusals.specs.Answer.{answered};

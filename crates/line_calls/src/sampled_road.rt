@@ -1,5 +1,4 @@
-// A road that is admitted, with as many samples as it needs.
-// Slices are lent and no `LentRoad`: they are a road only once `admit` has answered one.
+// A road that is admitted, with as many samples as it needs: what each call with samples begins with.
 ghost use Rattle.std.specs.Prelude.{◌≡◌, ◌/◌, [], ◌∷◌, ◌++◌, length, leb};
 ghost use Rattle.refusals.specs.Answer.{answered, row, checked, value};
 ghost use Rattle.refusals.specs.declared.refusals.Refusal.TheVariants.{SampleSpace};

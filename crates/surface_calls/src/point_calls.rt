@@ -1,5 +1,5 @@
 // The four calls.
-// Two slices are lent and no `LentRoad`: they are a road only once `admit` has answered one.
+// Slices are lent and no `SampledRoad`: they are one only once `sampled` has answered it.
 ghost use Rattle.std.specs.Prelude.{◌≡◌};
 ghost use Rattle.refusals.specs.Answer.{answered};
 ghost use Rattle.surface_calls.specs.SurfaceCalls.{station_call, axes_call, surface_call, lane_surface_call};
