@@ -14,6 +14,7 @@ use line_samples::{Pose, SampledRoad, sample_count, samples_before};
 use records::{GeomRec, GeomShape, STRAIGHT_CURVATURE};
 use records_geometry::geom;
 
+#[tactic(auto, unfolding(crate::specs::Poses::line_pose))]
 fn line_bearing(g: GeomRec, ds: f64) -> Bearing
     ensures { result ≡ bearing_of (line_pose g ds) }
 {
@@ -26,6 +27,7 @@ fn line_bearing(g: GeomRec, ds: f64) -> Bearing
     Bearing { pose, turn }
 }
 
+#[tactic(auto, unfolding(crate::specs::Poses::arc_pose))]
 fn arc_bearing(g: GeomRec, k: f64, ds: f64) -> Bearing
     ensures { result ≡ bearing_of (arc_pose g k ds) }
 {
@@ -59,6 +61,7 @@ fn turned(pose: Pose) -> Bearing
 }
 
 // The pose of the i-th geometry at s, with the lent samples, and the sine and the cosine of its heading.
+#[tactic(auto, unfolding(crate::specs::Poses::pose_of))]
 pub fn bearing_of(lent: &SampledRoad, i: usize, s: f64) -> Bearing
     ensures { result ≡ bearing_of (pose_of lent.now.road lent.now.samples.now i s) }
 {

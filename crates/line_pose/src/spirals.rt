@@ -93,6 +93,7 @@ impl<'a> SpiralSamples<'a> {
     }
 
     // The pose at ds from the spiral's start.
+    #[tactic(auto, unfolding(crate::specs::Poses::spiral_pose))]
     pub(crate) fn pose(&self, ds: f64) -> Pose
         ensures { result ≡ spiral_pose self.now.samples.now self.now.first self.now.count ds }
     {

@@ -75,6 +75,7 @@ fn spiral_steps(length: f64) -> usize
 }
 
 // How many samples a geometry has: none unless it is a spiral.
+#[tactic(auto, unfolding(crate::specs::Samples::sample_count))]
 pub fn sample_count(g: GeomRec) -> usize
     ensures value { result ≡ sample_count g }
     ensures small { result ≤ 2002 }
@@ -98,6 +99,7 @@ pub fn samples_before(road: &LentRoad, i: usize) -> usize
 }
 
 // How many samples a road needs.
+#[tactic(auto, unfolding(crate::specs::Samples::samples_needed))]
 pub fn samples_needed(road: &LentRoad) -> usize
     ensures value { result ≡ samples_needed road.now }
     ensures small { result < 268435456 }
@@ -150,6 +152,7 @@ impl Spiral {
     }
 
     // The next sample from the last.
+    #[tactic(auto, unfolding(crate::specs::Samples::next_sample))]
     pub fn next_sample(&self, p: Sample) -> Sample
         ensures { result ≡ next_sample self.now.geom self.now.k0 self.now.k1 p }
     {

@@ -116,8 +116,7 @@ impl Question {
         let y = of_bits(line.b);
         match self {
             Question::LinePose => {
-                let samples = lent;
-                pose_part(&SampledRoad { road, samples }, line.a, y, part)
+                pose_part(&SampledRoad { road, samples: lent }, line.a, y, part)
             }
             Question::LaneAcross => across_part(&road, x, line.b, part),
             Question::HeightToward => lanes_shape::height_toward(&road, x, y, toward(part)),
