@@ -1,3 +1,2 @@
 pub mod SampleWriting
 pub mod SampleCalls
-pub mod PoseCalls

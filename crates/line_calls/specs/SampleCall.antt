@@ -3,7 +3,7 @@ use Rattle.std.specs.Prelude.{ℕ, ◌*◌, ◌/◌, List, [], ◌∷◌, ◌++�
 use Rattle.refusals.specs.Answer.{Answer, value, refused, Row, row, checked}
 use Rattle.refusals.specs.declared.refusals.Refusal.TheVariants.{SampleSpace}
 use Rattle.records.specs.Roads.{road_of}
-use Rattle.line_samples.specs.Samples.{samples_needed, samples_of}
+use Rattle.line_samples.specs.Samples.{sample_stride, samples_needed, samples_of}
 use Rattle.admission.specs.Admission.{road_rows}
 
 module _ (words : List ℕ) (numbers : List Float) where
@@ -13,7 +13,7 @@ module _ (words : List ℕ) (numbers : List Float) where
 
   -- row 6: a slice of len f64 holds enough whole fours
   abbrev pub sample_row : ℕ → Row
-  sample_row len = row SampleSpace (leb needed (len / 4))
+  sample_row len = row SampleSpace (leb needed (len / sample_stride))
 
   -- how many samples are written, or the refusal
   unfoldable pub samples_call : ℕ → Answer ℕ

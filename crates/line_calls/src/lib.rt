@@ -3,6 +3,8 @@
 
 mod pose_call;
 mod sample_call;
+mod sampled_road;
 
 pub use pose_call::posed;
 pub use sample_call::samples;
+pub use sampled_road::sampled;

@@ -1,3 +1,2 @@
 pub mod PoseLaws
-pub mod BearingLaws
 pub mod LeadLaws

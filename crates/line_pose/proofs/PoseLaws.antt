@@ -1,20 +1,15 @@
--- The leading samples as a loop counts them (k of n counted: one more, none more, all counted), and the pose as the calls make it.
+-- The leading samples, k of n counted: one more leads, none more, all are counted; and what is found among them.
 use Prim.Native.Nat.{ℕ, zero, suc, ◌+◌, ◌-◌, ◌*◌, ◌≤◌, ◌<◌, zero-le, suc-le-suc}
 use native.Mathlib.Omega.{arith}
 use native.Mathlib.Nat.{add-zero, zero-add}
-use mathlib.Core.Path.{◌≡◌}
+use mathlib.Core.Path.{◌≡◌, refl, ◌∙◌, ap}
 use mathlib.Core.Bool.{Bool, true, false, cond}
 use mathlib.Core.List.{List}
 use lib.ListN.{get_or}
-use lib.Ieee.{Float, nan, le, lt}
-use Rattle.float_laws.specs.Binary64.{◌⊖◌, abs_of}
-use Rattle.records.specs.declared.points.GeomRec.{GeomRec}
-use Rattle.records.specs.declared.points.GeomShape.TheVariants.{Line, Arc, Spiral}
-use Rattle.records.specs.Roads.{Road, straight_curvature, geom_at}
-use Rattle.line_samples.specs.declared.points.Sample.{Sample}
-use Rattle.line_samples.specs.declared.points.Pose.{Pose}
-use Rattle.line_pose.specs.Poses.{leading, held, segment, fraction_of, between, spiral_pose, line_pose, arc_pose, pose_of}
-use Rattle.line_samples.specs.Samples.{sample_count, samples_before, sample_at}
+use lib.Ieee.{Float, nan, le}
+use Rattle.std.specs.Prelude.{Option, Some, None}
+use Rattle.std.specs.Option.{MatchOption, unwrap_or}
+use Rattle.line_pose.specs.Poses.{leading, segment}
 
 cond-le : (b : Bool) (m n : ℕ) → m ≤ n → cond b m 0 ≤ n
 cond-le true m n h = h
@@ -48,30 +43,30 @@ module _ (samples : List Float) (d : Float) where
   pub lead-full : (first n k : ℕ) → n ≤ k → k + leading samples (first + k) d (n - k) ≡ k
   lead-full first n k h = let l = leading_le (first + k) (n - k) in omega arith
 
+  module _ (first n : ℕ) where
+    leads : ℕ → Bool
+    leads k = le (get_or samples ((first + k) * 4) nan) d
+
+    left : ℕ → ℕ
+    left k = k + leading samples (first + k) d (n - k)
+
+    -- all from the k-th to before the j-th lead
+    run : (k m j : ℕ) → j ≡ k + m → j ≤ n → ((i : ℕ) → k ≤ i → i < j → leads i ≡ true) → left k ≡ left j
+    unfolding leads left
+    run k zero j e l h = let p : k ≡ j = omega arith in ap left p
+    run k (suc m) j e l h =
+        let q : k + m + 1 ≡ j = omega arith in
+        run k m (k + m) refl (omega arith) (λ i a b. h i a (omega arith)) ∙ lead-next first n (k + m) (omega arith) (h (k + m) (omega arith) (omega arith)) ∙ ap left q
+
+    -- what is found from the k-th on is the first that does not lead
+    pub lead_found : (k : ℕ) (r : Option ℕ) → k ≤ n
+        → MatchOption r ((i : ℕ) → k ≤ i → i < n → le (get_or samples ((first + i) * 4) nan) d ≡ true)
+        (λ j. (k ≤ j) × (j < n) × (le (get_or samples ((first + j) * 4) nan) d ≡ false) × ((i : ℕ) → k ≤ i → i < j → le (get_or samples ((first + i) * 4) nan) d ≡ true))
+        → k + leading samples (first + k) d (n - k) ≡ unwrap_or r n
+    unfolding leads left
+    lead_found k None l h = run k (n - k) n (omega arith) (omega arith) h ∙ lead-full first n n (omega arith)
+    lead_found k (Some j) l h = run k (j - k) j (omega (arith, h.0)) (omega (arith, h.1)) h.3 ∙ lead-stop first n j h.1 h.2
+
 -- a segment of two or more samples ends at one of them
 pub segment-in : (lead n : ℕ) → 2 ≤ n → segment lead n + 1 < n
 segment-in lead n h = omega arith
-
--- the results of the calls, in their order
-pub spiral-made : (samples : List Float) (first n : ℕ) (ds : Float) {m k i : ℕ} {d f : Float} {last a b : Sample} {r : Pose}
-    → m ≡ n - 1 → last ≡ sample_at samples first m → d ≡ held last.distance ds → k ≡ leading samples first d n → i ≡ segment k n
-    → a ≡ sample_at samples first i → b ≡ sample_at samples first (i + 1) → f ≡ fraction_of a.distance b.distance d → r ≡ between a b f
-    → r ≡ spiral_pose samples first n ds
-unfolding spiral_pose
-spiral-made samples first n ds em el ed ek ei ea eb ef er = rw (er, ef, eb, ea, ei, ek, ed, el, em)
-
--- the pose by the shape of the geometry
-module _ (road : Road) (samples : List Float) (i : ℕ) (s : Float) {g : GeomRec} {r : Pose} (e : g ≡ geom_at road i) where
-  pub pose-line : g.shape ≡ Line → r ≡ line_pose g (s ⊖ g.s) → r ≡ pose_of road samples i s
-  unfolding pose_of
-  pose-line h k = rw (← e, h, ← e) k
-
-  pub pose-arc : {k : Float} → g.shape ≡ Arc k
-      → r ≡ cond (lt straight_curvature (abs_of k)) (arc_pose g k (s ⊖ g.s)) (line_pose g (s ⊖ g.s)) → r ≡ pose_of road samples i s
-  unfolding pose_of
-  pose-arc h k = rw (← e, h, ← e) k
-
-  pub pose-spiral : {k0 k1 : Float} {first n : ℕ} → g.shape ≡ Spiral k0 k1 → first ≡ samples_before road i → n ≡ sample_count g
-      → r ≡ spiral_pose samples first n (s ⊖ g.s) → r ≡ pose_of road samples i s
-  unfolding pose_of
-  pose-spiral h a b k = rw (← e, h, ← e, ← a, ← b) k

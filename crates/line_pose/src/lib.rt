@@ -2,8 +2,8 @@
 #![tactic(auto)]
 
 mod bearings;
-mod leads;
 mod poses;
+mod spirals;
 
 pub use bearings::Bearing;
 pub use poses::{bearing_of, pose};

@@ -128,12 +128,16 @@ unfoldable pub samples_of : Road → List Float
 unfolding samples_up_to flat
 samples_of road = flat (samples_up_to road (length road.geoms))
 
+-- "four f64 each": the numbers that a sample takes in the slice
+abbrev pub sample_stride : ℕ
+sample_stride = 4
+
 -- the k-th sample from place `first` of a lent slice on; what the slice does not hold is NaN
 abbrev pub sample_at : List Float → ℕ → ℕ → Sample
 sample_at samples first k =
     record {
-      distance = get_or samples ((first + k) * 4) nan;
-      x = get_or samples ((first + k) * 4 + 1) nan;
-      y = get_or samples ((first + k) * 4 + 2) nan;
-      heading = get_or samples ((first + k) * 4 + 3) nan;
+      distance = get_or samples ((first + k) * sample_stride) nan;
+      x = get_or samples ((first + k) * sample_stride + 1) nan;
+      y = get_or samples ((first + k) * sample_stride + 2) nan;
+      heading = get_or samples ((first + k) * sample_stride + 3) nan;
     }

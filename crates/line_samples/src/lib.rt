@@ -2,9 +2,9 @@
 #![tactic(auto)]
 
 mod points;
+mod sampled;
 mod samples;
 
-pub use points::{Pose, Sample};
-pub use samples::{
-    first_sample, next_sample, sample_count, samples_before, samples_fit, samples_needed,
-};
+pub use points::{Pose, SAMPLE_STRIDE, Sample, Spiral};
+pub use sampled::SampledRoad;
+pub use samples::{sample_count, samples_before, samples_fit, samples_needed};

@@ -1,4 +1,5 @@
 // A sample of a spiral: the distance into it, the place and the heading there.
+use records::GeomRec;
 
 #[derive(Clone, Copy)]
 pub struct Sample {
@@ -6,6 +7,17 @@ pub struct Sample {
     pub x: f64,
     pub y: f64,
     pub heading: f64,
+}
+
+// The numbers that a sample takes in a lent slice: the C interface lends samples flat.
+pub const SAMPLE_STRIDE: usize = 4;
+
+// A geometry that is a spiral, with the curvatures at its ends.
+#[derive(Clone, Copy)]
+pub struct Spiral {
+    pub geom: GeomRec,
+    pub k0: f64,
+    pub k1: f64,
 }
 
 // A place on the reference line and the heading there.

@@ -4,7 +4,7 @@ ghost use Rattle.std.specs.Float.Ieee.{le};
 ghost use Rattle.line_samples.specs.Quarters.{least_estimated, greatest_estimated, QuartersBelow};
 ghost use Rattle.line_samples.specs.Samples.{most_samples, most_steps, step_at, spiral_steps, sample_count, samples_before, samples_needed, first_sample, next_sample, turn_rate, heading_at};
 
-use crate::points::Sample;
+use crate::points::{Sample, Spiral};
 use records::{GeomRec, GeomShape, LentRoad};
 use records_geometry::geom;
 
@@ -74,6 +74,7 @@ fn spiral_steps(length: f64) -> usize
 }
 
 // How many samples a geometry has: none unless it is a spiral.
+#[tactic(auto, unfolding(crate::specs::Samples::sample_count))]
 pub fn sample_count(g: GeomRec) -> usize
     ensures value { result ≡ sample_count g }
     ensures small { result ≤ 2002 }
@@ -97,6 +98,7 @@ pub fn samples_before(road: &LentRoad, i: usize) -> usize
 }
 
 // How many samples a road needs.
+#[tactic(auto, unfolding(crate::specs::Samples::samples_needed))]
 pub fn samples_needed(road: &LentRoad) -> usize
     ensures value { result ≡ samples_needed road.now }
     ensures small { result < 268435456 }
@@ -118,46 +120,50 @@ pub fn samples_fit(road: &LentRoad) -> bool
     true
 }
 
-fn turn_rate(length: f64, k0: f64, k1: f64) -> f64
-    ensures { result ≡ turn_rate length k0 k1 }
-{
-    if NO_TURN_LENGTH < length {
-        (k1 - k0) / length
-    } else {
-        0.0
+impl Spiral {
+    fn turn_rate(&self) -> f64
+        ensures { result ≡ turn_rate self.now.geom.length self.now.k0 self.now.k1 }
+    {
+        let length = self.geom.length;
+        if NO_TURN_LENGTH < length {
+            (self.k1 - self.k0) / length
+        } else {
+            0.0
+        }
     }
-}
 
-// The heading at u: that of a curvature which goes linearly from k0 to k1.
-fn heading_at(g: GeomRec, k0: f64, k1: f64, u: f64) -> f64
-    ensures { result ≡ heading_at g k0 k1 u }
-{
-    g.hdg + k0 * u + 0.5 * turn_rate(g.length, k0, k1) * u * u
-}
-
-pub fn first_sample(g: GeomRec) -> Sample
-    ensures { result ≡ first_sample g }
-{
-    Sample {
-        distance: 0.0,
-        x: g.x,
-        y: g.y,
-        heading: g.hdg,
+    // The heading at u: that of a curvature which goes linearly from k0 to k1.
+    fn heading_at(&self, u: f64) -> f64
+        ensures { result ≡ heading_at self.now.geom self.now.k0 self.now.k1 u }
+    {
+        self.geom.hdg + self.k0 * u + 0.5 * self.turn_rate() * u * u
     }
-}
 
-// The next sample from the last, of a spiral with curvatures k0 and k1 at its ends.
-pub fn next_sample(g: GeomRec, k0: f64, k1: f64, p: Sample) -> Sample
-    ensures { result ≡ next_sample g k0 k1 p }
-{
-    let step = step_at(g.length, p.distance);
-    // before the sine and cosine, so that the next step need not wait for them
-    let u = p.distance + step;
-    let middle = arithmetic_sine::sin_cos(heading_at(g, k0, k1, p.distance + step / 2.0));
-    Sample {
-        distance: u,
-        x: p.x + middle.cos * step,
-        y: p.y + middle.sin * step,
-        heading: heading_at(g, k0, k1, u),
+    pub fn first_sample(&self) -> Sample
+        ensures { result ≡ first_sample self.now.geom }
+    {
+        Sample {
+            distance: 0.0,
+            x: self.geom.x,
+            y: self.geom.y,
+            heading: self.geom.hdg,
+        }
+    }
+
+    // The next sample from the last.
+    #[tactic(auto, unfolding(crate::specs::Samples::next_sample))]
+    pub fn next_sample(&self, p: Sample) -> Sample
+        ensures { result ≡ next_sample self.now.geom self.now.k0 self.now.k1 p }
+    {
+        let step = step_at(self.geom.length, p.distance);
+        // before the sine and cosine, so that the next step need not wait for them
+        let u = p.distance + step;
+        let middle = arithmetic_sine::sin_cos(self.heading_at(p.distance + step / 2.0));
+        Sample {
+            distance: u,
+            x: p.x + middle.cos * step,
+            y: p.y + middle.sin * step,
+            heading: self.heading_at(u),
+        }
     }
 }

@@ -5,7 +5,7 @@ use mathlib.Core.List.{List}
 use lib.Ieee.{Float}
 use Rattle.records.specs.Roads.{Road}
 use Rattle.surface_points.specs.Plan.{plan_of}
-use Rattle.surface_locate.specs.declared.points.Vector.{Vector}
+use Rattle.surface_points.specs.declared.points.Vector.{Vector}
 use Rattle.surface_locate.specs.declared.points.Place.{Place}
 use Rattle.surface_locate.specs.declared.points.Walk.{Walk}
 use Rattle.surface_locate.specs.declared.points.Move.{Move}

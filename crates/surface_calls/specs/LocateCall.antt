@@ -7,7 +7,7 @@ use Rattle.records.specs.Roads.{road_of}
 use Rattle.arithmetic_ranges.specs.Ranges.{sized, finite64}
 use Rattle.admission.specs.Admission.{road_rows}
 use Rattle.line_calls.specs.SampleCall.{sample_row}
-use Rattle.surface_locate.specs.declared.points.Vector.{Vector}
+use Rattle.surface_points.specs.declared.points.Vector.{Vector}
 use Rattle.surface_locate.specs.declared.points.Position.{Position}
 use Rattle.surface_locate.specs.Locating.{locate_of}
 

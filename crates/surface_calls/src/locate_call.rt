@@ -1,14 +1,15 @@
 // A place on the road, or a refusal.
-// Two slices are lent and no `LentRoad`: they are a road only once `admit` has answered one.
+// Slices are lent and no `SampledRoad`: they are one only once `sampled` has answered it.
 ghost use Rattle.std.specs.Prelude.{◌≡◌};
 ghost use Rattle.refusals.specs.Answer.{answered};
 ghost use Rattle.arithmetic_ranges.specs.Ranges.{finite64};
 ghost use Rattle.surface_calls.specs.LocateCall.{on_map, locate_call};
 
-use crate::entries::sampled;
 use arithmetic_ranges::{LARGEST, sized};
+use line_calls::sampled;
 use refusals::Refusal;
-use surface_locate::{Position, Vector, locate_from};
+use surface_locate::{Position, locate_from};
+use surface_points::Vector;
 
 const GREATEST_TARGET: f64 = 2000000.0;
 
@@ -38,12 +39,12 @@ pub fn locate(
 ) -> Result<Position, Refusal>
     ensures { answered result ≡ locate_call words.now numbers.now samples.now x y guess }
 {
-    let road = sampled(words, numbers, samples)?;
+    let lent = sampled(words, numbers, samples)?;
     if !finite(guess) {
         return Err(Refusal::Station);
     }
     if !on_map(x, y) {
         return Err(Refusal::Target);
     }
-    Ok(locate_from(&road, samples, Vector { x, y }, guess))
+    Ok(locate_from(&lent, Vector { x, y }, guess))
 }

@@ -1,5 +1,5 @@
 // The four calls.
-// Two slices are lent and no `LentRoad`: they are a road only once `admit` has answered one.
+// Slices are lent and no `SampledRoad`: they are one only once `sampled` has answered it.
 ghost use Rattle.std.specs.Prelude.{◌≡◌};
 ghost use Rattle.refusals.specs.Answer.{answered};
 ghost use Rattle.surface_calls.specs.SurfaceCalls.{station_call, axes_call, surface_call, lane_surface_call};
@@ -18,8 +18,8 @@ use surface_station::{Axes, axes_at, station_at};
 pub fn station(words: &[u16], numbers: &[f64], samples: &[f64], s: f64) -> Result<RefPoint, Refusal>
     ensures { answered result ≡ station_call words.now numbers.now samples.now s }
 {
-    let road = enter(words, numbers, samples, s)?;
-    Ok(station_at(&road, samples, s))
+    let lent = enter(words, numbers, samples, s)?;
+    Ok(station_at(&lent, s))
 }
 
 // The road's own axes at s; rows 3, 4, 5, 6 and 7.
@@ -27,8 +27,8 @@ pub fn station(words: &[u16], numbers: &[f64], samples: &[f64], s: f64) -> Resul
 pub fn axes(words: &[u16], numbers: &[f64], samples: &[f64], s: f64) -> Result<Axes, Refusal>
     ensures { answered result ≡ axes_call words.now numbers.now samples.now s }
 {
-    let road = enter(words, numbers, samples, s)?;
-    Ok(axes_at(&road, samples, s))
+    let lent = enter(words, numbers, samples, s)?;
+    Ok(axes_at(&lent, s))
 }
 
 // The surface at s and t: x, y and z in f32, and the heading; rows 3, 4, 5, 6, 7 and 8.
@@ -42,11 +42,11 @@ pub fn surface(
 ) -> Result<SurfacePoint32, Refusal>
     ensures { answered result ≡ surface_call words.now numbers.now samples.now s t }
 {
-    let road = enter(words, numbers, samples, s)?;
+    let lent = enter(words, numbers, samples, s)?;
     if !across(t) {
         return Err(Refusal::Offset);
     }
-    Ok(surface_in(&road, samples, s, t))
+    Ok(surface_in(&lent, s, t))
 }
 
 // The surface of the lane of an id at s and t, straight across the lane and on past its borders; rows 3, 4, 5, 6, 7, 8 and 10.
@@ -61,10 +61,10 @@ pub fn lane_surface(
 ) -> Result<SurfacePoint32, Refusal>
     ensures { answered result ≡ lane_surface_call words.now numbers.now samples.now id s t }
 {
-    let road = enter(words, numbers, samples, s)?;
+    let lent = enter(words, numbers, samples, s)?;
     if !across(t) {
         return Err(Refusal::Offset);
     }
-    let place = lane_with_id(&road, section_at(&road, s), id).ok_or(Refusal::Lane)?;
-    Ok(lane_surface_in(&road, samples, place, s, t))
+    let place = lane_with_id(&lent.road, section_at(&lent.road, s), id).ok_or(Refusal::Lane)?;
+    Ok(lane_surface_in(&lent, place, s, t))
 }

@@ -14,7 +14,7 @@ use Rattle.arithmetic_distance.proofs.MissLaws.{Under}
 use Rattle.surface_laws.proofs.Micrometre.{micrometre}
 use Rattle.surface_points.specs.Surfaces.{surface_at}
 use Rattle.surface_points.proofs.PlanLaws.{surface-fits}
-use Rattle.surface_locate.specs.declared.points.Vector.{Vector}
+use Rattle.surface_points.specs.declared.points.Vector.{Vector}
 use Rattle.surface_locate.specs.declared.points.Place.{Place}
 use Rattle.surface_locate.specs.Locating.{miss_at, size_of, met_at}
 

@@ -4,7 +4,7 @@ use native.Mathlib.Omega.{arith}
 use mathlib.Core.List.{List}
 use lib.Ieee.{Float}
 use Rattle.records.specs.Roads.{Road}
-use Rattle.surface_locate.specs.declared.points.Vector.{Vector}
+use Rattle.surface_points.specs.declared.points.Vector.{Vector}
 use Rattle.surface_locate.specs.declared.points.Place.{Place}
 use Rattle.surface_locate.specs.declared.points.Move.{Move}
 use Rattle.surface_locate.specs.declared.points.Move.TheVariants.{Stay, Last, On}

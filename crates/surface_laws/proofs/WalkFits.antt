@@ -8,7 +8,7 @@ use Rattle.float_laws.specs.Binary64.{◌⊕◌, ◌⊖◌, ◌⊗◌, ◌⊘◌
 use Rattle.records.specs.Roads.{Road}
 use Rattle.line_pose.specs.Poses.{held}
 use Rattle.admission_laws.proofs.Fitting.{Fits64}
-use Rattle.surface_locate.specs.declared.points.Vector.{Vector}
+use Rattle.surface_points.specs.declared.points.Vector.{Vector}
 use Rattle.surface_locate.specs.declared.points.Place.{Place}
 use Rattle.surface_locate.specs.declared.points.Move.{Move}
 use Rattle.surface_locate.specs.declared.points.Move.TheVariants.{Stay, Last, On}

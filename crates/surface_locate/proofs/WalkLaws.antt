@@ -9,7 +9,7 @@ use lib.Ieee.{Float, lt}
 use Rattle.records.specs.Roads.{Road}
 use Rattle.surface_points.specs.Plan.{footing_of, plan_on}
 use Rattle.surface_points.proofs.PlanLaws.{plan-is-surface}
-use Rattle.surface_locate.specs.declared.points.Vector.{Vector}
+use Rattle.surface_points.specs.declared.points.Vector.{Vector}
 use Rattle.surface_locate.specs.declared.points.Place.{Place}
 use Rattle.surface_locate.specs.declared.points.Move.TheVariants.{Stay, Last, On}
 use Rattle.surface_locate.specs.Locating.{tolerance, place, miss_on, miss_at, size_of, move_at, ended, walk_by, walk_from}

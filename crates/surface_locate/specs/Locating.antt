@@ -11,10 +11,9 @@ use Rattle.records.specs.Roads.{Road, geom_index}
 use Rattle.line_pose.specs.Poses.{held, pose_of}
 use Rattle.admission.specs.Limits.{on_road}
 use Rattle.admission_arguments.specs.Arguments.{across_road}
-use Rattle.surface_points.specs.declared.plan.PlanPoint.{PlanPoint}
+use Rattle.surface_points.specs.declared.points.Vector.{Vector}
 use Rattle.surface_points.specs.Surfaces.{surface_at}
 use Rattle.surface_points.specs.Plan.{plan_of}
-use Rattle.surface_locate.specs.declared.points.Vector.{Vector}
 use Rattle.surface_locate.specs.declared.points.Place.{Place}
 use Rattle.surface_locate.specs.declared.points.Walk.{Walk}
 use Rattle.surface_locate.specs.declared.points.Position.{Position}
@@ -43,7 +42,7 @@ place s t = record { s = s; t = t }
 -- ---- the miss, and how fast it changes
 
 -- of a point seen from above
-abbrev pub miss_on : Vector → PlanPoint → Vector
+abbrev pub miss_on : Vector → Vector → Vector
 miss_on target p = record { x = p.x ⊖ target.x; y = p.y ⊖ target.y }
 
 -- of `surface` before it narrows

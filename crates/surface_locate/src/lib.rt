@@ -7,5 +7,5 @@ mod points;
 mod starts;
 mod walks;
 
-pub use points::{Move, Place, Position, Vector, Walk};
+pub use points::{Move, Place, Position, Walk};
 pub use walks::locate_from;

@@ -6,9 +6,9 @@ ghost use Rattle.arithmetic_distance.specs.Brackets.{brackets};
 ghost use Rattle.surface_locate.specs.Meeting.{meeting};
 ghost use Rattle.surface_locate.specs.Locating.{tolerance, miss_on, miss_at, size_of, rate_of};
 
-use crate::points::{Place, Vector};
-use records::LentRoad;
-use surface_points::{Footing, footing_at, plan_on};
+use crate::points::Place;
+use line_samples::SampledRoad;
+use surface_points::{Footing, Vector, footing_at, plan_on};
 
 // A miss, and a move, below which it stops.
 pub(crate) const TOLERANCE: f64 = 1e-9;
@@ -19,17 +19,16 @@ const MEETING: f64 = 0.0000009;
 // What a search goes by: the road with its lent samples, and the point that it looks for.
 #[derive(Clone, Copy)]
 pub(crate) struct Search<'a> {
-    pub road: &'a LentRoad<'a>,
-    pub samples: &'a [f64],
+    pub lent: &'a SampledRoad<'a>,
     pub target: Vector,
 }
 
 impl<'a> Search<'a> {
     // At t of a station.
     pub(crate) fn miss_on(&self, here: Footing, t: f64) -> Vector
-        ensures { result ≡ miss_on self.now.target (plan_on self.now.road.now here t) }
+        ensures { result ≡ miss_on self.now.target (plan_on self.now.lent.now.road here t) }
     {
-        let p = plan_on(self.road, here, t);
+        let p = plan_on(&self.lent.road, here, t);
         Vector {
             x: p.x - self.target.x,
             y: p.y - self.target.y,
@@ -38,9 +37,9 @@ impl<'a> Search<'a> {
 
     #[tactic(auto, using(crate::proofs::WalkLaws::miss_is))]
     pub(crate) fn miss(&self, at: Place) -> Vector
-        ensures { result ≡ miss_at self.now.road.now self.now.samples.now self.now.target at }
+        ensures { result ≡ miss_at self.now.lent.now.road self.now.lent.now.samples.now self.now.target at }
     {
-        self.miss_on(footing_at(self.road, self.samples, at.s), at.t)
+        self.miss_on(footing_at(self.lent, at.s), at.t)
     }
 }
 

@@ -5,9 +5,9 @@ ghost use Rattle.surface_points.specs.Plan.{footing_of};
 ghost use Rattle.surface_locate.specs.Locating.{tolerance, miss_at, size_of, ahead_of, newton_move, move_at};
 
 use crate::misses::{Search, TOLERANCE, rate};
-use crate::points::{Move, Place, Vector};
+use crate::points::{Move, Place};
 use arithmetic_ranges::{abs, clamp};
-use surface_points::Footing;
+use surface_points::{Footing, Vector};
 
 // How far it steps to measure the rates.
 const STRIDE: f64 = 1e-4;
@@ -52,10 +52,10 @@ impl<'a> Search<'a> {
     // The move from a place whose miss r isn't small; here is its station.
     #[tactic(auto, using(crate::proofs::WalkLaws::miss_is), unfolding(crate::specs::Locating::move_at))]
     pub(crate) fn move_from(&self, here: Footing, at: Place, r: Vector) -> Move
-        requires { (here ≡ footing_of self.now.road.now self.now.samples.now at.s) × (r ≡ miss_at self.now.road.now self.now.samples.now self.now.target at) × (lt (size_of r) tolerance ≡ false) }
-        ensures { result ≡ move_at self.now.road.now self.now.samples.now self.now.target at }
+        requires { (here ≡ footing_of self.now.lent.now.road self.now.lent.now.samples.now at.s) × (r ≡ miss_at self.now.lent.now.road self.now.lent.now.samples.now self.now.target at) × (lt (size_of r) tolerance ≡ false) }
+        ensures { result ≡ move_at self.now.lent.now.road self.now.lent.now.samples.now self.now.target at }
     {
-        let length = self.road.length();
+        let length = self.lent.road.length();
         let h = ahead(length, at.s);
         let on = Place {
             s: at.s + h,

@@ -8,11 +8,12 @@ ghost use Rattle.surface_locate.specs.Meeting.{meeting};
 ghost use Rattle.surface_locate.specs.Locating.{most_moves, miss_at, size_of, walk_from, locate_of};
 
 use crate::misses::{Search, near, small};
-use crate::points::{Move, Place, Position, Vector, Walk};
+use crate::points::{Move, Place, Position, Walk};
 use crate::starts::first_t;
 use arithmetic_ranges::clamp;
+use line_samples::SampledRoad;
 use records::LentRoad;
-use surface_points::{Footing, footing_at};
+use surface_points::{Footing, Vector, footing_at};
 
 const MOST_MOVES: u32 = 24;
 
@@ -27,9 +28,9 @@ impl<'a> Search<'a> {
     // The moves from a place, until one is none or the last; first is that place's station.
     #[tactic(auto, using(crate::proofs::WalkLaws::turn))]
     fn walk(&self, from: Place, first: Footing) -> Arrival
-        requires { first ≡ footing_of self.now.road.now self.now.samples.now from.s }
-        ensures walk_value { result.walk ≡ walk_from self.now.road.now self.now.samples.now self.now.target most_moves from 0 }
-        ensures seen { result.miss ≡ miss_at self.now.road.now self.now.samples.now self.now.target result.walk.place }
+        requires { first ≡ footing_of self.now.lent.now.road self.now.lent.now.samples.now from.s }
+        ensures walk_value { result.walk ≡ walk_from self.now.lent.now.road self.now.lent.now.samples.now self.now.target most_moves from 0 }
+        ensures seen { result.miss ≡ miss_at self.now.lent.now.road self.now.lent.now.samples.now self.now.target result.walk.place }
     {
         let mut at = from;
         let mut here = first;
@@ -47,7 +48,7 @@ impl<'a> Search<'a> {
                 }
                 Move::On(p) => {
                     at = p;
-                    here = footing_at(self.road, self.samples, p.s);
+                    here = footing_at(self.lent, p.s);
                 }
             }
         }
@@ -71,23 +72,18 @@ fn met(road: &LentRoad, at: Place, miss: Vector) -> bool
 
 // The place that the moves find from a guess of s, the count of moves, and the mark.
 #[tactic(auto, unfolding(crate::specs::Locating::locate_of, crate::specs::Locating::start_of, crate::specs::Locating::met_at, crate::specs::Locating::first_t, surface_points::specs::Plan::footing_of, surface_station::specs::Station::pose_at))]
-pub fn locate_from(road: &LentRoad, samples: &[f64], target: Vector, guess: f64) -> Position
-    ensures { result ≡ locate_of road.now samples.now target guess }
+pub fn locate_from(lent: &SampledRoad, target: Vector, guess: f64) -> Position
+    ensures { result ≡ locate_of lent.now.road lent.now.samples.now target guess }
 {
-    let s = clamp(road.length(), guess);
-    let here = footing_at(road, samples, s);
+    let s = clamp(lent.road.length(), guess);
+    let here = footing_at(lent, s);
     let from = Place {
         s,
         t: first_t(here, target),
     };
-    let search = Search {
-        road,
-        samples,
-        target,
-    };
-    let e = search.walk(from, here);
+    let e = Search { lent, target }.walk(from, here);
     let at = e.walk.place;
-    let converged = met(road, at, e.miss);
+    let converged = met(&lent.road, at, e.miss);
     Position {
         s: at.s,
         t: at.t,

@@ -6,8 +6,8 @@ ghost use Rattle.surface_points.specs.Raised.{plain_by, lifted, raised_at};
 
 use crate::points::SurfacePoint;
 use arithmetic_sine::SinCos;
-use line_samples::Pose;
-use records::LentRoad;
+use line_pose::Bearing;
+use line_samples::{Pose, SampledRoad};
 use records_active::{slope, value};
 use surface_station::{Axis, bearing_at, up_by};
 
@@ -38,24 +38,21 @@ fn lift(p: SurfacePoint, up: Axis, height: f64) -> SurfacePoint
 // The point at s and t, with the lent samples, stood off by height; at a height of 0 the axes are not asked for. bank is of the road at s.
 #[tactic(auto, unfolding(crate::specs::Raised::raised_at, crate::specs::Raised::plain_at, surface_station::specs::Axes::axes_at, surface_station::specs::Axes::axes_by))]
 pub(crate) fn raised_xyz(
-    road: &LentRoad,
-    samples: &[f64],
+    lent: &SampledRoad,
     s: f64,
     bank: SinCos,
     t: f64,
     height: f64,
 ) -> SurfacePoint
-    requires { bank ≡ sin_cos_of (value_in road.now.superelevations s) }
-    ensures { result ≡ raised_at road.now samples.now s t height }
+    requires { bank ≡ sin_cos_of (value_in lent.now.road.superelevations s) }
+    ensures { result ≡ raised_at lent.now.road lent.now.samples.now s t height }
 {
-    let at = bearing_at(road, samples, s);
-    let p = at.pose;
-    let h = at.turn;
-    let elevation = value(&road.elevations(), s);
-    let plain = plain_by(p, h, bank, elevation, t);
+    let Bearing { pose, turn } = bearing_at(lent, s);
+    let elevation = value(&lent.road.elevations(), s);
+    let plain = plain_by(pose, turn, bank, elevation, t);
     if height == 0.0 {
         return plain;
     }
-    let grade = slope(&road.elevations(), s);
-    lift(plain, up_by(h, grade, bank), height)
+    let grade = slope(&lent.road.elevations(), s);
+    lift(plain, up_by(turn, grade, bank), height)
 }

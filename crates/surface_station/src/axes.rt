@@ -6,7 +6,7 @@ use crate::axis::{Axes, Axis};
 use crate::station::{bank_at, bearing_at};
 use crate::vectors::{cross, unit};
 use arithmetic_sine::SinCos;
-use records::LentRoad;
+use line_samples::SampledRoad;
 use records_active::slope;
 
 // Along the reference line, up its grade; h is of the heading.
@@ -47,11 +47,11 @@ fn axes_by(h: SinCos, grade: f64, p: SinCos) -> Axes
 
 // The axes at s, with the lent samples.
 #[tactic(auto, unfolding(crate::specs::Axes::axes_at))]
-pub fn axes_at(road: &LentRoad, samples: &[f64], s: f64) -> Axes
-    ensures { result ≡ axes_at road.now samples.now s }
+pub fn axes_at(lent: &SampledRoad, s: f64) -> Axes
+    ensures { result ≡ axes_at lent.now.road lent.now.samples.now s }
 {
-    let b = bearing_at(road, samples, s);
+    let b = bearing_at(lent, s);
     let h = b.turn;
-    let grade = slope(&road.elevations(), s);
-    axes_by(h, grade, bank_at(road, s))
+    let grade = slope(&lent.road.elevations(), s);
+    axes_by(h, grade, bank_at(&lent.road, s))
 }

@@ -7,24 +7,24 @@ ghost use Rattle.surface_station.specs.Station.{pose_at, station_of};
 
 use arithmetic_sine::{SinCos, sin_cos};
 use line_pose::{Bearing, bearing_of};
-use line_samples::Pose;
+use line_samples::{Pose, SampledRoad};
 use records::{LentRoad, RefPoint};
 use records_active::{geom_at, slope, value};
 
 // The pose at s of the geometry in use there, with the lent samples.
 #[tactic(auto, unfolding(crate::specs::Station::pose_at))]
-pub fn pose_at(road: &LentRoad, samples: &[f64], s: f64) -> Pose
-    ensures { result ≡ pose_at road.now samples.now s }
+pub fn pose_at(lent: &SampledRoad, s: f64) -> Pose
+    ensures { result ≡ pose_at lent.now.road lent.now.samples.now s }
 {
-    line_pose::pose(road, samples, geom_at(road, s), s)
+    line_pose::pose(lent, geom_at(&lent.road, s), s)
 }
 
 // That pose with the sine and the cosine of its heading.
 #[tactic(auto, unfolding(crate::specs::Station::pose_at))]
-pub fn bearing_at(road: &LentRoad, samples: &[f64], s: f64) -> Bearing
-    ensures { result ≡ bearing_of (pose_at road.now samples.now s) }
+pub fn bearing_at(lent: &SampledRoad, s: f64) -> Bearing
+    ensures { result ≡ bearing_of (pose_at lent.now.road lent.now.samples.now s) }
 {
-    bearing_of(road, samples, geom_at(road, s), s)
+    bearing_of(lent, geom_at(&lent.road, s), s)
 }
 
 // The sine and the cosine of the bank at s, which needn't be worked out for a road without banks.
@@ -41,12 +41,12 @@ pub fn bank_at(road: &LentRoad, s: f64) -> SinCos
 
 // The eight numbers of the reference line at s: elevation and bank are 0, and so are their rates, where no record is active.
 #[tactic(auto, unfolding(crate::specs::Station::station_of))]
-pub fn station_at(road: &LentRoad, samples: &[f64], s: f64) -> RefPoint
-    ensures { result ≡ station_of road.now samples.now s }
+pub fn station_at(lent: &SampledRoad, s: f64) -> RefPoint
+    ensures { result ≡ station_of lent.now.road lent.now.samples.now s }
 {
-    let p = pose_at(road, samples, s);
-    let elev = road.elevations();
-    let bank = road.superelevations();
+    let p = pose_at(lent, s);
+    let elev = lent.road.elevations();
+    let bank = lent.road.superelevations();
     RefPoint {
         s,
         x: p.x,

@@ -3,6 +3,7 @@ ghost use Rattle.std.specs.Prelude.{◌≡◌};
 ghost use Rattle.records.specs.Roads.{lent_road};
 ghost use Rattle.line_pose.specs.Poses.{pose_of, pose_list};
 
+use line_samples::SampledRoad;
 use records::LentRoad;
 
 #[unsafe(no_mangle)]
@@ -16,6 +17,7 @@ pub extern "C" fn probe_pose(
 )
     ensures { pose.new ≡ pose_list (pose_of (lent_road words numbers) samples.now geometry s) }
 {
-    let p = line_pose::pose(&LentRoad::new(words, numbers), samples, geometry, s);
+    let road = LentRoad::new(words, numbers);
+    let p = line_pose::pose(&SampledRoad { road, samples }, geometry, s);
     *pose = [p.x, p.y, p.heading];
 }

@@ -8,15 +8,16 @@ ghost use Rattle.lanes_calls.specs.LaneCalls.{lane_named_call};
 ghost use Rattle.test_support.specs.Answers.{count_word};
 ghost use Rattle.test_roads.specs.Case.{pose_part, across_part, lane_across, toward_of, name_number, question_of, answer_part, fill_of, filled_of, filled_list};
 
+use line_samples::SampledRoad;
 use reader_hex::of_bits;
 use records::{LanePlace, LentRoad};
 use test_support::{Line, count_word};
 
 // x, y and heading of a pose.
-fn pose_part(road: &LentRoad, samples: &[f64], geometry: u64, s: f64, part: u64) -> f64
-    ensures { result ≡ pose_part (pose_of road.now samples.now geometry s) part }
+fn pose_part(lent: &SampledRoad, geometry: u64, s: f64, part: u64) -> f64
+    ensures { result ≡ pose_part (pose_of lent.now.road lent.now.samples.now geometry s) part }
 {
-    let p = line_pose::pose(road, samples, geometry as usize, s);
+    let p = line_pose::pose(lent, geometry as usize, s);
     match part {
         0 => p.x,
         1 => p.y,
@@ -114,7 +115,9 @@ impl Question {
         let x = of_bits(line.a);
         let y = of_bits(line.b);
         match self {
-            Question::LinePose => pose_part(&road, lent, line.a, y, part),
+            Question::LinePose => {
+                pose_part(&SampledRoad { road, samples: lent }, line.a, y, part)
+            }
             Question::LaneAcross => across_part(&road, x, line.b, part),
             Question::HeightToward => lanes_shape::height_toward(&road, x, y, toward(part)),
             Question::LaneName => name(words, numbers, x, y),

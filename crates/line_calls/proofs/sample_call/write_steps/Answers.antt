@@ -6,16 +6,19 @@ use Rattle.line_calls.proofs.sample_call.write_steps.Goals as goal
 pub loop-i-init : goal.loop-i-init
 loop-i-init c =
     let a = c.args in
-    steps-none a.g a.k0 a.k1 a.samples.now a.at a.n a.p
+    let of = a.spiral.now in
+    steps-none of.geom of.k0 of.k1 a.samples.now a.at a.n a.p
 
 pub loop-i-preserved : goal.loop-i-preserved
 loop-i-preserved c =
     let at = c.loop-i in
     let a = c.args in
-    steps-turn a.g a.k0 a.k1 a.at a.n at.i at.last at.samples c.loop-i-test.true c.next_sample-last.ensures c.put.ensures ∙ at.invariant
+    let of = a.spiral.now in
+    steps-turn of.geom of.k0 of.k1 a.at a.n at.i at.last at.samples c.loop-i-test.true c.next_sample-last.ensures c.put.ensures ∙ at.invariant
 
 pub returns : goal.returns
 returns c =
     let at = c.loop-i in
     let a = c.args in
-    sym (steps-end a.g a.k0 a.k1 (a.at + at.i * 4) a.n at.i at.last at.samples c.loop-i-test.false) ∙ at.invariant
+    let of = a.spiral.now in
+    sym (steps-end of.geom of.k0 of.k1 (a.at + at.i * 4) a.n at.i at.last at.samples c.loop-i-test.false) ∙ at.invariant

@@ -6,4 +6,6 @@ use Rattle.line_samples.specs.Samples.{later_samples, flat}
 use Rattle.line_calls.proofs.sample_call.write_steps.Given as goal
 
 abbrev pub invariant-loop-i : goal.invariant-loop-i
-invariant-loop-i l = sets l.samples (l.at + l.i * 4) (flat (later_samples l.g l.k0 l.k1 (l.n - l.i) l.last)) ≡ sets l.initial.samples l.at (flat (later_samples l.g l.k0 l.k1 l.n l.initial.last))
+invariant-loop-i l =
+    let of = l.spiral in
+    sets l.samples (l.at + l.i * 4) (flat (later_samples of.geom of.k0 of.k1 (l.n - l.i) l.last)) ≡ sets l.initial.samples l.at (flat (later_samples of.geom of.k0 of.k1 l.n l.initial.last))

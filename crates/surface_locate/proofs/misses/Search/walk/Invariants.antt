@@ -8,4 +8,5 @@ use Rattle.surface_locate.proofs.misses.Search.walk.Given as goal
 abbrev pub invariant-loop-moves : goal.invariant-loop-moves
 invariant-loop-moves l =
     let go = l.self in
-    (walk_from go.road.now go.samples.now go.target most_moves l.initial.at 0 ≡ walk_from go.road.now go.samples.now go.target (most_moves - l.moves) l.at l.moves) × (l.here ≡ footing_of go.road.now go.samples.now l.at.s)
+    let lent = go.lent.now in
+    (walk_from lent.road lent.samples.now go.target most_moves l.initial.at 0 ≡ walk_from lent.road lent.samples.now go.target (most_moves - l.moves) l.at l.moves) × (l.here ≡ footing_of lent.road lent.samples.now l.at.s)

@@ -1,0 +1,107 @@
+// A spiral's samples, as far as a lent slice holds them, and the pose between two of them. A spiral stops at its first and last sample.
+ghost use Rattle.std.specs.Prelude.{◌≡◌, true, ℕ, ◌+◌, ◌-◌, ◌*◌, ◌<◌, ◌≤◌, length};
+ghost use Rattle.line_samples.specs.Samples.{sample_stride, sample_at};
+ghost use Rattle.line_pose.specs.Poses.{leading, segment, fraction_of, between, spiral_pose};
+
+use arithmetic_ranges::clamp;
+use line_samples::{Pose, SAMPLE_STRIDE, Sample};
+use records_lent::number;
+
+// The samples of one geometry: count of them, from place first of the slice on. A slice that is too short holds NaN for the rest.
+#[derive(Clone, Copy)]
+pub(crate) struct SpiralSamples<'a> {
+    pub(crate) samples: &'a [f64],
+    pub(crate) first: usize,
+    pub(crate) count: usize,
+    ghost few: { (first < 268435456) × (count ≤ 2002) },
+}
+
+// The first sample of the segment: the last leading one, but never the very last.
+fn segment_of(lead: usize, n: usize) -> usize
+    ensures { result ≡ segment lead n }
+{
+    lead.saturating_sub(1).min(n.saturating_sub(2))
+}
+
+fn fraction(a: f64, b: f64, d: f64) -> f64
+    ensures { result ≡ fraction_of a b d }
+{
+    if a < b { (d - a) / (b - a) } else { 0.0 }
+}
+
+fn between_samples(a: Sample, b: Sample, f: f64) -> Pose
+    ensures { result ≡ between a b f }
+{
+    Pose {
+        x: a.x + (b.x - a.x) * f,
+        y: a.y + (b.y - a.y) * f,
+        heading: a.heading + (b.heading - a.heading) * f,
+    }
+}
+
+impl<'a> SpiralSamples<'a> {
+    // The k-th: a segment of fewer than two samples takes one past the last.
+    fn sample(&self, k: usize) -> Sample
+        requires { k ≤ self.now.count + 1 }
+        ensures { result ≡ sample_at self.now.samples.now self.now.first k }
+    {
+        let at = (self.first + k) * SAMPLE_STRIDE;
+        Sample {
+            distance: number(self.samples, at),
+            x: number(self.samples, at + 1),
+            y: number(self.samples, at + 2),
+            heading: number(self.samples, at + 3),
+        }
+    }
+
+    // Whether the eight from the k-th on all have a distance of at most d.
+    fn eight_lead(&self, k: usize, d: f64) -> bool
+        requires { (k ≤ self.now.count) × ((self.now.first + k + 8) * sample_stride ≤ length self.now.samples.now) }
+        ensures { result ≡ true → (n : ℕ) → leading self.now.samples.now (self.now.first + k) d (n + 8) ≡ 8 + leading self.now.samples.now (self.now.first + k + 8) d n }
+    {
+        let at = (self.first + k) * SAMPLE_STRIDE;
+        let leads = |j: usize| self.samples[at + j * SAMPLE_STRIDE] <= d;
+        let low = leads(0) & leads(1) & leads(2) & leads(3);
+        let high = leads(4) & leads(5) & leads(6) & leads(7);
+        low & high
+    }
+
+    // How many lead with a distance of at most d, as far as whole eights go: their tests need no branch between them, and one by one a long spiral takes near twice as long.
+    fn leading_eights(&self, d: f64) -> usize
+        ensures n_value { leading self.now.samples.now self.now.first d self.now.count ≡ result + leading self.now.samples.now (self.now.first + result) d (self.now.count - result) }
+        ensures small { result ≤ self.now.count }
+    {
+        let eights = self.count / 8;
+        let whole = self.samples.len() / SAMPLE_STRIDE;
+        (0..eights)
+            .find(|&eight| {
+                let k = eight * 8;
+                whole < self.first + k + 8 || !self.eight_lead(k, d)
+            })
+            .unwrap_or(eights)
+            * 8
+    }
+
+    // How many lead with a distance of at most d. Each is looked at, since the distances of a lent slice may stand in any order.
+    fn leading(&self, d: f64) -> usize
+        ensures value { result ≡ leading self.now.samples.now self.now.first d self.now.count }
+        ensures small { result ≤ self.now.count }
+    {
+        (self.leading_eights(d)..self.count)
+            .find(|&k| !(number(self.samples, (self.first + k) * SAMPLE_STRIDE) <= d))
+            .unwrap_or(self.count)
+    }
+
+    // The pose at ds from the spiral's start.
+    #[tactic(auto, unfolding(crate::specs::Poses::spiral_pose))]
+    pub(crate) fn pose(&self, ds: f64) -> Pose
+        ensures { result ≡ spiral_pose self.now.samples.now self.now.first self.now.count ds }
+    {
+        let last = self.sample(self.count.saturating_sub(1));
+        let d = clamp(last.distance, ds);
+        let i = segment_of(self.leading(d), self.count);
+        let a = self.sample(i);
+        let b = self.sample(i + 1);
+        between_samples(a, b, fraction(a.distance, b.distance, d))
+    }
+}
