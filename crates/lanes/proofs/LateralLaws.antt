@@ -214,8 +214,8 @@ module _ (road : Road) (s t toward : Float) {cs : List Cubic} {v : Float} {b : B
   pub cross-left : {x : Float} → b ≡ true → x ≡ by_side (strip_at road 0) (strip_at road 1) s (t ⊖ v) (f64 0x3ff0_0000_0000_0000) → x ≡ cross_height road s t toward
   cross-left e ex = ex ∙ by-shift e
 
-  pub cross-right : {x : Float} → b ≡ false → x ≡ by_side (strip_at road 2) (strip_at road 3) s (t ⊖ v) (neg (f64 0x3ff0_0000_0000_0000)) → x ≡ cross_height road s t toward
-  cross-right e ex = ex ∙ ap (by_side (strip_at road 2) (strip_at road 3) s (t ⊖ v)) minus_one_lem ∙ by-shift e
+  pub cross-right : {x : Float} → b ≡ false → x ≡ by_side (strip_at road 2) (strip_at road 3) s (t ⊖ v) (f64 0xbff0_0000_0000_0000) → x ≡ cross_height road s t toward
+  cross-right e ex = ex ∙ by-shift e
 
 pub toward-by : (road : Road) (s t toward : Float) {x y : Float} → x ≡ shape_of road s t → y ≡ cross_height road s t toward → x ⊕ y ≡ height_toward road s t toward
 unfolding height_toward
