@@ -8,7 +8,7 @@ use native.Mathlib.Nat.{le_trans, le_of_eq, mul-le-mul_right}
 use native.Mathlib.Omega.{arith}
 use lib.Dec.{lit≤}
 use lib.ListN.{length, get_or}
-use lib.Ieee.{Float, binary64, prec, low, le, of_bits, fits}
+use lib.Ieee.{Float, binary64, prec, low, of_bits, fits}
 use Rattle.float_laws.specs.Binary64.{f64, zero64}
 use Rattle.float_laws.proofs.Value.{mag, pl, mi, Real}
 use Rattle.float_laws.proofs.Size.{Within}
@@ -51,11 +51,11 @@ eighty-whole : Whole binary64 eighty 80 0
 unfolding of_bits fits pl mi
 eighty-whole = record { value = record { finite = tt; fits = tt }; plus = refl; minus = refl }
 
-zero-whole : Whole binary64 zero64 0 0
+pub zero-whole : Whole binary64 zero64 0 0
 unfolding of_bits fits pl mi
 zero-whole = record { value = record { finite = tt; fits = tt }; plus = refl; minus = refl }
 
-sign-whole : (right : Bool) → SideSign binary64 right (sign_of right)
+pub sign-whole : (right : Bool) → SideSign binary64 right (sign_of right)
 unfolding of_bits fits pl mi
 sign-whole false = record { value = record { finite = tt; fits = tt }; plus = refl; minus = refl }
 sign-whole true = record { value = record { finite = tt; fits = tt }; plus = refl; minus = refl }
