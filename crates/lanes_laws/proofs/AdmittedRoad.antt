@@ -2,11 +2,12 @@
 -- Rows 3 and 4 part by part; the section at s is there because the first one starts at 0.
 use Prim.Native.Nat.{ℕ, ◌≤◌, ◌<◌}
 use mathlib.Core.Path.{◌≡◌}
-use mathlib.Core.Bool.{Bool, true, false, ◌||◌}
+use mathlib.Core.Bool.{Bool, true, false}
 use mathlib.Core.List.{List}
 use lib.ListN.{length}
 use lib.Dec.{T}
-use lib.Ieee.{Float, binary64, of_bits, fits, le, lt, eq, neg, sub}
+use lib.Ieee.{Float, binary64, of_bits, fits, le, neg, sub}
+use Rattle.std.proofs.lemmas.Float.{le_of_eq}
 use Rattle.float_laws.specs.Binary64.{◌⊖◌, zero64}
 use Rattle.float_laws.proofs.Value.{Real, le_trans', neg-real}
 use Rattle.float_laws.proofs.Interval.{In, sub_in, in-of_le}
@@ -81,14 +82,6 @@ length-far : T (le greatest_length far) × T (le greatest_length station-far)
 unfolding of_bits le
 length-far = (tt, tt)
 
-or_r : (a b : Bool) → T b → T (a || b)
-or_r true b t = tt
-or_r false b t = t
-
-same-le : (x y : Float) → T (eq x y) → T (le x y)
-unfolding le
-same-le x y e = or_r (lt x y) (eq x y) e
-
 -- x and y in 0..10,000: x - y is at most 10,000 in size
 difference-within : (x y : Float) → In binary64 zero64 greatest_length x → In binary64 zero64 greatest_length y → Within binary64 (x ⊖ y) station-far
 unfolding of_bits sub le neg
@@ -115,7 +108,7 @@ module _ (road : Road) (a : Admits road) (s : Float) (o : OnRoad road s) where
       let e = extent-within road a.fit a.limits 0 a.sections in
       let w = within-mono binary64 s greatest_length far s-within e.bound length-far.0 in
       let r = up_to-real s w in
-      le_trans' binary64 (section_of road 0).start zero64 (active_up_to s) z.value z.low r (same-le (section_of road 0).start zero64 a.order.section_zero)
+      le_trans' binary64 (section_of road 0).start zero64 (active_up_to s) z.value z.low r (le_of_eq (section_of road 0).start zero64 a.order.section_zero)
       (le_trans' binary64 zero64 s (active_up_to s) z.low w.value r o.above (up_to-grows s w))
 
   -- the section at s is there, and s lies in it
