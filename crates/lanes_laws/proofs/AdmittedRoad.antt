@@ -58,7 +58,7 @@ admits words numbers fitting ok =
 
 -- ---- row 8, by the size of t
 
-eighty-own : Within binary64 eighty eighty
+pub eighty-own : Within binary64 eighty eighty
 unfolding of_bits fits le neg
 eighty-own = within-const binary64 eighty eighty tt
 
@@ -74,11 +74,11 @@ length-own : Within binary64 greatest_length greatest_length
 unfolding of_bits fits le neg
 length-own = within-const binary64 greatest_length greatest_length tt
 
-far-own : Within binary64 station-far station-far
+pub far-own : Within binary64 station-far station-far
 unfolding of_bits fits le neg
 far-own = within-const binary64 station-far station-far tt
 
-length-far : T (le greatest_length far) × T (le greatest_length station-far)
+pub length-far : T (le greatest_length far) × T (le greatest_length station-far)
 unfolding of_bits le
 length-far = (tt, tt)
 

@@ -3,7 +3,7 @@
 use mathlib.Core.Path.{◌≡◌, refl, subst}
 use mathlib.Core.Bool.{Bool, true, false, cond}
 use Prim.Native.Nat.{ℕ, zero, suc, ◌+◌, ◌*◌, ◌^◌, ◌≤◌, ◌<◌}
-use native.Mathlib.Nat.{le_trans}
+use native.Mathlib.Nat.{le_trans, le_of_suc-le, le-add_right}
 use native.Mathlib.Omega.{arith}
 use lib.Dec.{T, lit≤}
 use lib.ListN.{length, get_or}
@@ -28,7 +28,7 @@ use Rattle.lanes_borders.specs.Borders.{sign_of, border_width, width_of, base_at
 use Rattle.lanes_heights.specs.Heights.{level_up_to, level_heights, tilted_heights, own_heights, heights_from, height_after, heights_at}
 use Rattle.lanes_borders.specs.declared.across.LaneBorders.{LaneBorders}
 use Rattle.lanes_borders.proofs.BorderLaws.{eight, thirty_six, eighty, ExtentWithin}
-use Rattle.lanes_laws.proofs.AdmittedRoad.{Admits, across-within, into}
+use Rattle.lanes_laws.proofs.AdmittedRoad.{Admits, eighty-own, across-within, into}
 use Rattle.lanes_laws.proofs.BordersKept.{center, extents, inner-kept, outer-kept}
 use Rattle.lanes_laws.proofs.RoadHeights.{toward-kept, own-kept}
 use Rattle.lanes_laws.proofs.WholeSizes.{AtMost, at_most-of, at_most-more, at_most-within, at_most-sum, at_most-difference}
@@ -54,10 +54,6 @@ widest-own = within-const binary64 widest widest tt
 zero-widest : Within binary64 zero64 widest
 unfolding of_bits fits le neg
 zero-widest = within-const binary64 zero64 widest tt
-
-eighty-own : Within binary64 eighty eighty
-unfolding of_bits fits le neg
-eighty-own = within-const binary64 eighty eighty tt
 
 eight-below : T (le eight widest) × T (le eight eighty)
 unfolding of_bits le
@@ -197,12 +193,6 @@ module _ (road : Road) (a : Admits road) (s : Float) (o : OnRoad road s) (right 
     under : (k n : ℕ) → k < n → n ≤ 6 → 121 + k * 119 + 119 ≤ 840
     under k n h l = omega arith
 
-    from : (k : ℕ) → 121 ≤ 121 + k * 119
-    from k = omega arith
-
-    before : (k n : ℕ) → suc k ≤ n → k ≤ n
-    before k n h = omega arith
-
     most : (k n : ℕ) → k ≤ n → n ≤ 6 → 121 + k * 119 ≤ 840
     most k n h l = omega arith
 
@@ -211,7 +201,7 @@ module _ (road : Road) (a : Admits road) (s : Float) (o : OnRoad road s) (right 
     after zero h = toward-at (base_at road s) base-within
     after (suc k) h =
         subst (λ (n : ℕ). AtMost binary64 n (height_after road at s tangent right (suc k))) (next k)
-        (heights-most k h (height_after road at s tangent right k) (121 + k * 119) (after k (before k count h)) (from k) (under k count h (a.few at right))).1
+        (heights-most k h (height_after road at s tangent right k) (121 + k * 119) (after k (le_of_suc-le h)) (le-add_right 121 (k * 119)) (under k count h (a.few at right))).1
 
     -- the height at the outer border after k lanes
     pub after_kept : (k : ℕ) → k ≤ count → Within binary64 (height_after road at s tangent right k) border-most
@@ -222,7 +212,7 @@ module _ (road : Road) (a : Admits road) (s : Float) (o : OnRoad road s) (right 
     unfolding heights_at
     border-heights-kept k h =
         let u = under k count h (a.few at right) in
-        let w = heights-most k h (height_after road at s tangent right k) (121 + k * 119) (after k (before k count h)) (from k) u in
+        let w = heights-most k h (height_after road at s tangent right k) (121 + k * 119) (after k (le_of_suc-le h)) (le-add_right 121 (k * 119)) u in
         let b = heights_at road at s tangent right k in (
           at_most-within binary64 b.inner border-most (121 + k * 119 + 119) 840 w.0 u border-whole,
           at_most-within binary64 b.outer border-most (121 + k * 119 + 119) 840 w.1 u border-whole,

@@ -23,7 +23,7 @@ use Rattle.lanes_laws.proofs.Fractions.{Fraction}
 use Rattle.lanes_heights.specs.declared.across.Across.{Across}
 use Rattle.lanes_heights.specs.HeightAcross.{fraction_at, kept, height_across, height_within}
 use Rattle.lanes_borders.proofs.Outward.{Ahead}
-use Rattle.lanes_borders.proofs.BorderLaws.{eighty}
+use Rattle.lanes_borders.proofs.BorderLaws.{eighty, zero-whole}
 use Rattle.lanes_laws.proofs.BorderHeights.{border-most}
 use Rattle.lanes_laws.proofs.Quotients.{div-number, rising, falling}
 
@@ -55,10 +55,6 @@ across-room = lit≤ tt
 twice-eighty : T (finite (eighty ⊕ eighty))
 unfolding of_bits add
 twice-eighty = tt
-
-zero-whole : Whole binary64 zero64 0 0
-unfolding of_bits fits pl mi
-zero-whole = record { value = record { finite = tt; fits = tt }; plus = refl; minus = refl }
 
 one-whole : Whole binary64 one 1 0
 unfolding of_bits fits pl mi

@@ -2,7 +2,7 @@
 -- By the law on fractions and the law on interpolation; the constants are compared by computation.
 use mathlib.Core.Path.{◌≡◌, refl}
 use Prim.Native.Nat.{ℕ, zero, suc, ◌+◌, ◌-◌, ◌*◌, ◌^◌, ◌≤◌, ◌<◌, zero-le}
-use native.Mathlib.Nat.{le_trans, le_of_mul-le-mul_right}
+use native.Mathlib.Nat.{le_trans, le-add_right, le_of_mul-le-mul_right}
 use native.Mathlib.Omega.{arith}
 use mathlib.Core.Bool.{Bool, true, false, cond}
 use lib.Dec.{T, ltb, eqb, lit≤, lit<}
@@ -89,10 +89,7 @@ zero-within B r z = record { value = good-real binary64 zero64 tt; bound = r; pl
 
 pub blend-within : {A B : Float} {j : ℕ} (a b t : Float) → Wider A B j → Within binary64 a A → Within binary64 b A → Fraction binary64 t short → Within binary64 (blend a b t) B
 blend-within {A} {B} {j} a b t w wa wb q =
-    interpolate-within-outside binary64 a b t A B short j wa wb q.value starts-far.small q.below (le_trans q.above (more (2 ^ low binary64) short)) w.size w.exponent w.real w.plus w.room
-  where
-    more : (a b : ℕ) → a ≤ a + b
-    more a b = omega arith
+    interpolate-within-outside binary64 a b t A B short j wa wb q.value starts-far.small q.below (le_trans q.above (le-add_right (2 ^ low binary64) short)) w.size w.exponent w.real w.plus w.room
 
 -- ---- along the stations
 module _ (start value : ℕ → Float) (n : ℕ) (s : Float) where
