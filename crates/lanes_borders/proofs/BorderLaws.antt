@@ -4,11 +4,11 @@ use mathlib.Core.Path.{◌≡◌, refl, sym, subst}
 use mathlib.Core.Bool.{Bool, true, false, cond}
 use mathlib.Core.List.{List}
 use Prim.Native.Nat.{ℕ, zero, suc, ◌+◌, ◌*◌, ◌^◌, ◌≤◌, ◌<◌}
-use native.Mathlib.Nat.{le_trans, le_of_eq, mul-le-mul_right}
+use native.Mathlib.Nat.{le_trans, le_of_eq, le_of_suc-le, le-add_right, mul-le-mul_right}
 use native.Mathlib.Omega.{arith}
 use lib.Dec.{lit≤}
 use lib.ListN.{length, get_or}
-use lib.Ieee.{Float, binary64, prec, low, le, of_bits, fits}
+use lib.Ieee.{Float, binary64, prec, low, of_bits, fits}
 use Rattle.float_laws.specs.Binary64.{f64, zero64}
 use Rattle.float_laws.proofs.Value.{mag, pl, mi, Real}
 use Rattle.float_laws.proofs.Size.{Within}
@@ -51,11 +51,11 @@ eighty-whole : Whole binary64 eighty 80 0
 unfolding of_bits fits pl mi
 eighty-whole = record { value = record { finite = tt; fits = tt }; plus = refl; minus = refl }
 
-zero-whole : Whole binary64 zero64 0 0
+pub zero-whole : Whole binary64 zero64 0 0
 unfolding of_bits fits pl mi
 zero-whole = record { value = record { finite = tt; fits = tt }; plus = refl; minus = refl }
 
-sign-whole : (right : Bool) → SideSign binary64 right (sign_of right)
+pub sign-whole : (right : Bool) → SideSign binary64 right (sign_of right)
 unfolding of_bits fits pl mi
 sign-whole false = record { value = record { finite = tt; fits = tt }; plus = refl; minus = refl }
 sign-whole true = record { value = record { finite = tt; fits = tt }; plus = refl; minus = refl }
@@ -101,15 +101,6 @@ first = omega arith
 next : (k : ℕ) → 29 + k * 8 + 8 ≡ 29 + suc k * 8
 next k = omega arith
 
-from : (k : ℕ) → 29 ≤ 29 + k * 8
-from k = omega arith
-
-more : (k : ℕ) → 29 + k * 8 ≤ 29 + k * 8 + 8
-more k = omega arith
-
-before : (k n : ℕ) → suc k ≤ n → k ≤ n
-before k n h = omega arith
-
 under-eighty : (k n : ℕ) → k ≤ n → n ≤ 6 → 29 + k * 8 ≤ 80
 under-eighty k n h l = omega arith
 
@@ -122,18 +113,18 @@ module _ (lanes : List Lane) (right : Bool) (base s : Float) (few : length lanes
   Reached k = Real binary64 (outer k) × (mag binary64 (outer k) ≤ (29 + k * 8) * 2 ^ low binary64)
 
   fitted : (k : ℕ) → k < length lanes → Reached k → Fitted binary64 right (outer k) (width_of (get_or lanes k no_lane) (sign_of right) (outer k) s) (29 + k * 8 + 8)
-  fitted k h p = width_fits (get_or lanes k no_lane) right (outer k) s (29 + k * 8) (extents k h) p.0 p.1 (from k) (small k (length lanes) h few)
+  fitted k h p = width_fits (get_or lanes k no_lane) right (outer k) s (29 + k * 8) (extents k h) p.0 p.1 (le-add_right 29 (k * 8)) (small k (length lanes) h few)
 
   step : (k : ℕ) → k < length lanes → Reached k → Real binary64 (outer (suc k)) × (mag binary64 (outer (suc k)) ≤ (29 + k * 8 + 8) * 2 ^ low binary64) × Ahead right (outer k) (outer (suc k))
   unfolding outer_after
   step k h p =
-      step-outward binary64 right (sign_of right) (outer k) (width_of (get_or lanes k no_lane) (sign_of right) (outer k) s) (29 + k * 8) (29 + k * 8 + 8) (sign-whole right) p.0 p.1 (more k) (fits-format k (length lanes) h few)
+      step-outward binary64 right (sign_of right) (outer k) (width_of (get_or lanes k no_lane) (sign_of right) (outer k) s) (29 + k * 8) (29 + k * 8 + 8) (sign-whole right) p.0 p.1 (le-add_right (29 + k * 8) 8) (fits-format k (length lanes) h few)
       (fitted k h p)
 
   reached : (k : ℕ) → k ≤ length lanes → Reached k
   reached zero h = unfold outer_after in (center.value, le_trans center.le (le_trans (le_of_eq eight-whole.plus) (mul-le-mul_right (2 ^ low binary64) first)))
   reached (suc k) h =
-      let g = step k h (reached k (before k (length lanes) h)) in
+      let g = step k h (reached k (le_of_suc-le h)) in
       (g.0, subst (λ (n : ℕ). mag binary64 (outer (suc k)) ≤ n * 2 ^ low binary64) (next k) g.1)
 
   -- after any number of lanes the border is finite and at most 80 in size
@@ -143,7 +134,7 @@ module _ (lanes : List Lane) (right : Bool) (base s : Float) (few : length lanes
   -- "none beyond 80"
   pub inner-within : (k : ℕ) → k < length lanes → Within binary64 (borders_at lanes (sign_of right) base s k).inner eighty
   unfolding borders_at
-  inner-within k h = outer-within k (before k (length lanes) h)
+  inner-within k h = outer-within k (le_of_suc-le h)
 
   pub outer-border-within : (k : ℕ) → k < length lanes → Within binary64 (borders_at lanes (sign_of right) base s k).outer eighty
   unfolding borders_at outer_after
@@ -152,4 +143,4 @@ module _ (lanes : List Lane) (right : Bool) (base s : Float) (few : length lanes
   -- left borders never fall outward, right ones never rise
   pub outer-ahead : (k : ℕ) → k < length lanes → Ahead right (borders_at lanes (sign_of right) base s k).inner (borders_at lanes (sign_of right) base s k).outer
   unfolding borders_at outer_after
-  outer-ahead k h = (step k h (reached k (before k (length lanes) h))).2
+  outer-ahead k h = (step k h (reached k (le_of_suc-le h))).2

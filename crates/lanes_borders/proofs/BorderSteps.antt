@@ -1,6 +1,6 @@
--- The steps of a side's borders as the code takes them: a side's lanes, a lane's width by its kind, the running outer border, and a side's numbers written into a list.
+-- The steps of a side's borders as the code takes them: the running outer border, and a side's numbers written into a list.
 use mathlib.Core.Path.{◌≡◌, refl, sym, ap, ◌∙◌}
-use mathlib.Core.Bool.{Bool, true, false, cond}
+use mathlib.Core.Bool.{Bool, true, false}
 use mathlib.Core.List.{List, [], ◌∷◌, ◌++◌, append-nil}
 use mathlib.Core.Logic.{⊎_elim}
 use Prim.Native.Nat.{ℕ, zero, suc, ◌+◌, ◌*◌, ◌/◌, ◌≤◌, ◌<◌}
@@ -14,25 +14,9 @@ use lib.Seq.{get_or-append-add}
 use lib.Ieee.{Float}
 use Rattle.float_laws.specs.Binary64.{◌⊖◌}
 use Rattle.records_lent.proofs.StoreLaws.{three-stores}
-use Rattle.records_cubic.specs.declared.cubics.Cubic.{Cubic}
-use Rattle.records.specs.Active.{active_in, value_in}
-use Rattle.records.specs.Roads.{Road, Lane, no_lane, section_of, lane_of}
-use Rattle.arithmetic_ranges.specs.Ranges.{not_below_zero}
+use Rattle.records.specs.Roads.{Road, Lane, no_lane, section_of}
 use Rattle.lanes_borders.specs.declared.across.LaneBorders.{LaneBorders}
-use Rattle.lanes_borders.specs.Borders.{sign_of, border_width, width_of, outer_after, borders_from, borders_at, base_at, side_lanes, lanes_of, borders_of, side_list, border_list}
-
--- ---- a lane's width
-
-module _ (lane : Lane) (sign inner s : Float) where
-  pub width-border : {w : Float} → lane.border ≡ true → w ≡ border_width lane sign inner s (active_in lane.extents s) → not_below_zero w ≡ width_of lane sign inner s
-  unfolding width_of
-  width-border e f = ap not_below_zero (f ∙ sym (ap (λ (b : Bool). cond b (border_width lane sign inner s (active_in lane.extents s)) (value_in lane.extents s)) e))
-
-  pub width-value : (xs : List Cubic) {w : Float} → lane.border ≡ false → xs ≡ lane.extents → w ≡ value_in xs s → not_below_zero w ≡ width_of lane sign inner s
-  unfolding width_of
-  width-value xs e p f =
-      ap not_below_zero
-      (f ∙ ap (λ (cs : List Cubic). value_in cs s) p ∙ sym (ap (λ (b : Bool). cond b (border_width lane sign inner s (active_in lane.extents s)) (value_in lane.extents s)) e))
+use Rattle.lanes_borders.specs.Borders.{sign_of, outer_after, borders_from, borders_at, base_at, side_lanes, lanes_of, borders_of, side_list, border_list}
 
 -- ---- the running outer border
 
@@ -48,12 +32,6 @@ module _ (lanes : List Lane) (sign base s : Float) where
   pub borders-turn : (k : ℕ) {t : Float} {b : LaneBorders} → t ≡ outer_after lanes sign base s k → b ≡ borders_from (get_or lanes k no_lane) sign t s → b ≡ borders_at lanes sign base s k
   unfolding borders_at
   borders-turn k e f = rw (f, e)
-
-pub borders_of_lem :
-    (road : Road) (i : ℕ) (s : Float) (right : Bool) (k : ℕ) {start base inner : Float} {b : LaneBorders} → start ≡ (section_of road i).start → base ≡ base_at road s
-    → inner ≡ outer_after (side_lanes road i right) (sign_of right) base (s ⊖ start) k → b ≡ borders_from (lane_of road i right k) (sign_of right) inner (s ⊖ start) → b ≡ borders_of road i s right k
-unfolding borders_at
-borders_of_lem road i s right k p q e f = rw (f, e, q, p)
 
 -- ---- a side written into a list: its numbers, and the old list from there on
 

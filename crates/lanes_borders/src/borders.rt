@@ -8,7 +8,7 @@ use crate::across::LaneBorders;
 use arithmetic_ranges::not_below_zero;
 use records::{LanePlace, LentRoad};
 use records_active::{active, value};
-use records_lanes::{LentLane, lane};
+use records_lanes::{LentLane, LentSide, lane};
 use records_sections::{lane_count, section_start};
 
 // The t of the center.
@@ -54,11 +54,10 @@ pub fn lane_width(lane: &LentLane, s: f64, sign: f64, inner: f64) -> f64
 }
 
 // A lane's borders from its inner one, s metres into its section: one step outward, for callers that go over all lanes of a side.
-pub fn next_border(road: &LentRoad, place: LanePlace, s: f64, inner: f64) -> LaneBorders
-    ensures { result ≡ borders_from (lane_of road.now place.section place.right place.k) (sign_of place.right) inner s }
+pub fn border_from(lane: &LentLane, s: f64, sign: f64, inner: f64) -> LaneBorders
+    ensures { result ≡ borders_from lane.now sign inner s }
 {
-    let sign = sign_of(place.right);
-    let width = lane_width(&lane(road, place), s, sign, inner);
+    let width = lane_width(lane, s, sign, inner);
     LaneBorders {
         inner,
         outer: inner + sign * width,
@@ -66,13 +65,20 @@ pub fn next_border(road: &LentRoad, place: LanePlace, s: f64, inner: f64) -> Lan
     }
 }
 
-// The outer border of the lanes inside a place, s metres into their section.
-fn outer_before(road: &LentRoad, place: LanePlace, s: f64, base: f64) -> f64
-    ensures { result ≡ outer_after (side_lanes road.now place.section place.right) (sign_of place.right) base s place.k }
+// `border_from` of the lane at a place.
+pub fn next_border(road: &LentRoad, place: LanePlace, s: f64, inner: f64) -> LaneBorders
+    ensures { result ≡ borders_from (lane_of road.now place.section place.right place.k) (sign_of place.right) inner s }
+{
+    border_from(&lane(road, place), s, sign_of(place.right), inner)
+}
+
+// The outer border of a side's first n lanes, s metres into their section.
+fn outer_after(side: &LentSide, n: usize, s: f64, sign: f64, base: f64) -> f64
+    ensures { result ≡ outer_after side.now sign base s n }
 {
     let mut t = base;
-    for k in 0..place.k {
-        t = next_border(road, LanePlace { k, ..place }, s, t).outer;
+    for k in 0..n {
+        t = border_from(&side.get(k), s, sign, t).outer;
     }
     t
 }
@@ -81,7 +87,9 @@ fn outer_before(road: &LentRoad, place: LanePlace, s: f64, base: f64) -> f64
 pub fn lane_borders(road: &LentRoad, place: LanePlace, s: f64) -> LaneBorders
     ensures { result ≡ borders_of road.now place.section s place.right place.k }
 {
+    let side = LentSide::new(road, place.section, place.right);
+    let sign = sign_of(place.right);
     let into = s - section_start(road, place.section);
-    let inner = outer_before(road, place, into, base_at(road, s));
-    next_border(road, place, into, inner)
+    let inner = outer_after(&side, place.k, into, sign, base_at(road, s));
+    border_from(&side.get(place.k), into, sign, inner)
 }

@@ -5,4 +5,6 @@ mod across;
 mod borders;
 
 pub use across::LaneBorders;
-pub use borders::{base_at, lane_borders, lane_width, next_border, section_lanes, sign_of};
+pub use borders::{
+    base_at, border_from, lane_borders, lane_width, next_border, section_lanes, sign_of,
+};

@@ -1,6 +1,6 @@
 -- The steps of a side's heights as the code takes them: level from its lane outward and one lane across from where its inner neighbour ends.
 use mathlib.Core.Path.{◌≡◌, refl, ap, ◌∙◌, sym}
-use mathlib.Core.Bool.{Bool, true, false, ◌||◌}
+use mathlib.Core.Bool.{Bool, false, ◌||◌}
 use mathlib.Core.List.{List}
 use Prim.Native.Nat.{ℕ, zero, suc, ◌+◌}
 use native.Mathlib.Numerals.{add-one}
@@ -9,12 +9,10 @@ use lib.Ieee.{Float}
 use Rattle.float_laws.specs.Binary64.{◌⊖◌}
 use Rattle.records_lent.specs.Lists.{any_below}
 use Rattle.records.specs.Roads.{Road, Lane, no_lane, section_of, lane_of}
-use Rattle.lanes.specs.declared.pairs.Pair.{Pair}
-use Rattle.lanes.specs.Lateral.{height_of, height_toward}
-use Rattle.lanes_borders.specs.declared.across.LaneBorders.{LaneBorders}
+use Rattle.lanes.specs.Lateral.{height_toward}
 use Rattle.lanes_heights.specs.declared.across.Across.{Across}
 use Rattle.lanes_borders.specs.Borders.{sign_of, outer_after, borders_from, borders_at, base_at, side_lanes, borders_of}
-use Rattle.lanes_heights.specs.Heights.{level_up_to, level_heights, tilted_heights, across_by, own_heights, height_after, heights_at, across_at}
+use Rattle.lanes_heights.specs.Heights.{level_up_to, across_by, own_heights, height_after, heights_at, across_at}
 
 -- ---- level
 
@@ -41,25 +39,7 @@ module _ (lanes : List Lane) where
 
 -- ---- a lane across
 
-abbrev paired : LaneBorders → Pair → Across
-paired b h = record { inner_t = b.inner; outer_t = b.outer; inner_height = h.inner; outer_height = h.outer }
-
 module _ (road : Road) (i : ℕ) (s tangent : Float) (right : Bool) (k : ℕ) where
-  -- from what the calls give
-  module _
-      (inner outer : Float) {start sign : Float} {b : LaneBorders} {own h : Pair} {level : Bool} {a : Across}
-      (p : start ≡ (section_of road i).start) (q : b ≡ borders_from (lane_of road i right k) (sign_of right) inner (s ⊖ start))
-      (f : own ≡ height_of (lane_of road i right k).heights (s ⊖ start)) (g : sign ≡ sign_of right) (r : a ≡ paired b h) where
-    pub across-level :
-        level ≡ true → h ≡ level_heights own outer sign b.width tangent
-        → a ≡ across_by road s (own_heights road i s tangent right k) (borders_from (lane_of road i right k) (sign_of right) inner (s ⊖ (section_of road i).start)) outer (sign_of right) tangent level
-    across-level l t = rw (r, t, g, f, q, p, l)
-
-    pub across-tilted :
-        level ≡ false → h ≡ tilted_heights road s own b sign
-        → a ≡ across_by road s (own_heights road i s tangent right k) (borders_from (lane_of road i right k) (sign_of right) inner (s ⊖ (section_of road i).start)) outer (sign_of right) tangent level
-    across-tilted l t = rw (r, t, g, f, q, p, l)
-
   -- from the running border, height and level
   pub across-here :
       {inner outer : Float} {level : Bool} {a : Across} → inner ≡ (borders_of road i s right k).inner → outer ≡ height_after road i s tangent right k → level ≡ level_up_to (side_lanes road i right) k
@@ -76,13 +56,6 @@ module _ (road : Road) (i : ℕ) (s tangent : Float) (right : Bool) (k : ℕ) wh
   pub height_after_lem : {a : Across} → a ≡ across_at road i s tangent right k → a.outer_height ≡ height_after road i s tangent right (k + 1)
   unfolding across_at heights_at height_after
   height_after_lem e = rw (add-one, e)
-
--- with no level lane up to it a lane's heights are its own and the road's
-pub across-alone : (road : Road) (i : ℕ) (s tangent : Float) (right : Bool) (k : ℕ) {start sign : Float} {b : LaneBorders} {own h : Pair} {a : Across}
-    → b ≡ borders_of road i s right k → start ≡ (section_of road i).start → own ≡ height_of (lane_of road i right k).heights (s ⊖ start) → sign ≡ sign_of right → h ≡ tilted_heights road s own b sign → a ≡ paired b h
-    → level_up_to (side_lanes road i right) k ≡ false → a ≡ across_at road i s tangent right k
-unfolding across_at heights_at
-across-alone road i s tangent right k q p f g t r l = rw (r, t, g, f, q, p, l)
 
 pub height-first : (road : Road) (i : ℕ) (s tangent : Float) (right : Bool) {base sign h : Float} → base ≡ base_at road s → sign ≡ sign_of right → h ≡ height_toward road s base sign → h ≡ height_after road i s tangent right 0
 unfolding height_after

@@ -1,7 +1,8 @@
 -- Document 01, "Values": the height at t across a lane, grouped as in src/road.rs.
 use Rattle.std.specs.Prelude.{cond, Float}
-use Rattle.std.specs.Float.Ieee.{lt, eq}
+use Rattle.std.specs.Float.Ieee.{eq}
 use Rattle.float_laws.specs.Binary64.{◌⊖◌, ◌⊘◌, f64, zero64}
+use Rattle.arithmetic_ranges.specs.Ranges.{clamped}
 use Rattle.lanes.specs.Lateral.{blend}
 use Rattle.lanes_heights.specs.declared.across.Across.{Across}
 
@@ -11,7 +12,7 @@ fraction_at a t = let width = a.outer_t ⊖ a.inner_t in cond (eq width zero64) 
 
 -- "kept to 0..1"; a NaN stays
 abbrev pub kept : Float → Float
-kept f = cond (lt f zero64) zero64 (cond (lt (f64 0x3ff0_0000_0000_0000) f) (f64 0x3ff0_0000_0000_0000) f)
+kept = clamped (f64 0x3ff0_0000_0000_0000)
 
 -- `lane_surface`: straight across the lane and on past its borders
 unfoldable pub height_across : Across → Float → Float

@@ -13,7 +13,7 @@ use lanes::Pair;
 use lanes_borders::{LaneBorders, base_at, lane_borders, next_border, sign_of};
 use lanes_shape::height_toward;
 use records::{LanePlace, LentRoad};
-use records_lanes::lane;
+use records_lanes::{LentSide, lane};
 use records_sections::section_start;
 
 // A lane's own heights, s metres into its section.
@@ -22,12 +22,6 @@ fn own_heights(road: &LentRoad, place: LanePlace, s: f64) -> Pair
 {
     let lane = lane(road, place);
     height_at(&lane.heights, s)
-}
-
-fn is_level(road: &LentRoad, place: LanePlace) -> bool
-    ensures { result ≡ (lane_of road.now place.section place.right place.k).level }
-{
-    lane(road, place).level
 }
 
 // ---- a lane across the road
@@ -87,7 +81,8 @@ fn next_across(road: &LentRoad, place: LanePlace, s: f64, tangent: f64, edge: Ed
 fn level_up_to(road: &LentRoad, place: LanePlace) -> bool
     ensures { result ≡ level_up_to (side_lanes road.now place.section place.right) place.k }
 {
-    (0..place.k).any(|k| is_level(road, LanePlace { k, ..place })) | is_level(road, place)
+    let side = LentSide::new(road, place.section, place.right);
+    (0..place.k).any(|k| side.get(k).level) | side.get(place.k).level
 }
 
 // A lane across the road at s where no lane up to it is level: its neighbours' heights don't count.
@@ -104,6 +99,7 @@ fn tilted_across(road: &LentRoad, place: LanePlace, s: f64) -> Across
 fn stacked_across(road: &LentRoad, place: LanePlace, s: f64, tangent: f64) -> Across
     ensures { result ≡ across_at road.now place.section s tangent place.right place.k }
 {
+    let side = LentSide::new(road, place.section, place.right);
     let base = base_at(road, s);
     let mut edge = Edge {
         t: base,
@@ -111,13 +107,12 @@ fn stacked_across(road: &LentRoad, place: LanePlace, s: f64, tangent: f64) -> Ac
         level: false,
     };
     for k in 0..place.k {
-        let inner = LanePlace { k, ..place };
-        edge.level |= is_level(road, inner);
-        let a = next_across(road, inner, s, tangent, edge);
+        edge.level |= side.get(k).level;
+        let a = next_across(road, LanePlace { k, ..place }, s, tangent, edge);
         edge.t = a.outer_t;
         edge.height = a.outer_height;
     }
-    edge.level |= is_level(road, place);
+    edge.level |= side.get(place.k).level;
     next_across(road, place, s, tangent, edge)
 }
 

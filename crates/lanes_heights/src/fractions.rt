@@ -1,8 +1,9 @@
 // The height at an offset across a lane.
 ghost use Rattle.std.specs.Prelude.{◌≡◌};
-ghost use Rattle.lanes_heights.specs.HeightAcross.{fraction_at, kept, height_across, height_within};
+ghost use Rattle.lanes_heights.specs.HeightAcross.{fraction_at, height_across, height_within};
 
 use crate::across::Across;
+use arithmetic_ranges::clamp;
 
 // ---- the height at t across a lane
 fn fraction_at(a: Across, t: f64) -> f64
@@ -13,18 +14,6 @@ fn fraction_at(a: Across, t: f64) -> f64
         0.0
     } else {
         (t - a.inner_t) / width
-    }
-}
-
-fn kept_in(f: f64) -> f64
-    ensures { result ≡ kept f }
-{
-    if f < 0.0 {
-        0.0
-    } else if 1.0 < f {
-        1.0
-    } else {
-        f
     }
 }
 
@@ -40,6 +29,6 @@ pub fn height_across(a: Across, t: f64) -> f64
 pub fn height_within(a: Across, t: f64) -> f64
     ensures { result ≡ height_within a t }
 {
-    let f = kept_in(fraction_at(a, t));
+    let f = clamp(1.0, fraction_at(a, t));
     a.inner_height + (a.outer_height - a.inner_height) * f
 }

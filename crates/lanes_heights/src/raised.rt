@@ -1,27 +1,25 @@
 // Whether a section's lanes lie off the road's plane.
 ghost use Rattle.std.specs.Prelude.{◌≡◌, ℕ, length, get_or};
 ghost use Rattle.records_lent.specs.Lists.{any_below};
-ghost use Rattle.records.specs.Roads.{lane_of, no_lane};
+ghost use Rattle.records.specs.Roads.{no_lane};
 ghost use Rattle.lanes_borders.specs.Borders.{side_lanes};
 ghost use Rattle.lanes_heights.specs.Heights.{is_raised, section_raised};
 
-use records::{LanePlace, LentRoad};
-use records_lanes::lane;
-use records_sections::lane_count;
+use records::LentRoad;
+use records_lanes::{LentLane, LentSide};
 
 // ---- whether a section's lanes stand off the road at all
-fn lane_raised(road: &LentRoad, place: LanePlace) -> bool
-    ensures { result ≡ is_raised (lane_of road.now place.section place.right place.k) }
+fn lane_raised(lane: &LentLane) -> bool
+    ensures { result ≡ is_raised lane.now }
 {
-    let lane = lane(road, place);
     (0 < lane.heights.len()) | lane.level
 }
 
 fn side_raised(road: &LentRoad, section: usize, right: bool) -> bool
     ensures { result ≡ any_below (λ (k : ℕ). is_raised (get_or (side_lanes road.now section right) k no_lane)) (length (side_lanes road.now section right)) }
 {
-    let n = lane_count(road, section, right);
-    (0..n).any(|k| lane_raised(road, LanePlace { section, right, k }))
+    let side = LentSide::new(road, section, right);
+    (0..side.len()).any(|k| lane_raised(&side.get(k)))
 }
 
 // Whether any lane of a section has a height or is level.

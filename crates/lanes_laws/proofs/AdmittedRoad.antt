@@ -2,12 +2,12 @@
 -- Rows 3 and 4 part by part; the section at s is there because the first one starts at 0.
 use Prim.Native.Nat.{ℕ, ◌≤◌, ◌<◌}
 use mathlib.Core.Path.{◌≡◌}
-use mathlib.Core.Bool.{Bool, true, false, ◌||◌}
+use mathlib.Core.Bool.{Bool, true, false}
 use mathlib.Core.List.{List}
 use lib.ListN.{length}
 use lib.Dec.{T}
-use lib.Ieee.{Float, binary64, of_bits, fits, le, lt, eq, neg, sub}
-use Rattle.std.proofs.lemmas.Float.{le_trans as float_trans}
+use lib.Ieee.{Float, binary64, of_bits, fits, le, neg, sub}
+use Rattle.std.proofs.lemmas.Float.{le_of_eq, le_trans as float_trans}
 use Rattle.float_laws.specs.Binary64.{◌⊖◌, zero64}
 use Rattle.float_laws.proofs.Value.{Real, neg-real}
 use Rattle.float_laws.proofs.Interval.{In, sub_in, in-of_le}
@@ -58,7 +58,7 @@ admits words numbers fitting ok =
 
 -- ---- row 8, by the size of t
 
-eighty-own : Within binary64 eighty eighty
+pub eighty-own : Within binary64 eighty eighty
 unfolding of_bits fits le neg
 eighty-own = within-const binary64 eighty eighty tt
 
@@ -74,21 +74,13 @@ length-own : Within binary64 greatest_length greatest_length
 unfolding of_bits fits le neg
 length-own = within-const binary64 greatest_length greatest_length tt
 
-far-own : Within binary64 station-far station-far
+pub far-own : Within binary64 station-far station-far
 unfolding of_bits fits le neg
 far-own = within-const binary64 station-far station-far tt
 
-length-far : T (le greatest_length far) × T (le greatest_length station-far)
+pub length-far : T (le greatest_length far) × T (le greatest_length station-far)
 unfolding of_bits le
 length-far = (tt, tt)
-
-or_r : (a b : Bool) → T b → T (a || b)
-or_r true b t = tt
-or_r false b t = t
-
-same-le : (x y : Float) → T (eq x y) → T (le x y)
-unfolding le
-same-le x y e = or_r (lt x y) (eq x y) e
 
 -- x and y in 0..10,000: x - y is at most 10,000 in size
 difference-within : (x y : Float) → In binary64 zero64 greatest_length x → In binary64 zero64 greatest_length y → Within binary64 (x ⊖ y) station-far
@@ -116,7 +108,7 @@ module _ (road : Road) (a : Admits road) (s : Float) (o : OnRoad road s) where
       let e = extent-within road a.fit a.limits 0 a.sections in
       let w = within-mono binary64 s greatest_length far s-within e.bound length-far.0 in
       let r = up_to-real s w in
-      float_trans (section_of road 0).start zero64 (active_up_to s) (same-le (section_of road 0).start zero64 a.order.section_zero) (float_trans zero64 s (active_up_to s) o.above (up_to-grows s w))
+      float_trans (section_of road 0).start zero64 (active_up_to s) (le_of_eq (section_of road 0).start zero64 a.order.section_zero) (float_trans zero64 s (active_up_to s) o.above (up_to-grows s w))
 
   -- the section at s is there, and s lies in it
   pub section-active : Active (λ k. (section_of road k).start) (active_up_to s) (length road.sections) (section_index road s)

@@ -3,7 +3,7 @@
 use mathlib.Core.Path.{◌≡◌, refl, subst}
 use mathlib.Core.Bool.{Bool, true, false, cond}
 use Prim.Native.Nat.{ℕ, zero, suc, ◌+◌, ◌*◌, ◌^◌, ◌≤◌, ◌<◌}
-use native.Mathlib.Nat.{le_trans}
+use native.Mathlib.Nat.{le_trans, le_of_suc-le, le-add_right}
 use native.Mathlib.Omega.{arith}
 use lib.Dec.{T, lit≤}
 use lib.ListN.{length, get_or}
@@ -18,9 +18,8 @@ use Rattle.std.specs.declared.option.Option.{Option}
 use Rattle.std.specs.declared.option.Option.TheVariants.{Some, None}
 use Rattle.records_cubic.specs.Cubics.{cubic_at, eval_at}
 use Rattle.records.specs.Active.{active_in, value_in}
-use Rattle.records.specs.Roads.{Road, Lane, no_lane, lane_of, section_index}
-use Rattle.records.proofs.CubicLaws.{value-at}
-use Rattle.admission_laws.proofs.RoadBounds.{OnRoad, offset-within, width-within, border-within}
+use Rattle.records.specs.Roads.{Road, Lane, no_lane, section_index}
+use Rattle.admission_laws.proofs.RoadBounds.{OnRoad}
 use Rattle.lanes.specs.declared.pairs.Pair.{Pair}
 use Rattle.lanes.specs.Lateral.{height_toward}
 use Rattle.arithmetic_ranges.specs.Ranges.{not_below_zero}
@@ -28,8 +27,9 @@ use Rattle.lanes_laws.proofs.LateralBounds.{two-wide, height-most}
 use Rattle.lanes_borders.specs.Borders.{sign_of, border_width, width_of, base_at, side_lanes, borders_at, borders_of}
 use Rattle.lanes_heights.specs.Heights.{level_up_to, level_heights, tilted_heights, own_heights, heights_from, height_after, heights_at}
 use Rattle.lanes_borders.specs.declared.across.LaneBorders.{LaneBorders}
-use Rattle.lanes_borders.proofs.BorderLaws.{eight, thirty_six, eighty, ExtentWithin, inner-within, outer-border-within}
-use Rattle.lanes_laws.proofs.AdmittedRoad.{Admits, across-within, section-there, into, in-section}
+use Rattle.lanes_borders.proofs.BorderLaws.{eight, thirty_six, eighty, ExtentWithin}
+use Rattle.lanes_laws.proofs.AdmittedRoad.{Admits, eighty-own, across-within, into}
+use Rattle.lanes_laws.proofs.BordersKept.{center, extents, inner-kept, outer-kept}
 use Rattle.lanes_laws.proofs.RoadHeights.{toward-kept, own-kept}
 use Rattle.lanes_laws.proofs.WholeSizes.{AtMost, at_most-of, at_most-more, at_most-within, at_most-sum, at_most-difference}
 
@@ -54,10 +54,6 @@ widest-own = within-const binary64 widest widest tt
 zero-widest : Within binary64 zero64 widest
 unfolding of_bits fits le neg
 zero-widest = within-const binary64 zero64 widest tt
-
-eighty-own : Within binary64 eighty eighty
-unfolding of_bits fits le neg
-eighty-own = within-const binary64 eighty eighty tt
 
 eight-below : T (le eight widest) × T (le eight eighty)
 unfolding of_bits le
@@ -126,7 +122,7 @@ width-most lane right inner s e w = by_kind lane.border e.width e.border
     by_kind false p q = raised-within (value_in lane.extents s) (within-mono binary64 (value_in lane.extents s) eight widest (p refl) widest-own.bound eight-below.0)
     by_kind true p q = raised-within (border_width lane (sign_of right) inner s (active_in lane.extents s)) (by-active (active_in lane.extents s) (q refl))
 
--- ---- the borders of the section at s
+-- ---- the lanes of the section at s
 
 module _ (road : Road) (a : Admits road) (s : Float) (o : OnRoad road s) (right : Bool) where
   abbrev at : ℕ
@@ -135,29 +131,12 @@ module _ (road : Road) (a : Admits road) (s : Float) (o : OnRoad road s) (right 
   abbrev count : ℕ
   count = length (side_lanes road at right)
 
-  center : Within binary64 (base_at road s) eight
-  center = offset-within road a.fit a.limits s o
-
   pub base-within : Within binary64 (base_at road s) eighty
-  base-within = within-mono binary64 (base_at road s) eight eighty center eighty-own.bound eight-below.1
-
-  extents : (k : ℕ) → k < count → ExtentWithin (get_or (side_lanes road at right) k no_lane) (into road s)
-  extents k l =
-      record {
-        width = width-within road a.fit a.limits at (section-there road a s o) right k l (into road s) (in-section road a s o);
-        border = λ e j f. subst (λ (v : Float). Within binary64 v thirty_six) (value-at (lane_of road at right k).extents (into road s) j f)
-            (border-within road a.fit a.limits at (section-there road a s o) right k l (into road s) (in-section road a s o) e);
-      }
-
-  pub inner-kept : (k : ℕ) → k < count → Within binary64 (borders_of road at s right k).inner eighty
-  inner-kept = inner-within (side_lanes road at right) right (base_at road s) (into road s) (a.few at right) center extents
-
-  pub outer-kept : (k : ℕ) → k < count → Within binary64 (borders_of road at s right k).outer eighty
-  outer-kept = outer-border-within (side_lanes road at right) right (base_at road s) (into road s) (a.few at right) center extents
+  base-within = within-mono binary64 (base_at road s) eight eighty (center road a s o) eighty-own.bound eight-below.1
 
   width-kept : (k : ℕ) → k < count → Within binary64 (borders_of road at s right k).width widest
   unfolding borders_at
-  width-kept k l = width-most (get_or (side_lanes road at right) k no_lane) right (borders_of road at s right k).inner (into road s) (extents k l) (inner-kept k l)
+  width-kept k l = width-most (get_or (side_lanes road at right) k no_lane) right (borders_of road at s right k).inner (into road s) (extents road a s o right k l) (inner-kept road a s o right k l)
 
   -- ---- one lane, where its inner neighbour ends at a height of at most m
   module _ (tangent : Float) (slope : Within binary64 tangent one) where
@@ -204,7 +183,7 @@ module _ (road : Road) (a : Admits road) (s : Float) (o : OnRoad road s) (right 
           at_most-more binary64 (outer ⊕ own.inner) (m + 3) (m + 119) (at_most-sum binary64 outer own.inner m 3 w (own_at k l).0 (small (m + 3) (omega arith))) (omega arith),
           level-most k l outer m w h,
         )
-        go false = (tilted own.inner b.inner (own_at k l).0 (inner-kept k l), tilted own.outer b.outer (own_at k l).1 (outer-kept k l))
+        go false = (tilted own.inner b.inner (own_at k l).0 (inner-kept road a s o right k l), tilted own.outer b.outer (own_at k l).1 (outer-kept road a s o right k l))
 
     -- ---- outward
 
@@ -214,12 +193,6 @@ module _ (road : Road) (a : Admits road) (s : Float) (o : OnRoad road s) (right 
     under : (k n : ℕ) → k < n → n ≤ 6 → 121 + k * 119 + 119 ≤ 840
     under k n h l = omega arith
 
-    from : (k : ℕ) → 121 ≤ 121 + k * 119
-    from k = omega arith
-
-    before : (k n : ℕ) → suc k ≤ n → k ≤ n
-    before k n h = omega arith
-
     most : (k n : ℕ) → k ≤ n → n ≤ 6 → 121 + k * 119 ≤ 840
     most k n h l = omega arith
 
@@ -228,7 +201,7 @@ module _ (road : Road) (a : Admits road) (s : Float) (o : OnRoad road s) (right 
     after zero h = toward-at (base_at road s) base-within
     after (suc k) h =
         subst (λ (n : ℕ). AtMost binary64 n (height_after road at s tangent right (suc k))) (next k)
-        (heights-most k h (height_after road at s tangent right k) (121 + k * 119) (after k (before k count h)) (from k) (under k count h (a.few at right))).1
+        (heights-most k h (height_after road at s tangent right k) (121 + k * 119) (after k (le_of_suc-le h)) (le-add_right 121 (k * 119)) (under k count h (a.few at right))).1
 
     -- the height at the outer border after k lanes
     pub after_kept : (k : ℕ) → k ≤ count → Within binary64 (height_after road at s tangent right k) border-most
@@ -239,7 +212,7 @@ module _ (road : Road) (a : Admits road) (s : Float) (o : OnRoad road s) (right 
     unfolding heights_at
     border-heights-kept k h =
         let u = under k count h (a.few at right) in
-        let w = heights-most k h (height_after road at s tangent right k) (121 + k * 119) (after k (before k count h)) (from k) u in
+        let w = heights-most k h (height_after road at s tangent right k) (121 + k * 119) (after k (le_of_suc-le h)) (le-add_right 121 (k * 119)) u in
         let b = heights_at road at s tangent right k in (
           at_most-within binary64 b.inner border-most (121 + k * 119 + 119) 840 w.0 u border-whole,
           at_most-within binary64 b.outer border-most (121 + k * 119 + 119) 840 w.1 u border-whole,

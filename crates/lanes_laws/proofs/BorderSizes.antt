@@ -13,15 +13,14 @@ use borrow.Author.Tests.{le-leb, leb-true}
 use Rattle.float_laws.proofs.Value.{pl}
 use Rattle.float_laws.proofs.Size.{Within}
 use Rattle.refusals.specs.Answer.{value, checked}
-use Rattle.records.specs.Roads.{Road, road_of, lane_of, no_lane, section_index}
-use Rattle.records.proofs.CubicLaws.{value-at}
+use Rattle.records.specs.Roads.{Road, road_of, section_index}
 use Rattle.admission.specs.Limits.{on_road}
 use Rattle.admission_laws.proofs.Places.{on_road_lem}
-use Rattle.lanes_laws.proofs.AdmittedRoad.{Admits, admits, section-there, into, in-section}
+use Rattle.lanes_laws.proofs.AdmittedRoad.{Admits, admits, into}
 use Rattle.admission_laws.specs.Fractions.{IsF64, AllF64, AtMost}
 use Rattle.admission_laws.proofs.FractionLaws.{within-at_most, le_not-over}
 use Rattle.records_lent.proofs.TestLaws.{and-fst, and-snd}
-use Rattle.admission_laws.proofs.RoadBounds.{OnRoad, offset-within, width-within, border-within}
+use Rattle.admission_laws.proofs.RoadBounds.{OnRoad}
 use Rattle.admission.specs.Admission.{admitted}
 use Rattle.admission.proofs.RowLaws.{pass-checked, checked-pass}
 use Rattle.admission.proofs.AdmissionLaws.{road-answered, road-admitted}
@@ -30,7 +29,8 @@ use Rattle.lanes_borders.specs.Borders.{sign_of, base_at, side_lanes, borders_of
 use Rattle.lanes_border_list.specs.BorderList.{listed_by}
 use Rattle.lanes_borders.proofs.BorderSteps.{three, left-written, right-written, list_length}
 use Rattle.lanes_borders.proofs.Outward.{Ahead}
-use Rattle.lanes_borders.proofs.BorderLaws.{eight, thirty_six, eighty, ExtentWithin, inner-is-outer, inner-within, outer-border-within, outer-ahead}
+use Rattle.lanes_borders.proofs.BorderLaws.{eighty, inner-is-outer}
+use Rattle.lanes_laws.proofs.BordersKept.{inner-kept, outer-kept, ahead-kept}
 use Rattle.lanes_calls.specs.LaneCalls.{section_at, lanes_at, list_rows, borders_call, borders_list}
 use Rattle.lanes_laws.specs.BorderSizes.{inner_at, outer_at, first_on, lanes_on, Outward, SideKept, BorderSizes}
 use Rattle.lanes_calls.proofs.CallLaws.{list-by}
@@ -61,40 +61,20 @@ module _ (words : List ℕ) (numbers : List Float) (fitting : AllF64 numbers) (o
   here : OnRoad road s
   here = on_road_lem road s fits-s on
 
-  center : Within binary64 (base_at road s) eight
-  center = offset-within road a.fit a.limits s here
-
-  extents : (right : Bool) (k : ℕ) → k < length (side_lanes road at right) → ExtentWithin (get_or (side_lanes road at right) k no_lane) (into road s)
-  extents right k l =
-      record {
-        width = width-within road a.fit a.limits at (section-there road a s here) right k l (into road s) (in-section road a s here);
-        border = λ e j f. subst (λ (v : Float). Within binary64 v thirty_six) (value-at (lane_of road at right k).extents (into road s) j f)
-            (border-within road a.fit a.limits at (section-there road a s here) right k l (into road s) (in-section road a s here) e);
-      }
-
   -- ---- the borders of a side
 
   abbrev lane : Bool → ℕ → LaneBorders
   lane right k = lane_borders road at s right k
-
-  inner-80 : (right : Bool) (k : ℕ) → k < length (side_lanes road at right) → Within binary64 (lane right k).inner eighty
-  inner-80 right k l = inner-within (side_lanes road at right) right (base_at road s) (into road s) (a.few at right) center (extents right) k l
-
-  outer-80 : (right : Bool) (k : ℕ) → k < length (side_lanes road at right) → Within binary64 (lane right k).outer eighty
-  outer-80 right k l = outer-border-within (side_lanes road at right) right (base_at road s) (into road s) (a.few at right) center (extents right) k l
-
-  ahead-80 : (right : Bool) (k : ℕ) → k < length (side_lanes road at right) → Ahead right (lane right k).inner (lane right k).outer
-  ahead-80 right k l = outer-ahead (side_lanes road at right) right (base_at road s) (into road s) (a.few at right) center (extents right) k l
 
   -- read off a list by place
   side-kept : (list : List Float) (right : Bool) (first : ℕ) → ((k j : ℕ) → k < length (side_lanes road at right) → j < 3 → get_or list ((first + k) * 3 + j) nan ≡ get_or (three (lane right k)) j nan)
       → SideKept list right first (length (side_lanes road at right))
   side-kept list right first read =
       record {
-        inner_size = λ k l. subst (AtMost 80) (sym (inner-is k l)) (at_most-80 (lane right k).inner (inner-80 right k l));
-        outer_size = λ k l. subst (AtMost 80) (sym (outer-is k l)) (at_most-80 (lane right k).outer (outer-80 right k l));
+        inner_size = λ k l. subst (AtMost 80) (sym (inner-is k l)) (at_most-80 (lane right k).inner (inner-kept road a s here right k l));
+        outer_size = λ k l. subst (AtMost 80) (sym (outer-is k l)) (at_most-80 (lane right k).outer (outer-kept road a s here right k l));
         outward = λ k l. subst (λ (x : Float). Outward right x (outer_at list (first + k))) (sym (inner-is k l))
-            (subst (λ (y : Float). Outward right (lane right k).inner y) (sym (outer-is k l)) (outward-of right (lane right k).inner (lane right k).outer (inner-80 right k l) (outer-80 right k l) (ahead-80 right k l)));
+            (subst (λ (y : Float). Outward right (lane right k).inner y) (sym (outer-is k l)) (outward-of right (lane right k).inner (lane right k).outer (inner-kept road a s here right k l) (outer-kept road a s here right k l) (ahead-kept road a s here right k l)));
         joined = λ k l. inner-is (suc k) l ∙ inner-is-outer (side_lanes road at right) (sign_of right) (base_at road s) (into road s) k ∙ sym (outer-is k (let m = l in omega arith));
       }
     where

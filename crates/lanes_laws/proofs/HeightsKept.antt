@@ -29,7 +29,8 @@ use Rattle.lanes_borders.proofs.BorderLaws.{eighty}
 use Rattle.admission_laws.proofs.Places.{on_road_lem, across_of_lem}
 use Rattle.lanes_laws.proofs.AdmittedRoad.{Admits, admits, within-across}
 use Rattle.lanes_laws.proofs.RoadHeights.{shape-kept, cross-kept, toward-kept, own-kept}
-use Rattle.lanes_laws.proofs.BorderHeights.{border-most, inner-kept, outer-kept, after_kept, border-heights-kept}
+use Rattle.lanes_laws.proofs.BordersKept.{inner-kept, outer-kept}
+use Rattle.lanes_laws.proofs.BorderHeights.{border-most, after_kept, border-heights-kept}
 use Rattle.lanes_laws.proofs.LaneHeights.{LaneKept, across-most, within-most, between-most}
 
 point-76-own : Within binary64 point-76 point-76

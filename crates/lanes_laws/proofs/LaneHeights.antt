@@ -24,7 +24,7 @@ use Rattle.lanes_laws.proofs.Fractions.{Fraction}
 use Rattle.lanes_heights.specs.declared.across.Across.{Across}
 use Rattle.lanes_heights.specs.HeightAcross.{fraction_at, kept, height_across, height_within}
 use Rattle.lanes_borders.proofs.Outward.{Ahead}
-use Rattle.lanes_borders.proofs.BorderLaws.{eighty}
+use Rattle.lanes_borders.proofs.BorderLaws.{eighty, zero-whole}
 use Rattle.lanes_laws.proofs.BorderHeights.{border-most}
 use Rattle.lanes_laws.proofs.Quotients.{div-number, rising, falling}
 
@@ -56,10 +56,6 @@ across-room = lit≤ tt
 twice-eighty : T (finite (eighty ⊕ eighty))
 unfolding of_bits add
 twice-eighty = tt
-
-zero-whole : Whole binary64 zero64 0 0
-unfolding of_bits fits pl mi
-zero-whole = record { value = record { finite = tt; fits = tt }; plus = refl; minus = refl }
 
 one-whole : Whole binary64 one 1 0
 unfolding of_bits fits pl mi
@@ -100,7 +96,7 @@ unfolding is_nan lt of_bits
 kept-inside nan f n = absurd n
 kept-inside (inf true) f n = zero-inside
 kept-inside (inf false) f n = one_inside
-kept-inside (fin s m e) f n = go (lt x zero64) (lt one x) (nlt→units binary64 x zero64 r zero-whole.value) (nlt→units binary64 one x one-whole.value r)
+kept-inside (fin s m e) f n = up (lt x zero64) (nlt→units binary64 x zero64 r zero-whole.value)
   where
     x : Float
     x = fin s m e
@@ -108,11 +104,13 @@ kept-inside (fin s m e) f n = go (lt x zero64) (lt one x) (nlt→units binary64 
     r : Real binary64 x
     r = record { finite = tt; fits = f }
 
-    go : (b c : Bool) → (T (not b) → pl binary64 zero64 + mi binary64 x ≤ pl binary64 x + mi binary64 zero64) → (T (not c) → pl binary64 x + mi binary64 one ≤ pl binary64 one + mi binary64 x)
-        → Fraction binary64 (cond b zero64 (cond c one x)) 0
-    go true c h k = zero-inside
-    go false true h k = one_inside
-    go false false h k = between-inside binary64 zero64 one x zero-whole one-whole r (h tt) (k tt)
+    up : (b : Bool) → (T (not b) → pl binary64 zero64 + mi binary64 x ≤ pl binary64 x + mi binary64 zero64) → Fraction binary64 (cond (lt one (cond b zero64 x)) one (cond b zero64 x)) 0
+    up true h = zero-inside
+    up false h = down (lt one x) (nlt→units binary64 one x one-whole.value r)
+      where
+        down : (c : Bool) → (T (not c) → pl binary64 x + mi binary64 one ≤ pl binary64 one + mi binary64 x) → Fraction binary64 (cond c one x) 0
+        down true k = one_inside
+        down false k = between-inside binary64 zero64 one x zero-whole one-whole r (h tt) (k tt)
 
 module _ (a : Across) (w : LaneKept a) (t : Float) (wt : Within binary64 t eighty) where
   from_inner : Within binary64 (t ⊖ a.inner_t) (eighty ⊕ eighty)

@@ -24,13 +24,9 @@ use Rattle.lanes_laws.proofs.StationBounds.{far}
 use Rattle.lanes_laws.proofs.StripBounds.{StripWithin, cross-within}
 use Rattle.lanes_laws.proofs.LateralBounds.{two-wide, wider-two, height_within_lem, ProfilesAt, profile-within, forty-wide, wider-forty, shape-within as profiles-within, shift-within, height-most, toward-most}
 use Rattle.lanes_borders.proofs.BorderLaws.{eighty}
-use Rattle.lanes_laws.proofs.AdmittedRoad.{Admits, within-across, s-near, section-there, into, into-near}
+use Rattle.lanes_laws.proofs.AdmittedRoad.{far-own, length-far, Admits, within-across, s-near, section-there, into, into-near}
 
 -- ---- the constants
-
-far-own : Within binary64 far far
-unfolding of_bits fits le neg
-far-own = within-const binary64 far far tt
 
 largest-own : Within binary64 largest largest
 unfolding of_bits fits le neg
@@ -39,10 +35,6 @@ largest-own = within-const binary64 largest largest tt
 strip-own : Within binary64 greatest_strip_height greatest_strip_height
 unfolding of_bits fits le neg
 strip-own = within-const binary64 greatest_strip_height greatest_strip_height tt
-
-length-far : T (le greatest_length far)
-unfolding of_bits le
-length-far = tt
 
 strips-twice : T (finite (greatest_strip_height ⊕ greatest_strip_height)) × (greatest_strip_height ⊕ greatest_strip_height ≡ eighty)
 unfolding of_bits add
@@ -60,7 +52,7 @@ module _ (road : Road) (a : Admits road) (s : Float) (o : OnRoad road s) where
           starts = λ i l.
               let z = profile_start-in road a.fit a.limits i l in
               let w = station-within road a.fit a.limits (profile_at road i).s (record { fits = z.value.fits; above = z.above; below = z.below }) in
-              within-mono binary64 (profile_at road i).s greatest_length far w far-own.bound length-far;
+              within-mono binary64 (profile_at road i).s greatest_length far w far-own.bound length-far.1;
           values = λ i l.
               profile-within road i t greatest_shape
               (λ k e. subst (λ (v : Float). Within binary64 v greatest_shape) (value-at (profile_at road i).shapes t k e) (shape-within road a.fit a.limits i l t c))

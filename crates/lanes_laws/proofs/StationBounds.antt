@@ -1,15 +1,16 @@
 -- A value given at stations along the road, at least 0.001 apart, and linear between them: at most as large between as at the stations, but for the roundings and the nanometre before a station.
 -- By the law on fractions and the law on interpolation; the constants are compared by computation.
-use mathlib.Core.Path.{◌≡◌, refl, sym, subst}
+use mathlib.Core.Path.{◌≡◌, refl}
 use Prim.Native.Nat.{ℕ, zero, suc, ◌+◌, ◌-◌, ◌*◌, ◌^◌, ◌≤◌, ◌<◌, zero-le}
-use native.Mathlib.Nat.{le_trans, le_of_mul-le-mul_right}
+use native.Mathlib.Nat.{le_trans, le-add_right, le_of_mul-le-mul_right}
 use native.Mathlib.Omega.{arith}
-use mathlib.Core.Bool.{Bool, true, false, not, cond}
+use mathlib.Core.Bool.{Bool, true, false, cond}
 use lib.Dec.{T, ltb, eqb, lit≤, lit<}
 use lib.Pow.{pow_pos}
 use lib.Ieee.{Float, binary64, prec, emax, low, le, add, div, fits, of_bits}
 use lib.Ieee.Scale.{finite}
 use borrow.Author.Tests.{ltb-true, eqb-false}
+use Rattle.std.proofs.lemmas.Float.{T_from_true, T_from_false}
 use Rattle.float_laws.specs.Binary64.{◌⊖◌, ◌⊘◌, f64, zero64}
 use Rattle.float_laws.proofs.Value.{mag, pl, mi, Real}
 use Rattle.float_laws.proofs.Size.{Within}
@@ -88,10 +89,7 @@ zero-within B r z = record { value = good-real binary64 zero64 tt; bound = r; pl
 
 pub blend-within : {A B : Float} {j : ℕ} (a b t : Float) → Wider A B j → Within binary64 a A → Within binary64 b A → Fraction binary64 t short → Within binary64 (blend a b t) B
 blend-within {A} {B} {j} a b t w wa wb q =
-    interpolate-within-outside binary64 a b t A B short j wa wb q.value starts-far.small q.below (le_trans q.above (more (2 ^ low binary64) short)) w.size w.exponent w.real w.plus w.room
-  where
-    more : (a b : ℕ) → a ≤ a + b
-    more a b = omega arith
+    interpolate-within-outside binary64 a b t A B short j wa wb q.value starts-far.small q.below (le_trans q.above (le-add_right (2 ^ low binary64) short)) w.size w.exponent w.real w.plus w.room
 
 -- ---- along the stations
 module _ (start value : ℕ → Float) (n : ℕ) (s : Float) where
@@ -108,18 +106,12 @@ pub record Stations (start value : ℕ → Float) (n : ℕ) (R A : Float) : Type
   pub values : (i : ℕ) → i < n → Within binary64 (value i) A
   pub apart : (i : ℕ) → i + 1 < n → T (le least_gap (start (i + 1) ⊖ start i))
 
-t_of : {b : Bool} → b ≡ true → T b
-t_of e = subst T (sym e) tt
-
-t_not : {b : Bool} → b ≡ false → T (not b)
-t_not e = subst (λ (b : Bool). T (not b)) (sym e) tt
-
 module _ (start value : ℕ → Float) (n : ℕ) (s R A B : Float) (j : ℕ) (m : Starts R) (w : Wider A B j) (k : Stations start value n R A) (ws : Within binary64 s far) where
   between-within : (i : ℕ) → last_start start (active_up_to s) n ≡ Some i → i + 1 < n → Within binary64 (between start value n s i) B
   between-within i e h =
       let l : i < n = omega arith in
       let o : i < i + 1 = omega arith in
-      let q = fraction binary64 (start i) (start (i + 1)) s active_margin least_gap slack far R 1089 m ws (k.starts i l) (k.starts (i + 1) h).value (t_of (last_start-reached start (active_up_to s) n i e)) (t_not (last_start-after start (active_up_to s) n i (i + 1) e o h)) (k.apart i h) in
+      let q = fraction binary64 (start i) (start (i + 1)) s active_margin least_gap slack far R 1089 m ws (k.starts i l) (k.starts (i + 1) h).value (T_from_true _ (last_start-reached start (active_up_to s) n i e)) (T_from_false _ (last_start-after start (active_up_to s) n i (i + 1) e o h)) (k.apart i h) in
       blend-within (value i) (value (i + 1)) ((s ⊖ start i) ⊘ (start (i + 1) ⊖ start i)) w (k.values i l) (k.values (i + 1) h) q
 
   at-within : (i : ℕ) → last_start start (active_up_to s) n ≡ Some i → Within binary64 (along start value n s (Some i)) B

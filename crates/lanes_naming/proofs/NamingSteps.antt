@@ -1,22 +1,21 @@
 -- The scan for the last lane that passes, as the code runs it over a side's running border, and a place as a name.
-use mathlib.Core.Path.{◌≡◌, refl, sym, ap, ◌∙◌, subst}
+use mathlib.Core.Path.{◌≡◌, refl, sym, ap, ◌∙◌}
 use mathlib.Core.Bool.{Bool, true, false, cond}
 use Prim.Native.Nat.{ℕ, zero, suc, ◌+◌, ◌<◌}
 use native.Mathlib.Omega.{arith}
 use native.Mathlib.Numerals.{add-one}
-use lib.IntN.{ℤ, pos, negsuc, ◌+ℤ◌, ◌-ℤ◌}
+use lib.IntN.{ℤ, pos, negsuc}
 use lib.Ieee.{Float, lt}
-use mir.Syntax.{w32}
-use mir.Val.{SFits, of_z, to_z}
-use mir.ValLaws.{to_z_pos, to_z-of_z}
 use Rattle.float_laws.specs.Binary64.{◌⊖◌, ◌⊗◌, zero64}
 use Rattle.std.specs.declared.option.Option.{Option}
 use Rattle.std.specs.declared.option.Option.TheVariants.{Some, None}
+use Rattle.std.specs.Option.{MatchOption, IsSomeAnd}
 use Rattle.records_lent.specs.Lists.{last_that}
+use Rattle.records.specs.declared.points.LanePlace.{LanePlace}
 use Rattle.records.specs.Roads.{Road, lane_of, section_of}
 use Rattle.lanes_borders.specs.declared.across.LaneBorders.{LaneBorders}
 use Rattle.lanes_borders.specs.Borders.{sign_of, outer_after, borders_from, borders_at, borders_of}
-use Rattle.lanes_naming.specs.Naming.{beyond_test}
+use Rattle.lanes_naming.specs.Naming.{named_on, name_by, lane_named, beyond_test, beyond_on, place_by, lane_at}
 
 -- ---- the running inner border
 
@@ -57,20 +56,17 @@ module _ (p : ℕ → Bool) where
       go true f h = let i : n ≡ k = cc in omega arith
       go false f h = let l = f h in omega arith
 
--- ---- the names: a lane's place less than 2 ^ 16 as an i32
+-- ---- the names
 
-minus_is : (k : ℕ) → k < 65536 → negsuc 0 -ℤ to_z w32 k ≡ negsuc k
-minus_is k h = ap (λ (z : ℤ). negsuc 0 -ℤ z) (to_z_pos w32 k (omega arith)) ∙ back k
-  where
-    back : (k : ℕ) → negsuc 0 -ℤ pos k ≡ negsuc k
-    back zero = refl
-    back (suc j) = ap (λ (n : ℕ). negsuc (suc n)) (let e : 0 + j ≡ j = omega arith in e)
+-- the id of the lane that was found is its name
+module _ (i : ℕ) {P : LanePlace → ℤ → Type 0} (says : (place : LanePlace) (id : ℤ) → P place id → id ≡ cond place.right (negsuc place.k) (pos (suc place.k))) where
+  named_by : (left right : Option ℕ) (name : Option ℤ) → MatchOption (place_by i left right) (name ≡ None) (λ place. IsSomeAnd name (P place)) → name ≡ name_by left right
+  named_by left (Some k) (Some id) m = ap Some (says _ id m)
+  named_by left (Some k) None m = absurd m
+  named_by (Some k) None (Some id) m = ap Some (says _ id m)
+  named_by (Some k) None None m = absurd m
+  named_by None None name m = m
 
-pub name-right : (k : ℕ) → k < 65536 → to_z w32 (of_z w32 (negsuc 0 -ℤ to_z w32 k)) ≡ negsuc k
-name-right k h = to_z-of_z w32 (negsuc 0 -ℤ to_z w32 k) (subst (λ (z : ℤ). SFits w32 z) (sym (minus_is k h)) (record { sfits = omega arith })) ∙ minus_is k h
-
-plus_is : (k : ℕ) → k < 65536 → to_z w32 k +ℤ pos 1 ≡ pos (suc k)
-plus_is k h = ap (λ (z : ℤ). z +ℤ pos 1) (to_z_pos w32 k (omega arith)) ∙ ap pos (add-one k)
-
-pub name-left : (k : ℕ) → k < 65536 → to_z w32 (of_z w32 (to_z w32 k +ℤ pos 1)) ≡ pos (suc k)
-name-left k h = to_z-of_z w32 (to_z w32 k +ℤ pos 1) (subst (λ (z : ℤ). SFits w32 z) (sym (plus_is k h)) (record { sfits = omega arith })) ∙ plus_is k h
+  pub named-at : (road : Road) (s t : Float) {lane : Option LanePlace} {name : Option ℤ} → lane ≡ lane_at road i s t → MatchOption lane (name ≡ None) (λ place. IsSomeAnd name (P place)) → name ≡ lane_named road i s t
+  unfolding lane_at lane_named beyond_on named_on
+  named-at road s t {lane} {name} e m = named_by (beyond_on road i s t false) (beyond_on road i s t true) name (rw e at m)

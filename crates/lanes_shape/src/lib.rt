@@ -3,6 +3,7 @@
 
 mod across;
 mod profiles;
+mod sides;
 mod strips;
 
 pub use across::{flat_across, height_toward};

@@ -1,10 +1,11 @@
 // The cross section: up to two strips each side of the reference line, each a cubic across whose four terms are cubics along the road.
-// Strips are addressed by their place: left inner 0, left outer 1, right inner 2, right outer 3.
-ghost use Rattle.std.specs.Prelude.{◌≡◌, ◌+◌, ◌<◌};
+ghost use Rattle.std.specs.Prelude.{◌≡◌};
 ghost use Rattle.records.specs.Active.{active_in, value_in};
 ghost use Rattle.records.specs.Roads.{strip_at, StripDef, present, column_of};
 ghost use Rattle.lanes.specs.Lateral.{strip_height, past_width, by_width, by_side, is_left, is_present, cross_height};
+ghost use Rattle.lanes_shape.specs.Sides.{inner_of, outer_of, outward};
 
+use crate::sides::Side;
 use arithmetic_ranges::{abs, not_below_zero};
 use records::{LentRoad, StripKind};
 use records_active::{active, value};
@@ -40,18 +41,20 @@ fn strip_height(road: &LentRoad, i: usize, s: f64, dt: f64) -> f64
     (((0.0 * dt + c3) * dt + c2) * dt + c1) * dt + c0
 }
 
-// The side whose inner strip is there and w wide: past the width the outer strip, if there is one, from the inner one's edge on.
-fn past_width(road: &LentRoad, inner: usize, s: f64, t: f64, sign: f64, w: f64) -> f64
-    requires { inner < 4 }
-    ensures { (d : StripDef) → strip_at road.now inner ≡ present d → result ≡ past_width d (strip_at road.now (inner + 1)) s t sign w }
+// A side whose inner strip is there and w wide: past the width the outer strip, if there is one, from the inner one's edge on.
+fn past_width(road: &LentRoad, side: Side, s: f64, t: f64, w: f64) -> f64
+    ensures { (d : StripDef) → strip_at road.now (inner_of side) ≡ present d → result ≡ past_width d (strip_at road.now (outer_of side)) s t (outward side) w }
 {
+    let inner = side.inner();
+    let sign = side.outward();
     if w < sign * t {
+        let outer = side.outer();
         let edge = sign * w;
-        match strip(road, inner + 1) {
+        match strip(road, outer) {
             StripKind::Absent => strip_height(road, inner, s, t),
-            StripKind::Absolute => 0.0 + strip_height(road, inner + 1, s, t - edge),
+            StripKind::Absolute => 0.0 + strip_height(road, outer, s, t - edge),
             StripKind::Relative => {
-                strip_height(road, inner, s, edge) + strip_height(road, inner + 1, s, t - edge)
+                strip_height(road, inner, s, edge) + strip_height(road, outer, s, t - edge)
             }
         }
     } else {
@@ -59,32 +62,24 @@ fn past_width(road: &LentRoad, inner: usize, s: f64, t: f64, sign: f64, w: f64) 
     }
 }
 
-// The side whose inner strip is there.
-fn by_width(road: &LentRoad, inner: usize, s: f64, t: f64, sign: f64) -> f64
-    requires { inner < 4 }
-    ensures { (d : StripDef) → strip_at road.now inner ≡ present d → result ≡ by_width d (strip_at road.now (inner + 1)) s t sign (active_in d.width s) }
+// A side whose inner strip is there.
+fn by_width(road: &LentRoad, side: Side, s: f64, t: f64) -> f64
+    ensures { (d : StripDef) → strip_at road.now (inner_of side) ≡ present d → result ≡ by_width d (strip_at road.now (outer_of side)) s t (outward side) (active_in d.width s) }
 {
+    let inner = side.inner();
     let widths = strip_column(road, inner, 0);
     match active(&widths, s) {
-        Some(k) => past_width(
-            road,
-            inner,
-            s,
-            t,
-            sign,
-            not_below_zero(widths.get(k).eval(s)),
-        ),
+        Some(k) => past_width(road, side, s, t, not_below_zero(widths.get(k).eval(s))),
         None => strip_height(road, inner, s, t),
     }
 }
 
 // One side of the ridge.
-fn side_height(road: &LentRoad, inner: usize, s: f64, t: f64, sign: f64) -> f64
-    requires { inner < 4 }
-    ensures { result ≡ by_side (strip_at road.now inner) (strip_at road.now (inner + 1)) s t sign }
+fn side_height(road: &LentRoad, side: Side, s: f64, t: f64) -> f64
+    ensures { result ≡ by_side (strip_at road.now (inner_of side)) (strip_at road.now (outer_of side)) s t (outward side) }
 {
-    if is_present(road, inner) {
-        by_width(road, inner, s, t, sign)
+    if is_present(road, side.inner()) {
+        by_width(road, side, s, t)
     } else {
         0.0
     }
@@ -106,9 +101,10 @@ pub fn cross_height(road: &LentRoad, s: f64, t: f64, toward: f64) -> f64
     ensures { result ≡ cross_height road.now s t toward }
 {
     let shifted = t - value(&road.tshifts(), s);
-    if is_left(shifted, toward) {
-        side_height(road, 0, s, shifted, 1.0)
+    let side = if is_left(shifted, toward) {
+        Side::Left
     } else {
-        side_height(road, 2, s, shifted, -1.0)
-    }
+        Side::Right
+    };
+    side_height(road, side, s, shifted)
 }

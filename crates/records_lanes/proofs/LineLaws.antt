@@ -9,8 +9,10 @@ use lib.ListN.{length, get_or, get_or-eq_default}
 use lib.Ieee.{Float}
 use Rattle.std.specs.declared.option.Option.{Option}
 use Rattle.std.specs.declared.option.Option.TheVariants.{None, Some}
-use Rattle.records.specs.Roads.{Lane, road_of, section_of, lane_of, lane_in, lane_by}
-use Rattle.records.proofs.RoadLaws.{section-past, left_count_lem, right_count_lem, left_lane-in, right_lane-in}
+use Rattle.records_lent.specs.Lists.{tabulate}
+use Rattle.records_lent.proofs.TableLaws.{length-table}
+use Rattle.records.specs.Roads.{Lane, road_of, section_of, section_in, lane_of, lane_in, lane_by}
+use Rattle.records.proofs.RoadLaws.{section_in_lem, section-past, left_count_lem, right_count_lem, left_lane-in, right_lane-in}
 use Rattle.records_lanes.specs.Lines.{side_line, side_lines, line_of}
 
 -- the place of a section's word by one literal
@@ -42,6 +44,18 @@ module _ (words : List ℕ) (numbers : List Float) (i : ℕ) where
       go true u v false l = left_lane-in words numbers i k (u tt) (rw (left_count_lem words numbers i (u tt)) at l)
       go false u v true l = absurd (let z = rw (section-past words numbers i (v tt)) at l in omega arith)
       go false u v false l = absurd (let z = rw (section-past words numbers i (v tt)) at l in omega arith)
+
+  -- a side's lines, one after another, are its lanes
+  pub side_table : (right : Bool) → tabulate (λ k. lane_in words numbers (side_line words i right + k)) (length (side right)) ≡ side right
+  unfolding section_in tabulate
+  side_table right = go (ltb i (get_or words 5 0)) (ltb→lt i (get_or words 5 0)) (nltb→le i (get_or words 5 0)) right
+    where
+      go : (b : Bool) → (T b → i < get_or words 5 0) → (T (not b) → get_or words 5 0 ≤ i) → (r : Bool)
+          → tabulate (λ k. lane_in words numbers (cond b (cond r (get_or words (71 + i * 3) 0 + get_or words (71 + i * 3 + 1) 0) (get_or words (71 + i * 3) 0)) 0 + k)) (length (side r)) ≡ side r
+      go true u v true = rw (section_in_lem words numbers i (u tt)) (ap (tabulate (λ k. lane_in words numbers (get_or words (71 + i * 3) 0 + get_or words (71 + i * 3 + 1) 0 + k))) (length-table _ _))
+      go true u v false = rw (section_in_lem words numbers i (u tt)) (ap (tabulate (λ k. lane_in words numbers (get_or words (71 + i * 3) 0 + k))) (length-table _ _))
+      go false u v true = rw (section-past words numbers i (v tt))
+      go false u v false = rw (section-past words numbers i (v tt))
 
   -- the line of a lane has it
   pub lane_line_lem : (right : Bool) (k : ℕ) → lane_of (road_of words numbers) i right k ≡ lane_by words numbers (line_of words i right k)

@@ -79,7 +79,7 @@ pub fn lane_in<'a>(words: &[u16], numbers: &'a [f64], line: u32) -> LentLane<'a>
     }
 }
 
-fn no_lane<'a>() -> LentLane<'a>
+pub(crate) fn no_lane<'a>() -> LentLane<'a>
     ensures { result ≡ no_lane }
 {
     LentLane {

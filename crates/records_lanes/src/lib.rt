@@ -2,5 +2,7 @@
 #![tactic(auto)]
 
 mod lanes;
+mod sides;
 
 pub use lanes::{LentLane, lane, lane_in, lane_line, side_line};
+pub use sides::LentSide;

@@ -2,6 +2,7 @@ use mathlib.Core.Path.{◌≡◌, ◌∙◌, ap}
 use Prim.Native.Nat.{ℕ}
 use native.Mathlib.Omega.{arith}
 use Rattle.records_lent.specs.Lists.{any_below}
+use Rattle.records.specs.Roads.{Lane}
 use Rattle.lanes_borders.specs.Borders.{side_lanes, borders_of}
 use Rattle.lanes_heights.specs.Heights.{height_after}
 use Rattle.lanes_borders.proofs.BorderSteps.{inner_first}
@@ -23,7 +24,7 @@ loop-k-preserved c =
     let a = c.args in
     let place = a.place in
     let lanes = side_lanes a.road.now place.section place.right in
-    let l = level-here lanes at.k at.invariant.2 c.is_level.ensures in
+    let l = level-here lanes at.k at.invariant.2 (ap (λ (l : Lane). l.level) (c.edge.view_is ∙ rw c.new-side.ensures at c.get.ensures)) in
     let x = across-here a.road.now place.section a.s a.tangent place.right at.k at.invariant.0 at.invariant.1 l c.next_across-a.ensures in (
       border-after a.road.now place.section a.s a.tangent place.right at.k x,
       height_after_lem a.road.now place.section a.s a.tangent place.right at.k x,
@@ -39,7 +40,7 @@ returns c =
     let most = at.auto.k-end in
     let end = c.loop-k-test.false in
     let e : at.k ≡ place.k = omega arith in
-    let l = level-here lanes place.k (at.invariant.2 ∙ ap (any_below (is_level lanes)) e) c.is_level-2.ensures in
+    let l = level-here lanes place.k (at.invariant.2 ∙ ap (any_below (is_level lanes)) e) (ap (λ (l : Lane). l.level) (c.edge-2.view_is ∙ rw c.new-side.ensures at c.get-2.ensures)) in
     across-here a.road.now place.section a.s a.tangent place.right place.k
     (at.invariant.0 ∙ ap (λ (n : ℕ). (borders_of a.road.now place.section a.s place.right n).inner) e)
     (at.invariant.1 ∙ ap (height_after a.road.now place.section a.s a.tangent place.right) e)

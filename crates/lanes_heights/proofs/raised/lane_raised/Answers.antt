@@ -2,4 +2,4 @@
 use Rattle.lanes_heights.proofs.raised.lane_raised.Goals as goal
 
 pub returns : goal.returns
-returns c = rw (← c.lane-lane.ensures, ← c.lane.view_is, c.len.ensures)
+returns c = rw (← c.lane.view_is, c.len.ensures)

@@ -7,8 +7,7 @@ use borrow.Author.Rules.{rules}
 use Rattle.records_lent.specs.Lists.{any_below}
 use Rattle.records_lent.proofs.RangeLaws.{any_range}
 use Rattle.records.specs.Roads.{strip_at}
-use Rattle.lanes.specs.Lateral.{is_present}
-use Rattle.lanes.proofs.LateralLaws.{section_by_lem}
+use Rattle.lanes.specs.Lateral.{is_present, has_cross_section}
 use Rattle.lanes_shape.proofs.across.has_cross_section.Goals as goal
 
 four-more : (x a b c d : Bool) → x || (((a || b) || c) || d) ≡ (((x || a) || b) || c) || d
@@ -16,11 +15,9 @@ four-more true a b c d = refl
 four-more false a b c d = refl
 
 pub returns : goal.returns
-unfolding any_below
+unfolding any_below has_cross_section
 returns c =
     let road = c.args.road.now in
     let p = λ (i : ℕ). is_present (strip_at road i) in
     let x = ltb 0 c.len.result in
-    ap (λ (b : Bool). x || b) (any_range p 4 c.any.ensures.ran (λ x b q k. search rules))
-    ∙ four-more x (p 0) (p 1) (p 2) (p 3)
-    ∙ section_by_lem road c.tshifts.ensures c.len.ensures
+    rw (← c.tshifts.ensures, ← c.len.ensures) (ap (λ (b : Bool). x || b) (any_range p 4 c.any.ensures.ran (λ x b q k. search rules)) ∙ four-more x (p 0) (p 1) (p 2) (p 3))

@@ -1,8 +1,7 @@
 -- `height_toward`: what its calls ensure, put together.
-use Rattle.lanes.proofs.LateralLaws.{toward-by}
+use Rattle.lanes.specs.Lateral.{height_toward}
 use Rattle.lanes_shape.proofs.across.height_toward.Goals as goal
 
 pub returns : goal.returns
-returns c =
-    let a = c.args in
-    toward-by a.road.now a.s a.t a.toward c.shape_at.ensures c.cross_height.ensures
+unfolding height_toward
+returns c = rw (c.shape_at.ensures, c.cross_height.ensures)

@@ -1,13 +1,12 @@
 -- `cross_height`: by the side.
-use Rattle.lanes.proofs.LateralLaws.{cross-left, cross-right}
+use Rattle.lanes.specs.Lateral.{cross_height}
 use Rattle.lanes_shape.proofs.strips.cross_height.Goals as goal
+use Rattle.lanes_shape.proofs.strips.cross_height.Goals.{then-is_left, else-is_left}
 
-pub returns-then-is_left : goal.returns-then-is_left
-returns-then-is_left c =
-    let a = c.args in
-    cross-left a.road.now a.s a.t a.toward c.tshifts.ensures c.value.ensures c.is_left.ensures c.if-is_left.true c.side_height.ensures
-
-pub returns-else-is_left : goal.returns-else-is_left
-returns-else-is_left c =
-    let a = c.args in
-    cross-right a.road.now a.s a.t a.toward c.tshifts.ensures c.value.ensures c.is_left.ensures c.if-is_left.false c.side_height-else-is_left.ensures
+pub returns : goal.returns
+unfolding cross_height
+returns c =
+    elim c.if-is_left.branch [
+      | then-is_left w ↦ rw (← c.tshifts.ensures, ← c.value.ensures, ← c.is_left.ensures, w.if-is_left.true) (rw w.side-is at c.side_height.ensures)
+      | else-is_left w ↦ rw (← c.tshifts.ensures, ← c.value.ensures, ← c.is_left.ensures, w.if-is_left.false) (rw w.side-is at c.side_height.ensures)
+    ]

@@ -1,0 +1,10 @@
+-- `LentSide::get`: the lane of the k-th line, or none.
+use mathlib.Core.Path.{◌∙◌, sym}
+use Rattle.records_lent.proofs.TableLaws.{table_at, table-past}
+use Rattle.records_lanes.proofs.sides.LentSide.get.Goals as goal
+
+pub returns-then-k-self : goal.returns-then-k-self
+returns-then-k-self c = rw (← c.self.view_is) (c.lane_in.ensures ∙ sym (table_at _ _ c.args.k _ c.if-k-self.true))
+
+pub returns-else-k-self : goal.returns-else-k-self
+returns-else-k-self c = rw (← c.self.view_is) (c.no_lane.ensures ∙ sym (table-past _ _ c.args.k _ c.if-k-self.false))
