@@ -104,10 +104,8 @@ module _ (road : Road) (a : Admits road) (s : Float) (o : OnRoad road s) where
 
   first-reached : T (le (section_of road 0).start (active_up_to s))
   first-reached =
-      let z = section_start-in road a.fit a.limits 0 a.sections in
       let e = extent-within road a.fit a.limits 0 a.sections in
       let w = within-mono binary64 s greatest_length far s-within e.bound length-far.0 in
-      let r = up_to-real s w in
       float_trans (section_of road 0).start zero64 (active_up_to s) (le_of_eq (section_of road 0).start zero64 a.order.section_zero) (float_trans zero64 s (active_up_to s) o.above (up_to-grows s w))
 
   -- the section at s is there, and s lies in it
