@@ -12,7 +12,7 @@ use lib.Ieee.Fits.{div-fits}
 use lib.Ieee.Scale.{finite}
 use Rattle.std.proofs.lemmas.Float.{le_trans as float_trans}
 use Rattle.float_laws.specs.Binary64.{◌⊕◌, ◌⊖◌, ◌⊘◌, f64, zero64}
-use Rattle.float_laws.proofs.Value.{mag, pl, mi, Real, one_side, nlt→units, neg-real}
+use Rattle.float_laws.proofs.Value.{mag, pl, mi, Real, one_side, nlt→units}
 use Rattle.float_laws.proofs.Interval.{in-of_le}
 use Rattle.float_laws.proofs.Size.{Within, within-of_le, le_of-within, sub_within}
 use Rattle.float_laws.proofs.Whole.{Whole, not-zero}

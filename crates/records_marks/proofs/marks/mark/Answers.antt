@@ -2,8 +2,7 @@
 use Prim.Native.Nat.{ℕ, ◌+◌}
 use native.Mathlib.Omega.{arith}
 use mathlib.Core.Path.{◌∙◌, ap, sym}
-use lib.ListN.{length}
-use Rattle.records.specs.Roads.{Road, section_of, mark_in}
+use Rattle.records.specs.Roads.{mark_in}
 use Rattle.records.proofs.RoadLaws.{section_count_read, mark_count_read, mark_in_lem, mark-past, no_mark_lem}
 use Rattle.records_marks.proofs.marks.mark.Goals as goal
 use Rattle.records_marks.proofs.marks.mark.Goals.{else-section-section_count-via-else-section-section_count, else-section-section_count-via-then-section-section_count+else-j-mark_count}
