@@ -18,8 +18,7 @@ const GREATEST_KIND: usize = 255;
 fn mark_limited(extent: f64, mark: Mark) -> bool
     ensures { result ≡ mark_limited extent mark }
 {
-    (LEAST_KIND <= mark.kind)
-        && (mark.kind <= GREATEST_KIND)
+    (LEAST_KIND..=GREATEST_KIND).contains(&mark.kind)
         && (0.0 <= mark.start)
         && (mark.start <= mark.end)
         && (mark.end <= extent)

@@ -21,23 +21,19 @@ pub(crate) fn range_ok(least: usize, most: usize, limit: usize, first: usize, co
     requires { (first < 65536) × (count < 65536) }
     ensures { result ≡ range_ok least most limit first count }
 {
-    (least <= count) & (count <= most) & (first + count <= limit)
+    (least..=most).contains(&count) & (first + count <= limit)
 }
 
 #[tactic(auto, unfolding(crate::specs::Structure::counts_ok))]
 fn counts_ok(words: &[u16]) -> bool
     ensures { result ≡ counts_ok words.now }
 {
-    let geoms = word(words, GEOM_COUNT_AT);
-    let sections = word(words, SECTION_COUNT_AT);
-    (1 <= geoms)
-        && (geoms <= MOST_GEOMS)
+    (1..=MOST_GEOMS).contains(&word(words, GEOM_COUNT_AT))
         && (word(words, ELEV_COUNT_AT) <= MOST_ELEVS)
         && (word(words, BANK_COUNT_AT) <= MOST_BANKS)
         && (word(words, OFFSET_COUNT_AT) <= MOST_OFFSETS)
         && (word(words, TSHIFT_COUNT_AT) <= MOST_SHIFTS)
-        && (1 <= sections)
-        && (sections <= MOST_SECTIONS)
+        && (1..=MOST_SECTIONS).contains(&word(words, SECTION_COUNT_AT))
         && (word(words, PROFILE_COUNT_AT) <= MOST_PROFILES)
 }
 
