@@ -8,10 +8,10 @@ use native.Mathlib.Nat.{le_trans, le_of_eq, le_of_suc-le, le-add_right, mul-le-m
 use native.Mathlib.Omega.{arith}
 use lib.Dec.{lit≤}
 use lib.ListN.{length, get_or}
-use lib.Ieee.{Float, binary64, prec, low, of_bits, fits}
+use lib.Ieee.{Float, binary64, prec, low, le, neg, of_bits, fits}
 use Rattle.float_laws.specs.Binary64.{f64, zero64}
 use Rattle.float_laws.proofs.Value.{mag, pl, mi, Real}
-use Rattle.float_laws.proofs.Size.{Within}
+use Rattle.float_laws.proofs.Size.{Within, within-const}
 use Rattle.float_laws.proofs.Whole.{Whole}
 use Rattle.std.specs.declared.option.Option.{Option}
 use Rattle.std.specs.declared.option.Option.TheVariants.{Some, None}
@@ -20,7 +20,7 @@ use Rattle.records.specs.Active.{active_in, value_in}
 use Rattle.records.specs.Roads.{Lane, no_lane}
 use Rattle.arithmetic_ranges.specs.Ranges.{not_below_zero}
 use Rattle.lanes_borders.specs.Borders.{sign_of, border_width, width_of, outer_after, borders_at}
-use Rattle.lanes_borders.proofs.Outward.{SideSign, Ahead, Fitted, fitted-width, fitted_none, fitted-border, step-outward}
+use Rattle.lanes_borders.proofs.Outward.{SideSign, Ahead, Fitted, fitted-width, fitted-border, step-outward}
 
 -- ---- the premises, which admission gives: widths of size 8 at most, borders of size 36 at most
 
@@ -55,6 +55,10 @@ pub zero-whole : Whole binary64 zero64 0 0
 unfolding of_bits fits pl mi
 zero-whole = record { value = record { finite = tt; fits = tt }; plus = refl; minus = refl }
 
+zero-eight : Within binary64 zero64 eight
+unfolding of_bits fits le neg
+zero-eight = within-const binary64 zero64 eight tt
+
 pub sign-whole : (right : Bool) → SideSign binary64 right (sign_of right)
 unfolding of_bits fits pl mi
 sign-whole false = record { value = record { finite = tt; fits = tt }; plus = refl; minus = refl }
@@ -74,7 +78,7 @@ width_fits lane right t s M e r h l u = by_kind lane.border e.width e.border
   where
     by-active : (a : Option ℕ) → ((i : ℕ) → a ≡ Some i → Within binary64 (eval_at (cubic_at lane.extents i) s) thirty_six) → Fitted binary64 right t (not_below_zero (border_width lane (sign_of right) t s a)) (M + 8)
     by-active (Some i) w = fitted-border binary64 right (sign_of right) (eval_at (cubic_at lane.extents i) s) thirty_six zero64 t M (M + 8) (sign-whole right) (w i refl) thirty_six-whole zero-whole r h u (omega arith) (omega arith)
-    by-active None w = fitted_none binary64 right zero64 t M (M + 8) zero-whole h (omega arith)
+    by-active None w = fitted-width binary64 right zero64 eight zero64 t M (M + 8) zero-eight eight-whole zero-whole h (omega arith)
 
     by_kind :
         (b : Bool) → (b ≡ false → Within binary64 (value_in lane.extents s) eight) → (b ≡ true → (i : ℕ) → active_in lane.extents s ≡ Some i → Within binary64 (eval_at (cubic_at lane.extents i) s) thirty_six)

@@ -3,12 +3,10 @@ use mathlib.Core.Path.{◌≡◌, refl, sym, ap, ◌∙◌}
 use mathlib.Core.Bool.{Bool, true, false}
 use mathlib.Core.List.{List, [], ◌∷◌, ◌++◌, append-nil}
 use mathlib.Core.Logic.{⊎_elim}
-use Prim.Native.Nat.{ℕ, zero, suc, ◌+◌, ◌*◌, ◌/◌, ◌≤◌, ◌<◌}
+use Prim.Native.Nat.{ℕ, zero, suc, ◌+◌, ◌*◌, ◌≤◌, ◌<◌}
 use native.Mathlib.Nat.{eq-or-lt_of_le, le_of_suc-le-suc}
 use native.Mathlib.Omega.{arith}
 use native.Mathlib.Numerals.{add-one}
-use lib.Dec.{leb}
-use borrow.Author.Tests.{le-leb, lt-leb}
 use lib.ListN.{length, get_or, drop, set, length-append, drop_of_length-le, get_or-append}
 use lib.Seq.{get_or-append-add}
 use lib.Ieee.{Float}
@@ -16,7 +14,7 @@ use Rattle.float_laws.specs.Binary64.{◌⊖◌}
 use Rattle.records_lent.proofs.StoreLaws.{three-stores}
 use Rattle.records.specs.Roads.{Road, Lane, no_lane, section_of}
 use Rattle.lanes_borders.specs.declared.across.LaneBorders.{LaneBorders}
-use Rattle.lanes_borders.specs.Borders.{sign_of, outer_after, borders_from, borders_at, base_at, side_lanes, lanes_of, borders_of, side_list, border_list}
+use Rattle.lanes_borders.specs.Borders.{sign_of, outer_after, borders_from, borders_at, base_at, side_lanes, borders_of, side_list, border_list}
 
 -- ---- the running outer border
 
@@ -130,14 +128,6 @@ borders_written_lem road i s old {l₁} {l₂} {rest} {start} {base} {m} {n} p q
     let k = list_length road i s in
     let j : (m + n) * 3 ≡ length (border_list road i s) = omega arith in
     ap (λ (r : List Float). r ++ rest) g ∙ ap (λ (r : List Float). border_list road i s ++ r) (h ∙ ap (λ (x : ℕ). drop x old) j)
-
--- a list's whole threes, fewer than the lanes or enough
-module _ (road : Road) (i len : ℕ) {n : ℕ} (e : n ≡ lanes_of road i) where
-  pub list-short : len / 3 < n → false ≡ leb (lanes_of road i) (len / 3)
-  list-short h = sym (lt-leb (lanes_of road i) (len / 3) (omega arith))
-
-  pub list-long : n ≤ len / 3 → true ≡ leb (lanes_of road i) (len / 3)
-  list-long h = sym (le-leb (lanes_of road i) (len / 3) (omega arith))
 
 -- the first lane's inner border is the base
 pub inner_first : (road : Road) (i : ℕ) (s : Float) (right : Bool) {base : Float} → base ≡ base_at road s → base ≡ (borders_of road i s right 0).inner

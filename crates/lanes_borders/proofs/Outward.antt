@@ -122,19 +122,6 @@ fitted-width f right v e z t M S w E q h k =
     go true d b l = omega arith
     go false d b l = omega arith
 
--- one of width 0
-pub fitted_none : (f : Format) (right : Bool) (z t : Float) (M S : ℕ) → Whole f z 0 0 → mag f t ≤ M * 2 ^ low f → M ≤ S → Fitted f right t (cond (lt z z) z z) S
-fitted_none f right z t M S q h k =
-    let x = raised f z z q.value q in
-    let d = mag_is f t in
-    let b : pl f (cond (lt z z) z z) ≤ 0 = le_trans x.2 (let p = q.plus in omega arith) in
-    let l : M * 2 ^ low f ≤ S * 2 ^ low f = mul-le-mul_right (2 ^ low f) k in
-    record { value = x.0; plus = x.1; ahead = go right d b l }
-  where
-    go : (right : Bool) {x : ℕ} → mag f t ≡ pl f t + mi f t → x ≤ 0 → M * 2 ^ low f ≤ S * 2 ^ low f → fore f right t + x ≤ back f right t + S * 2 ^ low f
-    go true d b l = omega arith
-    go false d b l = omega arith
-
 -- a border lane's: from t to the border b, rounded
 seven : (f : Format) → (7 ≤ prec f) × (7 < suc (emax f))
 seven binary32 = (omega arith, omega arith)

@@ -1,4 +1,5 @@
-// The two sides of the ridge. A strip is addressed by its place: left inner 0, left outer 1, right inner 2, right outer 3.
+// The two sides of the ridge. A strip is addressed by its place: left inner 0, left outer 1, right inner 2, right outer 3; the numbers stand here alone,
+// since `strip` and `strip_column` take any number and an enum of the four would be turned into one at each call.
 ghost use Rattle.std.specs.Prelude.{◌≡◌};
 ghost use Rattle.lanes_shape.specs.Sides.{inner_of, outer_of, outward};
 

@@ -23,7 +23,7 @@ pub(crate) fn is_present(road: &LentRoad, i: usize) -> bool
     }
 }
 
-// A column of the i-th strip at s.
+// A column of the i-th strip at s: the width is column 0, term n column n + 1. By numbers, as `strip_column` takes them: an enum of the columns would only be turned into those here.
 fn column_value(road: &LentRoad, i: usize, column: usize, s: f64) -> f64
     ensures { result ≡ value_in (column_of (strip_at road.now i) column) s }
 {
