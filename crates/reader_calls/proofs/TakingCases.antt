@@ -18,7 +18,7 @@ use Rattle.reader_lines.specs.ValuesLine.{values_at}
 use Rattle.reader_lines.specs.declared.columns.Order.{Order}
 use Rattle.reader_lines.specs.declared.names_line.Head.{Head}
 use Rattle.reader_lines.specs.declared.values_line.Values.{Values}
-use Rattle.reader_store.specs.Layout.{numbers_below, wants_kept, count_kept}
+use Rattle.reader_store.specs.Layout.{numbers_kept, wants_kept, count_kept}
 use Rattle.reader_store.specs.Progress.{start_progress, ended_progress}
 use Rattle.reader_store.specs.Keep.{kept_words, kept_progress}
 use Rattle.reader_store.specs.declared.progress.Progress.{Progress}
@@ -79,7 +79,7 @@ module _ (table : ℕ) (order : Order) (text : List ℕ) (at k : ℕ) (progress 
     -- a line that is kept
     pub lines_next :
         (limit : ℕ) {row : Values} {t : Progress} {us : List ℕ} {xs : List Float} {ys : List ℕ} → k < limit → found ≡ Some row
-        → t ≡ kept_progress table k row.cells progress ws → us ≡ kept_words table k row.cells progress ws → xs ≡ numbers_below table k row.cells 8 ns
+        → t ≡ kept_progress table k row.cells progress ws → us ≡ kept_words table k row.cells progress ws → xs ≡ numbers_kept table k row.cells ns
         → ys ≡ wants_kept table k row.cells vs
         → lines_from (limit - k) table order text at k progress ws ns vs ≡ lines_from (limit - (k + 1)) table order text row.next (k + 1) t us xs ys
     unfolding lines_from

@@ -102,7 +102,7 @@ module _ (text : List ℕ) (l m n at count : ℕ) (progress : Progress) (ws : Li
   T t = lines_of text t
 
   few : (t : ℕ) → t < 16 → length (T t) ≤ limit_of t
-  few t h = rows_few text l m n at count progress ws ns vs read t h
+  few t h = rows_few text l m n at count progress ws ns vs read.form t h
 
   word_at : {p q : ℕ} → p ≡ q → get_or ws p 0 ≡ get_or ws q 0
   word_at e = ap (λ (k : ℕ). get_or ws k 0) e
@@ -234,14 +234,14 @@ module _ (text : List ℕ) (l m n at count : ℕ) (progress : Progress) (ws : Li
   counts-held = (held 1 0 (omega arith) refl, held 2 1 (omega arith) refl, held 3 2 (omega arith) refl, held 4 3 (omega arith) refl, held 5 4 (omega arith) refl, held 6 5 (omega arith) refl, held 10 6 (omega arith) refl)
     where
       held : (t p : ℕ) → t < 16 → count_place t ≡ Some p → get_or ws p 0 ≡ length (T t)
-      held = count_kept_lem text l m n at count progress ws ns vs read
+      held = count_kept_lem text l m n at count progress ws ns vs read.form
 
   kinds-say : kinds_ok ws ns ≡ true
   unfolding kinds_ok
   kinds-say =
       let c = counts-held.0 in
       all_pass (λ i. ltb (get_or ws (7 + i) 0) 3) (get_or ws 0 0)
-      (λ i h. ap (λ (v : ℕ). ltb v 3) (kind-kept text l m n at count progress ws ns vs read i (omega arith)) ∙ code-small (cell_of (get_or (T 1) i no_cells) 5) 3 (geom-cell text i) (omega arith))
+      (λ i h. ap (λ (v : ℕ). ltb v 3) (kind-kept text l m n at count progress ws ns vs read.form i (omega arith)) ∙ code-small (cell_of (get_or (T 1) i no_cells) 5) 3 (geom-cell text i) (omega arith))
 
   sections-say : all_below (section_ok ws ns) (get_or ws 5 0) && all_below (marks_ok ws ns) (get_or ws 5 0) ≡ every section_counts (numbered (section_said T) 0 (T 6))
   sections-say =
@@ -257,8 +257,8 @@ module _ (text : List ℕ) (l m n at count : ℕ) (progress : Progress) (ws : Li
       let c = counts-held in
       let along : (t : ℕ) → length (T t) ≡ length (map (cubic_in 0) (T t)) = λ t. sym (length-map (T t) (cubic_in 0)) in
       let sections : get_or ws 5 0 ≡ length (numbered (section_said T) 0 (T 6)) = c.5 ∙ sym (numbered-count (section_said T) 0 (T 6)) in
-      structured-chain (all_below (section_ok ws ns) (get_or ws 5 0)) (all_below (marks_ok ws ns) (get_or ws 5 0)) (le-leb 1891 (length ws) (let a = read.words_long in let e = words-kept text l m n at count progress ws ns vs read in omega arith))
-      (le-leb 8449 (length ns) (let a = read.numbers_long in let e = numbers-length text l m n at count progress ws ns vs read in omega arith)) kinds-say
+      structured-chain (all_below (section_ok ws ns) (get_or ws 5 0)) (all_below (marks_ok ws ns) (get_or ws 5 0)) (le-leb 1891 (length ws) (let a = read.form.words_long in let e = words-kept text l m n at count progress ws ns vs read in omega arith))
+      (le-leb 8449 (length ns) (let a = read.form.numbers_long in let e = numbers-length text l m n at count progress ws ns vs read.form in omega arith)) kinds-say
       (ap (within 1 64) (c.0 ∙ sym (length-map (T 1) geom_said))) (most-says 64 (get_or ws 1 0) ∙ ap (within 0 64) (c.1 ∙ along 2)) (most-says 64 (get_or ws 2 0) ∙ ap (within 0 64) (c.2 ∙ along 3)) (most-says 64 (get_or ws 3 0) ∙ ap (within 0 64) (c.3 ∙ along 4)) (most-says 64 (get_or ws 4 0) ∙ ap (within 0 64) (c.4 ∙ along 5))
       (ap (λ (k : ℕ). leb 1 k) sections) (ap (λ (k : ℕ). leb k 16) sections) (most-says 16 (get_or ws 6 0) ∙ ap (within 0 16) (c.6 ∙ sym (numbered-count (profile_said T) 0 (T 10)))) sections-say profiles-say strips-say
 

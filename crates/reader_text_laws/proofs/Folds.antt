@@ -22,7 +22,7 @@ use Rattle.reader_lines.specs.declared.names_line.Head.{Head}
 use Rattle.reader_lines.specs.declared.values_line.Values.{Values}
 use Rattle.reader_lines.specs.declared.columns.Order.{Order}
 use Rattle.reader_lines.specs.declared.columns.Cells.{Cells}
-use Rattle.reader_store.specs.Layout.{count_place, put_at, count_kept, rule_of, numbers_below, wants_kept}
+use Rattle.reader_store.specs.Layout.{count_place, put_at, count_kept, rule_of, numbers_kept, wants_kept}
 use Rattle.reader_store.specs.Progress.{start_progress, unsound_progress, ended_progress}
 use Rattle.reader_store.specs.Keep.{ruled_progress, kept_words, kept_progress}
 use Rattle.reader_store.specs.declared.progress.Progress.{Progress}
@@ -148,11 +148,11 @@ lines-by zero t order text at k progress ws ns vs = go (eqb (byte_at text at) 10
     go true x = (refl, omega arith, refl, refl, refl)
     go false (Some row) = tt
     go false None = tt
-lines-by (suc fuel) t order text at k progress ws ns vs = go (eqb (byte_at text at) 10) (values_at text at t order) (λ cells next. lines-by fuel t order text next (k + 1) (kept_progress t k cells progress ws) (kept_words t k cells progress ws) (numbers_below t k cells 8 ns) (wants_kept t k cells vs))
+lines-by (suc fuel) t order text at k progress ws ns vs = go (eqb (byte_at text at) 10) (values_at text at t order) (λ cells next. lines-by fuel t order text next (k + 1) (kept_progress t k cells progress ws) (kept_words t k cells progress ws) (numbers_kept t k cells ns) (wants_kept t k cells vs))
   where
     go : (a : Bool) (x : Option Values)
-        → ((cells : Cells) (next : ℕ) → LinesBy t (k + 1) (kept_progress t k cells progress ws) (kept_words t k cells progress ws) (wants_kept t k cells vs) (lines_at fuel t order text next) (lines_from fuel t order text next (k + 1) (kept_progress t k cells progress ws) (kept_words t k cells progress ws) (numbers_below t k cells 8 ns) (wants_kept t k cells vs)))
-        → LinesBy t k progress ws vs (cond a (lines [] (at + 1)) (by_row x (λ cells next. after cells (lines_at fuel t order text next)))) (cond a (done (at + 1) k (ended_progress progress) (count_kept t k ws) ns vs) (by_values x (λ cells next. lines_from fuel t order text next (k + 1) (kept_progress t k cells progress ws) (kept_words t k cells progress ws) (numbers_below t k cells 8 ns) (wants_kept t k cells vs))))
+        → ((cells : Cells) (next : ℕ) → LinesBy t (k + 1) (kept_progress t k cells progress ws) (kept_words t k cells progress ws) (wants_kept t k cells vs) (lines_at fuel t order text next) (lines_from fuel t order text next (k + 1) (kept_progress t k cells progress ws) (kept_words t k cells progress ws) (numbers_kept t k cells ns) (wants_kept t k cells vs)))
+        → LinesBy t k progress ws vs (cond a (lines [] (at + 1)) (by_row x (λ cells next. after cells (lines_at fuel t order text next)))) (cond a (done (at + 1) k (ended_progress progress) (count_kept t k ws) ns vs) (by_values x (λ cells next. lines_from fuel t order text next (k + 1) (kept_progress t k cells progress ws) (kept_words t k cells progress ws) (numbers_kept t k cells ns) (wants_kept t k cells vs))))
     go true x ih = (refl, omega arith, refl, refl, refl)
     go false (Some row) ih = lines_next t k row.cells progress ws vs (lines_at fuel t order text row.next) _ (ih row.cells row.next)
     go false None ih = tt

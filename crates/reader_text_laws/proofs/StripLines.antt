@@ -19,7 +19,7 @@ use Rattle.std.proofs.lemmas.List.{get_or-replicate}
 use Rattle.reader_schema.specs.Schema.{limits, limit_of}
 use Rattle.reader_lines.specs.Columns.{cell_of, no_cells}
 use Rattle.reader_lines.specs.declared.columns.Cells.{Cells}
-use Rattle.reader_store.specs.Layout.{word_row, word_place, word_put, words_below, rule_of}
+use Rattle.reader_store.specs.Layout.{word_columns, cells_kept, codes_kept, rule_of}
 use Rattle.reader_store.specs.Progress.{strip_line, listed_as, unsound_progress}
 use Rattle.reader_store.specs.Parents.{term_at, term_of, index_of}
 use Rattle.reader_store.specs.Keep.{strip_named, strips_kept, strip_progress, ruled_words, ruled_progress, kept_words, kept_progress}
@@ -42,7 +42,7 @@ no_lines : (i : ℕ) → i < 4 → ◌≡◌ {A = Option ℕ} (strip_line (repli
 no_lines i h = get_or-replicate 4 i None None h
 
 strip_line_lem : (k : ℕ) (cells : Cells) (progress : Progress) (us : List ℕ) → (kept_words 12 k cells progress us ≡ strips_kept us cells progress) × (kept_progress 12 k cells progress us ≡ strip_progress k cells progress)
-unfolding kept_words ruled_words kept_progress ruled_progress rule_of words_below word_put word_place word_row
+unfolding kept_words ruled_words kept_progress ruled_progress rule_of codes_kept cells_kept word_columns
 strip_line_lem k cells progress us = (refl, refl)
 
 abbrev noted_by : ℕ → Cells → Progress → Progress
