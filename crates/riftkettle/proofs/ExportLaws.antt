@@ -1,6 +1,5 @@
 -- The number of a road that is admitted or not; and that no lane's id is 0.
-use Prim.Native.Nat.{ℕ, suc}
-use native.Mathlib.Omega.{arith}
+use Prim.Native.Nat.{ℕ}
 use mathlib.Core.Path.{◌≡◌, refl, ap}
 use mathlib.Core.Bool.{true, false}
 use lib.IntN.{pos}
@@ -24,8 +23,8 @@ module _ (words : List ℕ) (numbers : List Float) {A : Type 0} (road : A) where
 -- ---- the id of a lane, and 0
 
 unnamed-by : (left right : Option ℕ) → id_returned (name_by left right) ≡ pos 0 → name_by left right ≡ None
-unnamed-by left (Some k) e = let z : ◌≡◌ {A = ℕ} 0 1 = cc in absurd (omega arith)
-unnamed-by (Some k) None e = let z : suc k ≡ 0 = cc in absurd (omega arith)
+unnamed-by left (Some k) e = absurd cc
+unnamed-by (Some k) None e = absurd cc
 unnamed-by None None e = refl
 
 -- it says that no lane is named
