@@ -41,7 +41,7 @@ pub agree_err : (o : Outcome) (f : Refusal) {r : Result Taken Refusal} (us : Lis
 agree_err o f us xs ys e h = rw e h
 
 pub no-refusal : {A : Type 0} {a : A} {m : ℕ} → ◌≡◌ {A = Answer A} (value a) (refused m) → ⊥
-no-refusal e = let z : ◌≡◌ {A = ℕ} 0 1 = cc in omega arith
+no-refusal e = cc
 
 pub same_Ok : {r q : Taken} → ◌≡◌ {A = Result Taken Refusal} (Ok r) (Ok q) → r ≡ q
 same_Ok e = cc

@@ -12,7 +12,7 @@ use lib.Ieee.{Float}
 use borrow.Author.Tests.{leb-true, eqb-true, eqb-false, ne_eqb}
 use Rattle.records_lent.specs.Lists.{all_below}
 use Rattle.records_lent.proofs.TestLaws.{all-at}
-use Rattle.reader_schema.specs.Schema.{name_of, limits, limit_of}
+use Rattle.reader_schema.specs.Schema.{name_of, limit_of}
 use Rattle.reader_cells.specs.Cells.{byte_at, name_span}
 use Rattle.reader_lines.specs.NamesLine.{head_at}
 use Rattle.reader_lines.specs.ValuesLine.{values_at}
@@ -30,6 +30,7 @@ use Rattle.reader_calls.specs.Reading.{Outcome, done, stop, by_outcome, lines_fr
 use Rattle.reader_laws.specs.Lines.{Lines, lines, broken, after, by_lines, lines_at, table_lines, tables_lines, lines_of, by_row, by_names}
 use Rattle.reader_laws.proofs.LowWords.{or_else, Low, low_same, low-then, kept_low}
 use Rattle.reader_laws.proofs.CountsKept.{count-few}
+use Rattle.reader_laws.proofs.LineLimits.{line_limits}
 use Rattle.reader_laws.proofs.ReadTables.{RightForm}
 use Rattle.reader_laws.proofs.LinesKept.{Agree, table-agree}
 
@@ -192,10 +193,6 @@ join-other n t unlike ws us same rows tables (done at count progress xs ns vs) h
     kinds zero k e l m = absurd (unlike (omega arith))
     kinds (suc i) k e l m = h.kind i k (omega arith) (le_of_suc-le-suc l) m
 
-limit-geom : limit_of 1 ≡ 64
-unfolding limit_of limits
-limit-geom = refl
-
 -- geom, then the rest
 join-geom : (n : ℕ) (ws us : List ℕ) (rows : List Cells) → 71 ≤ length ws → length rows ≤ limit_of 1 → ((j : ℕ) → 7 ≤ j → get_or us j 0 ≡ get_or (kinds_put 0 rows ws) j 0) → (tables : List (List Cells)) (o : Outcome)
     → KindsOf n (1 + 1) us tables o → KindsOf (suc n) 1 ws (rows ∷ tables) o
@@ -204,7 +201,7 @@ join-geom n ws us rows long few put tables (done at count progress xs ns vs) h =
   where
     kinds : (i k : ℕ) → 1 + i ≡ 1 → i < suc n → k < length (get_or (rows ∷ tables) i []) → get_or xs (7 + k) 0 ≡ code_of (cell_of (get_or (get_or (rows ∷ tables) i []) k no_cells) 5)
     kinds zero k e l m =
-        let g = limit-geom in
+        let g = line_limits.geoms in
         h.other (omega arith) (7 + k) (omega arith) (omega arith) ∙ put (7 + k) (omega arith)
         ∙ ap (λ (j : ℕ). get_or (kinds_put 0 rows ws) (7 + j) 0) (sym (zero-add k))
         ∙ kinds-same rows 0 k ws m (omega arith)

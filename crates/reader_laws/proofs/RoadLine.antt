@@ -36,7 +36,7 @@ by_cases true from x y f g = f
 by_cases false from x y f g = g
 
 never : (from : Progress) → false ≡ true → from.sound ≡ true
-never from e = let z : ◌≡◌ {A = ℕ} 0 1 = cc in absurd (omega arith)
+never from e = absurd cc
 
 under-sound : (parent : Option Counted) (progress : Progress) → (under_progress parent progress).sound ≡ true → progress.sound ≡ true
 unfolding under_progress
@@ -122,7 +122,7 @@ unfolding tables_lines tables_from counted_progress
 first_line_lem text progress ws ns vs = step (table_lines 0 text 0) (table_at 0 text 0 progress ws ns vs) (table-agree 0 text 0 progress ws ns vs)
   where
     some : (n k : ℕ) (progress' : Progress) → n ≡ 0 + k → (counted_progress 0 n progress').sound ≡ true → 0 < k
-    some n zero progress' e s = let z : n ≡ 0 = omega arith in let w = subst (λ (m : ℕ). (counted_progress 0 m progress').sound ≡ true) z s in let q : ◌≡◌ {A = ℕ} 0 1 = cc in absurd (omega arith)
+    some n zero progress' e s = let z : n ≡ 0 = omega arith in let w = subst (λ (m : ℕ). (counted_progress 0 m progress').sound ≡ true) z s in absurd cc
     some n (suc k) progress' e s = omega arith
 
     step : (p : Lines) (o : Outcome) → Agree 0 (limit_of 0) 0 ns p o

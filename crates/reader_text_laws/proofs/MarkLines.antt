@@ -12,7 +12,6 @@ use lib.Dec.{eqb, ltb}
 use borrow.Author.Tests.{eqb-true, eq-eqb, lt-ltb, le-ltb}
 use Rattle.std.specs.Prelude.{Option, Some, None, is_some, option_and_then}
 use Rattle.std.proofs.lemmas.Option.{cond_some, option_and_then_some}
-use Rattle.reader_schema.specs.Schema.{limits, limit_of}
 use Rattle.reader_lines.specs.Columns.{cell_of, no_cells}
 use Rattle.reader_lines.specs.declared.columns.Cells.{Cells}
 use Rattle.reader_store.specs.Layout.{code_of, word_columns, cells_kept, codes_kept, rule_of, base_of, stride_of}
@@ -22,6 +21,7 @@ use Rattle.reader_store.specs.declared.layout.Family.TheVariants.{Mark}
 use Rattle.reader_store.specs.declared.parents.Ranked.{Ranked}
 use Rattle.reader_store.specs.declared.progress.Progress.{Progress}
 use Rattle.reader_laws.specs.Lines.{lines_of}
+use Rattle.reader_laws.proofs.LineLimits.{line_limits}
 use Rattle.reader_text_laws.specs.Said.{under, place_said}
 use Rattle.reader_text_laws.proofs.ParentCases.{found, There, there_if, counted-in, counted-there}
 use Rattle.reader_text_laws.proofs.Those.{Part, part_same}
@@ -224,10 +224,6 @@ module _ (lanes : List Cells) (S : ℕ) (zs : List ℕ) (rows : LaneRows lanes S
 
 -- ---- a text
 
-limit-marks : limit_of 14 ≡ 256
-unfolding limit_of limits
-limit-marks = refl
-
 module _ (text : List ℕ) (l n u : ℕ) (state : ℕ → State) (reading : Reading text l n u state) (s13 : 13 < u) where
   abbrev st : ℕ → State
   st t = state t
@@ -242,7 +238,7 @@ module _ (text : List ℕ) (l n u : ℕ) (state : ℕ → State) (reading : Read
   few = profiles-few text l n u state reading
 
   pub marks-few : length (T 14) ≤ 256
-  marks-few = let f = reading.few 14 (omega arith) in let e = limit-marks in omega arith
+  marks-few = let f = reading.few 14 (omega arith) in let e = line_limits.marks in omega arith
 
   -- ---- words from before the table cubic
 

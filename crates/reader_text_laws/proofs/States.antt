@@ -8,7 +8,7 @@ use mathlib.Core.List.{List, [], ◌∷◌}
 use lib.ListN.{length, get_or, set, replicate}
 use lib.Seq.{get_or-set_other}
 use lib.Ieee.{Float}
-use Rattle.reader_schema.specs.Schema.{limits, limit_of}
+use Rattle.reader_schema.specs.Schema.{limit_of}
 use Rattle.reader_lines.specs.Columns.{cell_of, no_cells}
 use Rattle.reader_lines.specs.declared.columns.Cells.{Cells}
 use Rattle.std.specs.Prelude.{Some, None}
@@ -17,6 +17,7 @@ use Rattle.reader_store.specs.Keep.{ruled_words, ruled_progress, kept_words, kep
 use Rattle.reader_store.specs.declared.progress.Progress.{Progress}
 use Rattle.reader_calls.specs.Reading.{done, zeros}
 use Rattle.reader_laws.specs.Lines.{tables_lines, lines_of}
+use Rattle.reader_laws.proofs.LineLimits.{line_limits}
 use Rattle.reader_laws.proofs.ReadTables.{RightForm}
 use Rattle.reader_laws.proofs.CountsKept.{count-owner, count_kept_lem, zeros-blank}
 use Rattle.reader_laws.proofs.TablesKept.{rows_few}
@@ -43,10 +44,6 @@ quiet = (λ k c t w. (refl, refl), λ k c t w. (refl, refl), λ k c t w. (refl, 
 geom-line : (k : ℕ) (cells : Cells) (progress : Progress) (ws : List ℕ) → (kept_words 1 k cells progress ws ≡ set ws (7 + k * 1) (code_of (cell_of cells 5))) × (kept_progress 1 k cells progress ws ≡ progress)
 unfolding kept_words ruled_words kept_progress ruled_progress rule_of codes_kept cells_kept word_columns word_lines
 geom-line k cells progress ws = (refl, refl)
-
-limit-geom : limit_of 1 ≡ 64
-unfolding limit_of limits
-limit-geom = refl
 
 -- what is known of the states of a text of right form, the tables before u sound
 pub record Reading (text : List ℕ) (l n u : ℕ) (state : ℕ → State) : Type 0 where
@@ -143,7 +140,7 @@ module _ (text : List ℕ) (l n u : ℕ) (state : ℕ → State) (reading : Read
       line k x us h s p =
           let g = geom-line k (get_or (lines_of text 1) k no_cells) x us in
           let f = reading.few 1 (omega arith) in
-          let i = limit-geom in
+          let i = line_limits.geoms in
           (ap (λ (y : Progress). y.strips) g.1 ∙ p.0, λ q b. ap (λ (zs : List ℕ). get_or zs q 0) g.0 ∙ get_or-set_other us (7 + k * 1) q (code_of (cell_of (get_or (lines_of text 1) k no_cells) 5)) 0 (λ e. omega arith) ∙ p.1 q b)
 
       kept : GeomStill (length (lines_of text 1)) (track_after 1 0 (lines_of text 1) (state 1).progress (state 1).words) (words_after 1 0 (lines_of text 1) (state 1).progress (state 1).words)

@@ -8,13 +8,13 @@ use lib.ListN.{length, set, length-append, length-replicate}
 use lib.Seq.{set-append_seam}
 use lib.Ieee.{Float}
 use borrow.Author.Tests.{ne_eqb}
-use Rattle.reader_schema.specs.Schema.{limits, limit_of}
 use Rattle.reader_lines.specs.Columns.{cell_of}
 use Rattle.reader_lines.specs.declared.columns.Cells.{Cells}
 use Rattle.reader_store.specs.Layout.{wants_kept}
 use Rattle.reader_store.specs.declared.progress.Progress.{Progress}
 use Rattle.reader_calls.specs.Reading.{done, zeros}
 use Rattle.reader_laws.specs.Lines.{lines_of}
+use Rattle.reader_laws.proofs.LineLimits.{line_limits}
 use Rattle.reader_laws.proofs.ReadTables.{Stored}
 use Rattle.reader_laws.proofs.TablesKept.{rows_few}
 use Rattle.reader_text_laws.specs.Said.{patterns, wants_said}
@@ -57,10 +57,6 @@ wants-from (r ∷ rs) k pre (suc (suc z)) e h =
     ∙ append_assoc pre (cell_of r 0 ∷ cell_of r 1 ∷ []) (wants_said rs z)
     ∙ ap (λ (q : ℕ). pre ++ (cell_of r 0 ∷ cell_of r 1 ∷ (patterns rs ++ zeros q))) (less_two z (length (patterns rs)))
 
-limit-want : limit_of 15 ≡ 16
-unfolding limit_of limits
-limit-want = refl
-
 zeros-length : (n : ℕ) → length (zeros n) ≡ n
 unfolding zeros
 zeros-length n = length-replicate n 0
@@ -75,7 +71,7 @@ module _ (text : List ℕ) (l m n at count : ℕ) (progress : Progress) (ws : Li
   pub wants-say : vs ≡ wants_said (lines_of text 15) n
   wants-say =
       let f = rows_few text l m n at count progress ws ns vs read.form 15 (omega arith) in
-      let g = limit-want in
+      let g = line_limits.wants in
       let w = read.form.wants_long in
       let z = zeros-length n in
       ap (λ (s : State). s.wants) (sym (state-end text l m n at count progress ws ns vs read.form))
