@@ -3,7 +3,7 @@ use Prim.Native.Nat.{ℕ, zero, suc, ◌+◌}
 use mathlib.Core.Path.{◌≡◌, sym, subst}
 use mathlib.Core.Bool.{Bool, true, false, cond}
 use mathlib.Core.List.{List, [], ◌∷◌}
-use lib.ListN.{length, set, replicate}
+use lib.ListN.{length, get_or, set, replicate}
 use lib.Dec.{ltb}
 use lib.Ieee.{Float, binary64, of_bits}
 use lib.Ieee.Fits.{nan-fits}
@@ -11,13 +11,14 @@ use lib.Ieee.Bits.{of_bits-fits}
 use Rattle.reader_schema.specs.Schema.{limit_of}
 use Rattle.reader_lines.specs.Columns.{cell_of}
 use Rattle.reader_lines.specs.declared.columns.Cells.{Cells}
-use Rattle.reader_store.specs.Layout.{number_place, number_put, numbers_below}
+use Rattle.reader_store.specs.Layout.{number_lines, number_columns, numbers_kept}
+use Rattle.reader_store.proofs.Puts.{cells-keep}
 use Rattle.reader_store.specs.Progress.{start_progress}
 use Rattle.reader_store.specs.declared.progress.Progress.{Progress}
 use Rattle.admission_laws.proofs.Fitting.{Fits64, Fitting}
 use Rattle.reader_calls.specs.Reading.{Outcome, done, stop, table_at, counted_progress, by_outcome, tables_from, zeros, zero_numbers, reading_of}
 use Rattle.reader_laws.specs.Lines.{Lines, lines, broken, table_lines}
-use Rattle.reader_laws.proofs.NumbersKept.{place_of, rows_put}
+use Rattle.reader_laws.proofs.NumbersKept.{rows_put}
 use Rattle.reader_laws.proofs.LinesKept.{Agree, table-agree}
 use Rattle.reader_laws.proofs.ReadTables.{accepted}
 
@@ -35,25 +36,19 @@ set-fits (x ∷ ns) zero v h f (suc k) = h (suc k)
 set-fits (x ∷ ns) (suc p) v h f zero = h zero
 set-fits (x ∷ ns) (suc p) v h f (suc k) = set-fits ns p v (λ j. h (suc j)) f k
 
--- ---- a cell, a line, the lines of a table
+-- ---- a line, the lines of a table
 
-put-fits : (t k c v : ℕ) (ns : List Float) → Fitting ns → Fitting (number_put t k c v ns)
-unfolding number_put
-put-fits t k c v ns h = go (ltb 0 (number_place t c))
-  where
-    go : (b : Bool) → Fitting (cond b (set ns (place_of t k c) (of_bits binary64 v)) ns)
-    go true = set-fits ns (place_of t k c) (of_bits binary64 v) h (of_bits-fits binary64 v)
-    go false = h
-
-line-fits : (t k : ℕ) (cells : Cells) (n : ℕ) (ns : List Float) → Fitting ns → Fitting (numbers_below t k cells n ns)
-unfolding numbers_below
-line-fits t k cells zero ns h = h
-line-fits t k cells (suc n) ns h = put-fits t k n (cell_of cells n) (numbers_below t k cells n ns) (line-fits t k cells n ns h)
+line-fits : (t k : ℕ) (cells : Cells) (ns : List Float) → Fitting ns → Fitting (numbers_kept t k cells ns)
+unfolding numbers_kept
+line-fits t k cells ns h =
+    let first : ℕ = (number_lines t).first + k * (number_lines t).stride in
+    let kept : ℕ → Float = λ i. of_bits binary64 (cell_of cells (get_or (number_columns t) i 0)) in
+    cells-keep (of_bits binary64) cells Fitting (number_columns t) first (λ i l xs f. set-fits xs (first + i) (kept i) f (of_bits-fits binary64 (cell_of cells (get_or (number_columns t) i 0)))) ns h
 
 rows_fit : (t : ℕ) (rows : List Cells) (k : ℕ) (ns : List Float) → Fitting ns → Fitting (rows_put t k rows ns)
 unfolding rows_put
 rows_fit t [] k ns h = h
-rows_fit t (r ∷ rs) k ns h = rows_fit t rs (k + 1) (numbers_below t k r 8 ns) (line-fits t k r 8 ns h)
+rows_fit t (r ∷ rs) k ns h = rows_fit t rs (k + 1) (numbers_kept t k r ns) (line-fits t k r ns h)
 
 -- ---- tables
 
@@ -83,4 +78,4 @@ pub read_fits : (text : List ℕ) (l m n at count : ℕ) (progress : Progress) (
 unfolding zero_numbers
 read_fits text l m n at count progress ws ns vs read =
     let a = accepted text l m n at count progress ws ns vs read in
-    subst FitBy a.tables (tables-fit 16 0 text 0 0 start_progress (zeros l) (zero_numbers m) (zeros n) (blank-fits m))
+    subst FitBy a.stored.form.tables (tables-fit 16 0 text 0 0 start_progress (zeros l) (zero_numbers m) (zeros n) (blank-fits m))

@@ -54,4 +54,4 @@ tables-few (suc n) t text at count progress ws ns vs e =
 pub wants-few : (text : List ℕ) (l m n at count : ℕ) (progress : Progress) (ws : List ℕ) (ns : List Float) (vs : List ℕ) → reading_of text l m n ≡ done at count progress ws ns vs → count ≤ 16
 wants-few text l m n at count progress ws ns vs read =
     let a = accepted text l m n at count progress ws ns vs read in
-    subst Few a.tables (tables-few 15 0 text 0 0 start_progress (zeros l) (zero_numbers m) (zeros n) refl)
+    subst Few a.stored.form.tables (tables-few 15 0 text 0 0 start_progress (zeros l) (zero_numbers m) (zeros n) refl)

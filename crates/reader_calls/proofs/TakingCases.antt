@@ -18,8 +18,8 @@ use Rattle.reader_lines.specs.ValuesLine.{values_at}
 use Rattle.reader_lines.specs.declared.columns.Order.{Order}
 use Rattle.reader_lines.specs.declared.names_line.Head.{Head}
 use Rattle.reader_lines.specs.declared.values_line.Values.{Values}
-use Rattle.reader_store.specs.Layout.{numbers_below, wants_kept, count_kept}
-use Rattle.reader_store.specs.Progress.{start_progress, ended_progress}
+use Rattle.reader_store.specs.Layout.{numbers_kept, wants_kept, count_kept}
+use Rattle.reader_store.specs.Progress.{ended_progress}
 use Rattle.reader_store.specs.Keep.{kept_words, kept_progress}
 use Rattle.reader_store.specs.declared.progress.Progress.{Progress}
 use Rattle.reader_calls.specs.Reading.{Outcome, done, stop, lines_from, table_at, tables_from, counted_progress}
@@ -41,19 +41,10 @@ pub agree_err : (o : Outcome) (f : Refusal) {r : Result Taken Refusal} (us : Lis
 agree_err o f us xs ys e h = rw e h
 
 pub no-refusal : {A : Type 0} {a : A} {m : ℕ} → ◌≡◌ {A = Answer A} (value a) (refused m) → ⊥
-no-refusal e = let z : ◌≡◌ {A = ℕ} 0 1 = cc in omega arith
+no-refusal e = cc
 
 pub same_Ok : {r q : Taken} → ◌≡◌ {A = Result Taken Refusal} (Ok r) (Ok q) → r ≡ q
 same_Ok e = cc
-
-from_start : (limit table : ℕ) → limit ≡ limit_of table → limit_of table ≡ limit - 0
-from_start limit table e = omega (arith, e)
-
--- before the first line, with the limit that the code looked up
-pub lines_start :
-    (table : ℕ) (order : Order) (text : List ℕ) (at : ℕ) (progress : Progress) (ws : List ℕ) (ns : List Float) (vs : List ℕ) {limit : ℕ} → limit ≡ limit_of table
-    → lines_from (limit_of table) table order text at 0 progress ws ns vs ≡ lines_from (limit - 0) table order text at 0 progress ws ns vs
-lines_start table order text at progress ws ns vs {limit} e = rw (← from_start limit table e)
 
 module _ (table : ℕ) (order : Order) (text : List ℕ) (at k : ℕ) (progress : Progress) (ws : List ℕ) (ns : List Float) (vs : List ℕ) {b : ℕ}
     (e : b ≡ byte_at text at) where
@@ -79,7 +70,7 @@ module _ (table : ℕ) (order : Order) (text : List ℕ) (at k : ℕ) (progress 
     -- a line that is kept
     pub lines_next :
         (limit : ℕ) {row : Values} {t : Progress} {us : List ℕ} {xs : List Float} {ys : List ℕ} → k < limit → found ≡ Some row
-        → t ≡ kept_progress table k row.cells progress ws → us ≡ kept_words table k row.cells progress ws → xs ≡ numbers_below table k row.cells 8 ns
+        → t ≡ kept_progress table k row.cells progress ws → us ≡ kept_words table k row.cells progress ws → xs ≡ numbers_kept table k row.cells ns
         → ys ≡ wants_kept table k row.cells vs
         → lines_from (limit - k) table order text at k progress ws ns vs ≡ lines_from (limit - (k + 1)) table order text row.next (k + 1) t us xs ys
     unfolding lines_from
@@ -103,10 +94,6 @@ module _ (table : ℕ) (text : List ℕ) (at : ℕ) (progress : Progress) (ws : 
         → table_at table text at progress ws ns vs ≡ lines_from (limit_of table) table head.order text head.next 0 progress ws ns vs
     unfolding table_at
     table_lines_lem k = rw (← e, ← f, eq-eqb name.value w h, ← g, k)
-
-pub tables_start : (text : List ℕ) (ws : List ℕ) (ns : List Float) (vs : List ℕ) {progress : Progress} → progress ≡ start_progress
-    → tables_from 16 0 text 0 0 start_progress ws ns vs ≡ tables_from (16 - 0) 0 text 0 0 progress ws ns vs
-tables_start text ws ns vs e = rw e
 
 one_more_lem : (limit table : ℕ) → table < limit → limit - table ≡ suc (limit - (table + 1))
 one_more_lem limit table l = omega arith

@@ -6,7 +6,7 @@ use Rattle.std.specs.Float.Ieee.{of_bits}
 use Rattle.refusals.specs.Answer.{Answer, value, refused}
 use Rattle.records.specs.Layout.{words_needed, numbers_needed, wants_needed}
 use Rattle.admission.specs.Admission.{admit_call}
-use Rattle.reader_schema.specs.Tables.{road_table, table_count, columns_most}
+use Rattle.reader_schema.specs.Tables.{road_table, table_count}
 use Rattle.reader_schema.specs.Schema.{name_of, limit_of}
 use Rattle.reader_cells.specs.Cells.{byte_at, name_span}
 use Rattle.reader_lines.specs.NamesLine.{head_at}
@@ -15,7 +15,7 @@ use Rattle.reader_lines.specs.declared.columns.Order.{Order}
 use Rattle.reader_lines.specs.declared.columns.Cells.{Cells}
 use Rattle.reader_lines.specs.declared.names_line.Head.{Head}
 use Rattle.reader_lines.specs.declared.values_line.Values.{Values}
-use Rattle.reader_store.specs.Layout.{numbers_below, wants_kept, count_kept}
+use Rattle.reader_store.specs.Layout.{numbers_kept, wants_kept, count_kept}
 use Rattle.reader_store.specs.Progress.{start_progress, unsound_progress, ended_progress}
 use Rattle.reader_store.specs.Keep.{kept_words, kept_progress}
 use Rattle.reader_store.specs.declared.progress.Progress.{Progress}
@@ -40,7 +40,7 @@ lines_from (suc fuel) table order text at k progress ws ns vs =
     cond (eqb (byte_at text at) 10) (done (at + 1) k (ended_progress progress) (count_kept table k ws) ns vs)
     (by_values (values_at text at table order)
     (λ cells next.
-    lines_from fuel table order text next (k + 1) (kept_progress table k cells progress ws) (kept_words table k cells progress ws) (numbers_below table k cells columns_most ns) (wants_kept table k cells vs)))
+    lines_from fuel table order text next (k + 1) (kept_progress table k cells progress ws) (kept_words table k cells progress ws) (numbers_kept table k cells ns) (wants_kept table k cells vs)))
 
 -- by a line of names: what the order of its columns and the place after it lead to, or a broken form
 abbrev pub by_head : Option Head → (Order → ℕ → Outcome) → Outcome
@@ -101,12 +101,12 @@ zero_numbers n = replicate n (of_bits binary64 0)
 unfoldable pub reading_of : List ℕ → ℕ → ℕ → ℕ → Outcome
 reading_of text n m l = reading_by text (zeros n) (zero_numbers m) (zeros l)
 
--- its answer: how many wants, or the number of the refusal
+-- a reading's answer: how many wants, or the number of the refusal
 abbrev pub verdict_of : Outcome → Answer ℕ
 verdict_of (done at lines progress ws ns vs) = value lines
 verdict_of (stop m) = refused m
 
--- what the slices hold after it: "A refused reading leaves zeros in all road slices"
+-- what the slices hold after a reading: "A refused reading leaves zeros in all road slices"
 abbrev pub words_held : ℕ → Outcome → List ℕ
 words_held n (done at lines progress ws ns vs) = ws
 words_held n (stop m) = zeros n

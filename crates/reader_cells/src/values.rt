@@ -114,6 +114,6 @@ pub fn cell_at(text: &[u8], at: usize, kind: Kind) -> Option<Span>
     match kind {
         Kind::Number => hex_at(text, at),
         Kind::Whole => whole_at(text, at),
-        words => listed_at(text, at, words.number()),
+        words => listed_at(text, at, usize::from(words)),
     }
 }

@@ -1,3 +1,2 @@
 pub mod HexDigits
 pub mod HexWritten
-pub mod OneNan

@@ -22,24 +22,24 @@ use Rattle.reader_lines.specs.declared.names_line.Head.{Head}
 use Rattle.reader_lines.specs.declared.values_line.Values.{Values}
 use Rattle.reader_lines.specs.declared.columns.Order.{Order}
 use Rattle.reader_lines.specs.declared.columns.Cells.{Cells}
-use Rattle.reader_store.specs.Layout.{number_lines, word_lines, word_row, word_place, count_place, put_at, count_kept, numbers_below, wants_kept}
+use Rattle.reader_store.specs.Layout.{word_lines, word_columns, count_place, put_at, count_kept, numbers_kept, wants_kept}
 use Rattle.reader_store.specs.Progress.{start_progress, ended_progress}
 use Rattle.reader_store.specs.Keep.{kept_words, kept_progress}
 use Rattle.reader_store.specs.declared.progress.Progress.{Progress}
 use Rattle.reader_calls.specs.Reading.{Outcome, done, stop, by_outcome, lines_from, table_at, counted_progress, tables_from, zeros, zero_numbers, by_values, by_head}
 use Rattle.reader_laws.specs.Lines.{Lines, lines, broken, by_lines, table_lines, tables_lines, lines_of}
 use Rattle.reader_laws.proofs.LowWords.{or_else, Low, low_same, low-then, kept_low}
-use Rattle.reader_laws.proofs.ReadTables.{Stored}
+use Rattle.reader_laws.proofs.ReadTables.{RightForm}
 use Rattle.reader_laws.proofs.LinesKept.{Agree, table-agree}
 
 -- ---- the layout's tests: words of lines and ranges stand past the counts; each count has its own word
 
-words-test : all_below (λ t. all_below (λ c. eqb (word_place t c) 0 || leb 7 (word_lines t).first) 8) 16 ≡ true
-unfolding all_below number_lines word_lines word_place word_row
+words-test : all_below (λ t. eqb (length (word_columns t)) 0 || leb 7 (word_lines t).first) 16 ≡ true
+unfolding all_below word_lines word_columns
 words-test = refl
 
 -- the table whose count a word is
-owner : ℕ → ℕ
+abbrev pub owner : ℕ → ℕ
 owner p = get_or (1 ∷ 2 ∷ 3 ∷ 4 ∷ 5 ∷ 6 ∷ 10 ∷ []) p 0
 
 owned : Option ℕ → ℕ → Bool
@@ -47,22 +47,13 @@ owned (Some p) t = ltb p 7 && eqb t (owner p)
 owned None t = true
 
 owners-test : all_below (λ t. owned (count_place t) t) 16 ≡ true
-unfolding all_below count_place owned owner
+unfolding all_below count_place owned
 owners-test = refl
 
-module _ (t : ℕ) (small : t < 16) where
-  column-below : (c : ℕ) → 0 < word_place t c → c < 8
-  unfolding word_place
-  column-below c h = go (ltb c 8) refl h
-    where
-      go : (b : Bool) → ltb c 8 ≡ b → 0 < cond b (get_or (word_row t) c 0) 0 → c < 8
-      go true e p = ltb-true c 8 e
-      go false e p = absurd (not-suc-le-zero p)
-
-  pub word-past : (c : ℕ) → 0 < word_place t c → 7 ≤ (word_lines t).first
-  word-past c h =
-      let a = all-at (λ c. eqb (word_place t c) 0 || leb 7 (word_lines t).first) 8 (all-at (λ t. all_below (λ c. eqb (word_place t c) 0 || leb 7 (word_lines t).first) 8) 16 words-test t small) c (column-below c h) in
-      leb-true 7 (word_lines t).first (or_else (eqb (word_place t c) 0) (leb 7 (word_lines t).first) a (ne_eqb (word_place t c) 0 (λ z. omega arith)))
+pub word-past : (t : ℕ) → t < 16 → 0 < length (word_columns t) → 7 ≤ (word_lines t).first
+word-past t small h =
+    leb-true 7 (word_lines t).first
+    (or_else (eqb (length (word_columns t)) 0) (leb 7 (word_lines t).first) (all-at (λ t. eqb (length (word_columns t)) 0 || leb 7 (word_lines t).first) 16 words-test t small) (ne_eqb (length (word_columns t)) 0 (λ z. omega arith)))
 
 -- ---- a table
 
@@ -87,7 +78,7 @@ module _ (t : ℕ) (small : t < 16) where
   pub count-few : (p : ℕ) → count_place t ≡ Some p → p < 7
   count-few p e = ltb-true p 7 (row p e).0
 
-  count-owner : (p : ℕ) → count_place t ≡ Some p → t ≡ owner p
+  pub count-owner : (p : ℕ) → count_place t ≡ Some p → t ≡ owner p
   count-owner p e = eqb-true t (owner p) (row p e).1
 
   count-tallied : (n : ℕ) (xs ws : List ℕ) → Low 7 xs ws → Tallied t ws n (count_kept t n xs)
@@ -117,10 +108,10 @@ module _ (t : ℕ) (small : t < 16) where
   lines-tallied (suc fuel) order text at k progress ws ns vs from h =
       go (eqb (byte_at text at) 10) (values_at text at t order)
       (λ cells next.
-      lines-tallied fuel order text next (k + 1) (kept_progress t k cells progress ws) (kept_words t k cells progress ws) (numbers_below t k cells 8 ns) (wants_kept t k cells vs) from
+      lines-tallied fuel order text next (k + 1) (kept_progress t k cells progress ws) (kept_words t k cells progress ws) (numbers_kept t k cells ns) (wants_kept t k cells vs) from
       (low-then 7 (kept_words t k cells progress ws) ws from (kept_low 7 (omega arith) t (word-past t small) k cells progress ws) h))
     where
-      go : (a : Bool) (x : Option Values) → ((cells : Cells) (next : ℕ) → TalliedBy t from (lines_from fuel t order text next (k + 1) (kept_progress t k cells progress ws) (kept_words t k cells progress ws) (numbers_below t k cells 8 ns) (wants_kept t k cells vs))) → TalliedBy t from (cond a (done (at + 1) k (ended_progress progress) (count_kept t k ws) ns vs) (by_values x (λ cells next. lines_from fuel t order text next (k + 1) (kept_progress t k cells progress ws) (kept_words t k cells progress ws) (numbers_below t k cells 8 ns) (wants_kept t k cells vs))))
+      go : (a : Bool) (x : Option Values) → ((cells : Cells) (next : ℕ) → TalliedBy t from (lines_from fuel t order text next (k + 1) (kept_progress t k cells progress ws) (kept_words t k cells progress ws) (numbers_kept t k cells ns) (wants_kept t k cells vs))) → TalliedBy t from (cond a (done (at + 1) k (ended_progress progress) (count_kept t k ws) ns vs) (by_values x (λ cells next. lines_from fuel t order text next (k + 1) (kept_progress t k cells progress ws) (kept_words t k cells progress ws) (numbers_kept t k cells ns) (wants_kept t k cells vs))))
       go true x ih = count-tallied k ws from h
       go false (Some row) ih = ih row.cells row.next
       go false None ih = tt
@@ -211,12 +202,11 @@ zeros-blank zero i = refl
 zeros-blank (suc n) zero = refl
 zeros-blank (suc n) (suc i) = zeros-blank n i
 
-module _ (text : List ℕ) (l m n at count : ℕ) (progress : Progress) (ws : List ℕ) (ns : List Float) (vs : List ℕ) (read : Stored text l m n (done at count progress ws ns vs)) where
+module _ (text : List ℕ) (l m n at count : ℕ) (progress : Progress) (ws : List ℕ) (ns : List Float) (vs : List ℕ) (form : RightForm text l m n (done at count progress ws ns vs)) where
   all-counts : Counts 16 0 (zeros l) ws (tables_lines 16 0 text 0)
   all-counts =
-      let a = read in
-      let long = a.words_long in
-      subst (λ (o : Outcome). CountsBy 16 0 (zeros l) (tables_lines 16 0 text 0) o) a.tables
+      let long = form.words_long in
+      subst (λ (o : Outcome). CountsBy 16 0 (zeros l) (tables_lines 16 0 text 0) o) form.tables
       (tables-counted 16 0 text 0 0 start_progress (zeros l) (zero_numbers m) (zeros n) (omega arith) (omega arith) (λ u p h i e. zeros-blank l p))
 
   -- of geom, elev, bank, offset, tshift, section and profile

@@ -9,10 +9,10 @@ use lib.ListN.{length, get_or, set, length-set}
 use lib.Seq.{get_or-set_same, get_or-set_other}
 use lib.Dec.{eqb, ltb, leb}
 use lib.Ieee.{Float}
-use borrow.Author.Tests.{ltb-true, leb-true, eqb-true, eqb-false, ne_eqb}
+use borrow.Author.Tests.{leb-true, eqb-true, eqb-false, ne_eqb}
 use Rattle.records_lent.specs.Lists.{all_below}
 use Rattle.records_lent.proofs.TestLaws.{all-at}
-use Rattle.reader_schema.specs.Schema.{name_of, limits, limit_of}
+use Rattle.reader_schema.specs.Schema.{name_of, limit_of}
 use Rattle.reader_cells.specs.Cells.{byte_at, name_span}
 use Rattle.reader_lines.specs.NamesLine.{head_at}
 use Rattle.reader_lines.specs.ValuesLine.{values_at}
@@ -22,7 +22,7 @@ use Rattle.reader_lines.specs.declared.values_line.Values.{Values}
 use Rattle.reader_lines.specs.declared.columns.Order.{Order}
 use Rattle.reader_lines.specs.Columns.{cell_of, no_cells}
 use Rattle.reader_lines.specs.declared.columns.Cells.{Cells}
-use Rattle.reader_store.specs.Layout.{number_lines, word_lines, word_row, word_place, code_of, word_put, words_below, count_place, put_at, count_kept, rule_of, numbers_below, wants_kept}
+use Rattle.reader_store.specs.Layout.{word_lines, word_columns, code_of, cells_kept, codes_kept, count_place, put_at, count_kept, rule_of, numbers_kept, wants_kept}
 use Rattle.reader_store.specs.Progress.{start_progress, ended_progress}
 use Rattle.reader_store.specs.Keep.{ruled_words, kept_words, kept_progress}
 use Rattle.reader_store.specs.declared.progress.Progress.{Progress}
@@ -30,7 +30,8 @@ use Rattle.reader_calls.specs.Reading.{Outcome, done, stop, by_outcome, lines_fr
 use Rattle.reader_laws.specs.Lines.{Lines, lines, broken, after, by_lines, lines_at, table_lines, tables_lines, lines_of, by_row, by_names}
 use Rattle.reader_laws.proofs.LowWords.{or_else, Low, low_same, low-then, kept_low}
 use Rattle.reader_laws.proofs.CountsKept.{count-few}
-use Rattle.reader_laws.proofs.ReadTables.{Stored}
+use Rattle.reader_laws.proofs.LineLimits.{line_limits}
+use Rattle.reader_laws.proofs.ReadTables.{RightForm}
 use Rattle.reader_laws.proofs.LinesKept.{Agree, table-agree}
 
 -- ---- the lines of geom
@@ -59,10 +60,10 @@ kinds-same (r ∷ rs) k (suc i) ws h l =
     next k i = omega arith
 
 kind-line : (k : ℕ) (cells : Cells) (progress : Progress) (ws : List ℕ) → kept_words 1 k cells progress ws ≡ set ws (7 + k) (code_of (cell_of cells 5))
-unfolding kept_words ruled_words words_below word_put word_place word_row number_lines word_lines rule_of
+unfolding kept_words ruled_words codes_kept cells_kept word_columns word_lines rule_of
 kind-line k cells progress ws = ap (λ (p : ℕ). set ws p (code_of (cell_of cells 5))) (place k)
   where
-    place : (k : ℕ) → 7 + k * 1 + 0 ≡ 7 + k
+    place : (k : ℕ) → 7 + k * 1 ≡ 7 + k
     place k = omega arith
 
 -- a count is kept below 7
@@ -93,10 +94,10 @@ kinds-lines zero order text at k progress ws ns vs = go (eqb (byte_at text at) 1
     go true x = count_past 1 (omega arith) k ws
     go false (Some row) = tt
     go false None = tt
-kinds-lines (suc fuel) order text at k progress ws ns vs = go (eqb (byte_at text at) 10) (values_at text at 1 order) (λ cells next. kinds-lines fuel order text next (k + 1) (kept_progress 1 k cells progress ws) (kept_words 1 k cells progress ws) (numbers_below 1 k cells 8 ns) (wants_kept 1 k cells vs))
+kinds-lines (suc fuel) order text at k progress ws ns vs = go (eqb (byte_at text at) 10) (values_at text at 1 order) (λ cells next. kinds-lines fuel order text next (k + 1) (kept_progress 1 k cells progress ws) (kept_words 1 k cells progress ws) (numbers_kept 1 k cells ns) (wants_kept 1 k cells vs))
   where
-    go : (a : Bool) (x : Option Values) → ((cells : Cells) (next : ℕ) → KindsBy (k + 1) (kept_words 1 k cells progress ws) (lines_at fuel 1 order text next) (lines_from fuel 1 order text next (k + 1) (kept_progress 1 k cells progress ws) (kept_words 1 k cells progress ws) (numbers_below 1 k cells 8 ns) (wants_kept 1 k cells vs)))
-        → KindsBy k ws (cond a (lines [] (at + 1)) (by_row x (λ cells next. after cells (lines_at fuel 1 order text next)))) (cond a (done (at + 1) k (ended_progress progress) (count_kept 1 k ws) ns vs) (by_values x (λ cells next. lines_from fuel 1 order text next (k + 1) (kept_progress 1 k cells progress ws) (kept_words 1 k cells progress ws) (numbers_below 1 k cells 8 ns) (wants_kept 1 k cells vs))))
+    go : (a : Bool) (x : Option Values) → ((cells : Cells) (next : ℕ) → KindsBy (k + 1) (kept_words 1 k cells progress ws) (lines_at fuel 1 order text next) (lines_from fuel 1 order text next (k + 1) (kept_progress 1 k cells progress ws) (kept_words 1 k cells progress ws) (numbers_kept 1 k cells ns) (wants_kept 1 k cells vs)))
+        → KindsBy k ws (cond a (lines [] (at + 1)) (by_row x (λ cells next. after cells (lines_at fuel 1 order text next)))) (cond a (done (at + 1) k (ended_progress progress) (count_kept 1 k ws) ns vs) (by_values x (λ cells next. lines_from fuel 1 order text next (k + 1) (kept_progress 1 k cells progress ws) (kept_words 1 k cells progress ws) (numbers_kept 1 k cells ns) (wants_kept 1 k cells vs))))
     go true x ih = count_past 1 (omega arith) k ws
     go false (Some row) ih = kinds-after k row.cells progress ws (lines_at fuel 1 order text row.next) _ (ih row.cells row.next)
     go false None ih = tt
@@ -114,8 +115,8 @@ kinds-table text at progress ws ns vs =
 
 -- ---- the other tables
 
-others-test : all_below (λ t. all_below (λ c. eqb t 1 || (eqb (word_place t c) 0 || leb 71 (word_lines t).first)) 8) 16 ≡ true
-unfolding all_below number_lines word_lines word_place word_row
+others-test : all_below (λ t. eqb t 1 || (eqb (length (word_columns t)) 0 || leb 71 (word_lines t).first)) 16 ≡ true
+unfolding all_below word_lines word_columns
 others-test = refl
 
 abbrev OthersBy : List ℕ → Outcome → Type 0
@@ -131,19 +132,12 @@ count-length t n ws = go (count_place t)
     go None = refl
 
 module _ (t : ℕ) (small : t < 16) (unlike : t ≡ 1 → ⊥) where
-  column-below : (c : ℕ) → 0 < word_place t c → c < 8
-  unfolding word_place
-  column-below c h = go (ltb c 8) refl h
-    where
-      go : (b : Bool) → ltb c 8 ≡ b → 0 < cond b (get_or (word_row t) c 0) 0 → c < 8
-      go true e p = ltb-true c 8 e
-      go false e p = absurd (not-suc-le-zero p)
-
-  word-past : (c : ℕ) → 0 < word_place t c → 71 ≤ (word_lines t).first
-  word-past c h =
-      let a = all-at (λ c. eqb t 1 || (eqb (word_place t c) 0 || leb 71 (word_lines t).first)) 8 (all-at (λ t. all_below (λ c. eqb t 1 || (eqb (word_place t c) 0 || leb 71 (word_lines t).first)) 8) 16 others-test t small) c (column-below c h) in
-      let b = or_else (eqb t 1) (eqb (word_place t c) 0 || leb 71 (word_lines t).first) a (ne_eqb t 1 unlike) in
-      leb-true 71 (word_lines t).first (or_else (eqb (word_place t c) 0) (leb 71 (word_lines t).first) b (ne_eqb (word_place t c) 0 (λ z. omega arith)))
+  word-past : 0 < length (word_columns t) → 71 ≤ (word_lines t).first
+  word-past h =
+      let past = leb 71 (word_lines t).first in
+      let none = eqb (length (word_columns t)) 0 in
+      let a = all-at (λ t. eqb t 1 || (eqb (length (word_columns t)) 0 || leb 71 (word_lines t).first)) 16 others-test t small in
+      leb-true 71 (word_lines t).first (or_else none past (or_else (eqb t 1) (none || past) a (ne_eqb t 1 unlike)) (ne_eqb (length (word_columns t)) 0 (λ z. omega arith)))
 
   ended : (k : ℕ) (ws from : List ℕ) → Low 71 ws from → (length (count_kept t k ws) ≡ length from) × ((j : ℕ) → 7 ≤ j → j < 71 → get_or (count_kept t k ws) j 0 ≡ get_or from j 0)
   ended k ws from h = (count-length t k ws ∙ h.0, λ j p q. count_past t small k ws j p ∙ h.1 j q)
@@ -160,10 +154,10 @@ module _ (t : ℕ) (small : t < 16) (unlike : t ≡ 1 → ⊥) where
   others-lines (suc fuel) order text at k progress ws ns vs from h =
       go (eqb (byte_at text at) 10) (values_at text at t order)
       (λ cells next.
-      others-lines fuel order text next (k + 1) (kept_progress t k cells progress ws) (kept_words t k cells progress ws) (numbers_below t k cells 8 ns) (wants_kept t k cells vs) from
+      others-lines fuel order text next (k + 1) (kept_progress t k cells progress ws) (kept_words t k cells progress ws) (numbers_kept t k cells ns) (wants_kept t k cells vs) from
       (low-then 71 (kept_words t k cells progress ws) ws from (kept_low 71 (omega arith) t word-past k cells progress ws) h))
     where
-      go : (a : Bool) (x : Option Values) → ((cells : Cells) (next : ℕ) → OthersBy from (lines_from fuel t order text next (k + 1) (kept_progress t k cells progress ws) (kept_words t k cells progress ws) (numbers_below t k cells 8 ns) (wants_kept t k cells vs))) → OthersBy from (cond a (done (at + 1) k (ended_progress progress) (count_kept t k ws) ns vs) (by_values x (λ cells next. lines_from fuel t order text next (k + 1) (kept_progress t k cells progress ws) (kept_words t k cells progress ws) (numbers_below t k cells 8 ns) (wants_kept t k cells vs))))
+      go : (a : Bool) (x : Option Values) → ((cells : Cells) (next : ℕ) → OthersBy from (lines_from fuel t order text next (k + 1) (kept_progress t k cells progress ws) (kept_words t k cells progress ws) (numbers_kept t k cells ns) (wants_kept t k cells vs))) → OthersBy from (cond a (done (at + 1) k (ended_progress progress) (count_kept t k ws) ns vs) (by_values x (λ cells next. lines_from fuel t order text next (k + 1) (kept_progress t k cells progress ws) (kept_words t k cells progress ws) (numbers_kept t k cells ns) (wants_kept t k cells vs))))
       go true x ih = ended k ws from h
       go false (Some row) ih = ih row.cells row.next
       go false None ih = tt
@@ -199,10 +193,6 @@ join-other n t unlike ws us same rows tables (done at count progress xs ns vs) h
     kinds zero k e l m = absurd (unlike (omega arith))
     kinds (suc i) k e l m = h.kind i k (omega arith) (le_of_suc-le-suc l) m
 
-limit-geom : limit_of 1 ≡ 64
-unfolding limit_of limits
-limit-geom = refl
-
 -- geom, then the rest
 join-geom : (n : ℕ) (ws us : List ℕ) (rows : List Cells) → 71 ≤ length ws → length rows ≤ limit_of 1 → ((j : ℕ) → 7 ≤ j → get_or us j 0 ≡ get_or (kinds_put 0 rows ws) j 0) → (tables : List (List Cells)) (o : Outcome)
     → KindsOf n (1 + 1) us tables o → KindsOf (suc n) 1 ws (rows ∷ tables) o
@@ -211,7 +201,7 @@ join-geom n ws us rows long few put tables (done at count progress xs ns vs) h =
   where
     kinds : (i k : ℕ) → 1 + i ≡ 1 → i < suc n → k < length (get_or (rows ∷ tables) i []) → get_or xs (7 + k) 0 ≡ code_of (cell_of (get_or (get_or (rows ∷ tables) i []) k no_cells) 5)
     kinds zero k e l m =
-        let g = limit-geom in
+        let g = line_limits.geoms in
         h.other (omega arith) (7 + k) (omega arith) (omega arith) ∙ put (7 + k) (omega arith)
         ∙ ap (λ (j : ℕ). get_or (kinds_put 0 rows ws) (7 + j) 0) (sym (zero-add k))
         ∙ kinds-same rows 0 k ws m (omega arith)
@@ -256,13 +246,12 @@ tables-kinds (suc n) t text at count progress ws ns vs most long =
 
 -- ---- a whole text
 
-pub kind-kept : (text : List ℕ) (l m n at count : ℕ) (progress : Progress) (ws : List ℕ) (ns : List Float) (vs : List ℕ) → Stored text l m n (done at count progress ws ns vs)
+pub kind-kept : (text : List ℕ) (l m n at count : ℕ) (progress : Progress) (ws : List ℕ) (ns : List Float) (vs : List ℕ) → RightForm text l m n (done at count progress ws ns vs)
     → (k : ℕ) → k < length (lines_of text 1) → get_or ws (7 + k) 0 ≡ code_of (cell_of (get_or (lines_of text 1) k no_cells) 5)
 unfolding lines_of
-kind-kept text l m n at count progress ws ns vs read k h =
-    let a = read in
+kind-kept text l m n at count progress ws ns vs form k h =
     let all : Kinds 16 0 (zeros l) ws (tables_lines 16 0 text 0) =
-    subst (λ (o : Outcome). KindsOf 16 0 (zeros l) (tables_lines 16 0 text 0) o) a.tables
-    (tables-kinds 16 0 text 0 0 start_progress (zeros l) (zero_numbers m) (zeros n) (omega arith) (λ z. let w = a.words_long in omega arith))
+    subst (λ (o : Outcome). KindsOf 16 0 (zeros l) (tables_lines 16 0 text 0) o) form.tables
+    (tables-kinds 16 0 text 0 0 start_progress (zeros l) (zero_numbers m) (zeros n) (omega arith) (λ z. let w = form.words_long in omega arith))
     in
     all.kind 1 k refl (omega arith) h

@@ -20,7 +20,8 @@ use Rattle.records.specs.Roads.{Lane, road_of, geom_shape_of, geom_in, unused_in
 use Rattle.records.proofs.CubicLaws.{height-count, height_in_lem}
 use Rattle.reader_schema.specs.Tables.{geom_table, elev_table, bank_table, offset_table, tshift_table, section_table, lane_table, extent_table, height_table, profile_table, shape_table, strip_table, cubic_table, mark_table, want_table}
 use Rattle.reader_schema.specs.Schema.{limits, limit_of}
-use Rattle.reader_store.specs.Layout.{number_lines, word_lines, number_row, number_place, word_row, word_place, count_place, base_of, stride_of}
+use Rattle.reader_store.specs.Layout.{number_lines, word_lines, number_columns, word_columns, count_place, base_of, stride_of}
+use Rattle.reader_laws.proofs.ColumnPlaces.{number_place, word_place}
 use Rattle.reader_store.specs.declared.layout.Family.{Family}
 use Rattle.reader_store.specs.declared.layout.Family.TheVariants.{Extent, Height, Shape, Cubic as CubicFamily, Mark as MarkFamily}
 use Rattle.reader_store.specs.Parents.{section_word}
@@ -63,31 +64,31 @@ pub record Five (t column base : ℕ) : Type 0 where
 
 -- elev, bank, offset, tshift; extent, shape, cubic
 pub elev-five : Five 2 0 elev_base
-unfolding number_lines word_lines number_place number_row
+unfolding number_lines word_lines number_place number_columns
 elev-five = record { first = refl; stride = refl; start = refl; a = refl; b = refl; c = refl; d = refl }
 
 pub bank-five : Five 3 0 bank_base
-unfolding number_lines word_lines number_place number_row
+unfolding number_lines word_lines number_place number_columns
 bank-five = record { first = refl; stride = refl; start = refl; a = refl; b = refl; c = refl; d = refl }
 
 pub offset-five : Five 4 0 offset_base
-unfolding number_lines word_lines number_place number_row
+unfolding number_lines word_lines number_place number_columns
 offset-five = record { first = refl; stride = refl; start = refl; a = refl; b = refl; c = refl; d = refl }
 
 pub tshift-five : Five 5 0 tshift_base
-unfolding number_lines word_lines number_place number_row
+unfolding number_lines word_lines number_place number_columns
 tshift-five = record { first = refl; stride = refl; start = refl; a = refl; b = refl; c = refl; d = refl }
 
 pub extent-five : Five 8 2 extent_base
-unfolding number_lines word_lines number_place number_row
+unfolding number_lines word_lines number_place number_columns
 extent-five = record { first = refl; stride = refl; start = refl; a = refl; b = refl; c = refl; d = refl }
 
 pub shape-five : Five 11 1 shape_base
-unfolding number_lines word_lines number_place number_row
+unfolding number_lines word_lines number_place number_columns
 shape-five = record { first = refl; stride = refl; start = refl; a = refl; b = refl; c = refl; d = refl }
 
 pub cubic-five : Five 13 3 cubic_base
-unfolding number_lines word_lines number_place number_row
+unfolding number_lines word_lines number_place number_columns
 cubic-five = record { first = refl; stride = refl; start = refl; a = refl; b = refl; c = refl; d = refl }
 
 pub cubic-same : {a b c d e a' b' c' d' e' : Float} → a ≡ a' → b ≡ b' → c ≡ c' → d ≡ d' → e ≡ e'
@@ -156,18 +157,18 @@ module _ (ws : List ℕ) (ns : List Float) where
         length = number_of 1 i 4;
         shape = geom_shape_of (code_of 1 i 5) (number_of 1 i 6) (number_of 1 i 7);
       }
-  unfolding geom_in number_lines word_lines number_place number_row word_place word_row
+  unfolding geom_in number_lines word_lines number_place number_columns word_place word_columns
   geom-join i =
       rw (span-at ns (1 + i * 7) 7 0 nan (omega arith), span-at ns (1 + i * 7) 7 1 nan (omega arith), span-at ns (1 + i * 7) 7 2 nan (omega arith), span-at ns (1 + i * 7) 7 3 nan (omega arith), span-at ns (1 + i * 7) 7 4 nan (omega arith), span-at ns (1 + i * 7) 7 5 nan (omega arith), span-at ns (1 + i * 7) 7 6 nan (omega arith), kind-place i)
 
   -- the columns that the kind does not use
   pub unused-join : (i : ℕ) → unused_in ws ns i ≡ unused_of (code_of 1 i 5) (number_of 1 i 6) (number_of 1 i 7)
-  unfolding unused_in number_lines word_lines number_place number_row word_place word_row
+  unfolding unused_in number_lines word_lines number_place number_columns word_place word_columns
   unused-join i = rw (kind-place i)
 
   -- the road's lists: which table, and the word of its count
   pub length-join : (road_of ws ns).length ≡ number_of 0 0 0
-  unfolding road_of number_lines word_lines number_place number_row
+  unfolding road_of number_lines word_lines number_place number_columns
   length-join = refl
 
   pub geoms-join : (road_of ws ns).geoms ≡ tabulate (geom_in ws ns) (lines_of 1)
@@ -204,7 +205,7 @@ module _ (ws : List ℕ) (ns : List Float) where
 
   -- a section: its start, its first lane and how many left and right ones; a lane counts under section_word + 1 or + 2
   pub section_start-join : (i : ℕ) → (section_in ws ns i).start ≡ number_of 6 i 0
-  unfolding section_in number_lines word_lines number_place number_row
+  unfolding section_in number_lines word_lines number_place number_columns
   section_start-join i = ap (λ (p : ℕ). get_or ns p nan) (one_more_lem 1729 i)
 
   pub left_join : (i : ℕ) → (section_in ws ns i).left ≡ tabulate (λ j. lane_in ws ns (get_or ws (section_word i) 0 + j)) (get_or ws (section_word i + 1) 0)
@@ -240,7 +241,7 @@ module _ (ws : List ℕ) (ns : List Float) where
         extents = cubics_in ws ns (number_lines 8).first (first_of Extent j) (count_of Extent j);
         heights = heights_in ws ns (first_of Height j) (count_of Height j);
       }
-  unfolding lane_in number_lines word_lines word_place word_row base_of stride_of
+  unfolding lane_in number_lines word_lines word_place word_columns base_of stride_of
   lane-join j = lane-same (119 + j * 6 + 1) (added 119 (j * 6)) (moved 2 119 (j * 6)) (moved2 2 1 119 (j * 6)) (moved 4 119 (j * 6)) (moved2 4 1 119 (j * 6))
 
   -- a section's marks, and a mark: its lane and its kind, its span
@@ -250,12 +251,12 @@ module _ (ws : List ℕ) (ns : List Float) where
 
   pub mark-join : (j : ℕ)
       → mark_in ws ns j ≡ record { lane = get_or ws (mark_words + j * mark_stride) 0; kind = get_or ws (mark_words + j * mark_stride + 1) 0; start = number_of 14 j 2; end = number_of 14 j 3 }
-  unfolding mark_in number_lines word_lines number_place number_row
+  unfolding mark_in number_lines word_lines number_place number_columns
   mark-join j = mark-same refl refl (ap (λ (p : ℕ). get_or ns p nan) (none-added (7937 + j * 2))) refl
 
   -- a profile: its s and its shapes
   pub profile-join : (i : ℕ) → profile_in ws ns i ≡ record { s = number_of 10 i 0; shapes = cubics_in ws ns (number_lines 11).first (first_of Shape i) (count_of Shape i) }
-  unfolding profile_in number_lines word_lines number_place number_row base_of stride_of
+  unfolding profile_in number_lines word_lines number_place number_columns base_of stride_of
   profile-join i = rw (one_more_lem 5841 i)
 
   -- the cubics of a strip's width or of a term: the range that `term_of` counts up
@@ -290,7 +291,7 @@ module _ (ws : List ℕ) (ns : List Float) where
   -- height: start inner outer
   pub height-join : (first count k : ℕ) → k < length (heights_in ws ns first count)
       → height_def_at (heights_in ws ns first count) k ≡ record { s_offset = number_of 9 (first + k) 2; inner = number_of 9 (first + k) 3; outer = number_of 9 (first + k) 4 }
-  unfolding number_lines word_lines number_place number_row
+  unfolding number_lines word_lines number_place number_columns
   height-join first count k h =
       let part : List Float = span ns (4305 + first * 3) (count * 3) in
       let l : k < length part / 3 = rw (height-count part) at h in

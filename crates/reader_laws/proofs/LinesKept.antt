@@ -16,7 +16,7 @@ use Rattle.reader_lines.specs.declared.names_line.Head.{Head}
 use Rattle.reader_lines.specs.declared.values_line.Values.{Values}
 use Rattle.reader_lines.specs.declared.columns.Order.{Order}
 use Rattle.reader_lines.specs.declared.columns.Cells.{Cells}
-use Rattle.reader_store.specs.Layout.{numbers_below, wants_kept, count_kept}
+use Rattle.reader_store.specs.Layout.{numbers_kept, wants_kept, count_kept}
 use Rattle.reader_store.specs.Progress.{ended_progress}
 use Rattle.reader_store.specs.Keep.{kept_words, kept_progress}
 use Rattle.reader_store.specs.declared.progress.Progress.{Progress}
@@ -30,7 +30,7 @@ Agree t fuel k ns p (stop m) = Unit {0}
 Agree t fuel k ns broken (done at n progress ws xs vs) = ⊥
 Agree t fuel k ns (lines rows next) (done at n progress ws xs vs) = (at ≡ next) × (n ≡ k + length rows) × (length rows ≤ fuel) × (xs ≡ rows_put t k rows ns)
 
-agree_after : (t fuel k : ℕ) (cells : Cells) (ns : List Float) (p : Lines) (o : Outcome) → Agree t fuel (k + 1) (numbers_below t k cells 8 ns) p o → Agree t (suc fuel) k ns (after cells p) o
+agree_after : (t fuel k : ℕ) (cells : Cells) (ns : List Float) (p : Lines) (o : Outcome) → Agree t fuel (k + 1) (numbers_kept t k cells ns) p o → Agree t (suc fuel) k ns (after cells p) o
 unfolding rows_put
 agree_after t fuel k cells ns p (stop m) a = tt
 agree_after t fuel k cells ns broken (done at n progress ws xs vs) a = a
@@ -45,11 +45,11 @@ lines-agree zero t order text at k progress ws ns vs = go (eqb (byte_at text at)
     go true x = (refl, omega arith, omega arith, refl)
     go false (Some row) = tt
     go false None = tt
-lines-agree (suc fuel) t order text at k progress ws ns vs = go (eqb (byte_at text at) 10) (values_at text at t order) (λ cells next. lines-agree fuel t order text next (k + 1) (kept_progress t k cells progress ws) (kept_words t k cells progress ws) (numbers_below t k cells 8 ns) (wants_kept t k cells vs))
+lines-agree (suc fuel) t order text at k progress ws ns vs = go (eqb (byte_at text at) 10) (values_at text at t order) (λ cells next. lines-agree fuel t order text next (k + 1) (kept_progress t k cells progress ws) (kept_words t k cells progress ws) (numbers_kept t k cells ns) (wants_kept t k cells vs))
   where
     go : (a : Bool) (x : Option Values)
-        → ((cells : Cells) (next : ℕ) → Agree t fuel (k + 1) (numbers_below t k cells 8 ns) (lines_at fuel t order text next) (lines_from fuel t order text next (k + 1) (kept_progress t k cells progress ws) (kept_words t k cells progress ws) (numbers_below t k cells 8 ns) (wants_kept t k cells vs)))
-        → Agree t (suc fuel) k ns (cond a (lines [] (at + 1)) (by_row x (λ cells next. after cells (lines_at fuel t order text next)))) (cond a (done (at + 1) k (ended_progress progress) (count_kept t k ws) ns vs) (by_values x (λ cells next. lines_from fuel t order text next (k + 1) (kept_progress t k cells progress ws) (kept_words t k cells progress ws) (numbers_below t k cells 8 ns) (wants_kept t k cells vs))))
+        → ((cells : Cells) (next : ℕ) → Agree t fuel (k + 1) (numbers_kept t k cells ns) (lines_at fuel t order text next) (lines_from fuel t order text next (k + 1) (kept_progress t k cells progress ws) (kept_words t k cells progress ws) (numbers_kept t k cells ns) (wants_kept t k cells vs)))
+        → Agree t (suc fuel) k ns (cond a (lines [] (at + 1)) (by_row x (λ cells next. after cells (lines_at fuel t order text next)))) (cond a (done (at + 1) k (ended_progress progress) (count_kept t k ws) ns vs) (by_values x (λ cells next. lines_from fuel t order text next (k + 1) (kept_progress t k cells progress ws) (kept_words t k cells progress ws) (numbers_kept t k cells ns) (wants_kept t k cells vs))))
     go true x ih = (refl, omega arith, omega arith, refl)
     go false (Some row) ih = agree_after t fuel k row.cells ns (lines_at fuel t order text row.next) _ (ih row.cells row.next)
     go false None ih = tt

@@ -1,17 +1,17 @@
 -- What a kept line leaves of the words: those below a bound of 71 at most stay, where the table's own words lie past it (`kept_low`).
-use Prim.Native.Nat.{ℕ, zero, suc, ◌+◌, ◌-◌, ◌*◌, ◌%◌, ◌<◌, ◌≤◌}
+use Prim.Native.Nat.{ℕ, ◌+◌, ◌*◌, ◌%◌, ◌<◌, ◌≤◌}
 use native.Mathlib.Omega.{arith}
 use mathlib.Core.Path.{◌≡◌, refl, ◌∙◌}
 use mathlib.Core.Bool.{Bool, true, false, ◌||◌, ◌&&◌, cond}
 use mathlib.Core.List.{List}
 use lib.ListN.{length, get_or, set, length-set}
 use lib.Seq.{get_or-set_other}
-use lib.Dec.{eqb, ltb}
-use borrow.Author.Tests.{ltb-true}
+use lib.Dec.{eqb}
 use Rattle.std.specs.Prelude.{Option, Some, None, is_some, option_map, option_and_then, IfSome}
 use Rattle.reader_lines.specs.Columns.{cell_of}
 use Rattle.reader_lines.specs.declared.columns.Cells.{Cells}
-use Rattle.reader_store.specs.Layout.{word_lines, word_place, code_of, one_more, put_at, word_put, words_below, rule_of, base_of, stride_of}
+use Rattle.reader_store.specs.Layout.{word_lines, word_columns, code_of, one_more, put_at, codes_kept, rule_of, base_of, stride_of}
+use Rattle.reader_store.proofs.Puts.{cells-keep}
 use Rattle.reader_store.specs.Progress.{strip_line}
 use Rattle.reader_store.specs.Parents.{first_if, section_at, section_word, side_of, lane_beside, lane_under, lane_turn, index_of, range_of, parent_of}
 use Rattle.reader_store.specs.Keep.{added, in_order, under_words, strip_named, strips_kept, mark_kind, mark_place, mark_put, own_words, ruled_words, kept_words}
@@ -25,8 +25,7 @@ use Rattle.reader_store.specs.declared.parents.Side.{Side}
 use Rattle.reader_store.specs.declared.progress.Progress.{Progress}
 
 pub or_else : (a b : Bool) → a || b ≡ true → a ≡ false → b ≡ true
-or_else true b e f = let z : ◌≡◌ {A = ℕ} 0 1 = cc in absurd (omega arith)
-or_else false b e f = e
+or_else a b e f = rw f at e
 
 -- ---- a line
 
@@ -44,19 +43,14 @@ pub low-set : (b : ℕ) (ws : List ℕ) (p v : ℕ) → b ≤ p → Low b (set w
 low-set b ws p v h = (length-set ws p v, λ i l. get_or-set_other ws p i v 0 (λ e. omega arith))
 
 -- words of lines, of ranges, of strips and of sections past the bound: no line of the table touches the words below it
-module _ (b : ℕ) (most : b ≤ 71) (t : ℕ) (word-past : (c : ℕ) → 0 < word_place t c → b ≤ (word_lines t).first) where
-  put_low : (k c v : ℕ) (ws : List ℕ) → Low b (word_put t k c v ws) ws
-  unfolding word_put
-  put_low k c v ws = go (ltb 0 (word_place t c)) refl
-    where
-      go : (x : Bool) → ltb 0 (word_place t c) ≡ x → Low b (cond x (set ws ((word_lines t).first + k * (word_lines t).stride + (word_place t c - 1)) (code_of v)) ws) ws
-      go true e = low-set b ws ((word_lines t).first + k * (word_lines t).stride + (word_place t c - 1)) (code_of v) (let h = word-past c (ltb-true 0 (word_place t c) e) in omega arith)
-      go false e = low_same b ws
-
-  line_low : (k : ℕ) (cells : Cells) (n : ℕ) (ws : List ℕ) → Low b (words_below t k cells n ws) ws
-  unfolding words_below
-  line_low k cells zero ws = low_same b ws
-  line_low k cells (suc n) ws = low-then b (word_put t k n (cell_of cells n) (words_below t k cells n ws)) (words_below t k cells n ws) ws (put_low k n (cell_of cells n) (words_below t k cells n ws)) (line_low k cells n ws)
+module _ (b : ℕ) (most : b ≤ 71) (t : ℕ) (word-past : 0 < length (word_columns t) → b ≤ (word_lines t).first) where
+  line_low : (k : ℕ) (cells : Cells) (ws : List ℕ) → Low b (codes_kept t k cells ws) ws
+  unfolding codes_kept
+  line_low k cells ws =
+      let first : ℕ = (word_lines t).first + k * (word_lines t).stride in
+      let kept : ℕ → ℕ = λ i. code_of (cell_of cells (get_or (word_columns t) i 0)) in
+      cells-keep code_of cells (λ us. Low b us ws) (word_columns t) first
+      (λ i h us e. let past = word-past (omega arith) in low-then b (set us (first + i) (kept i)) us ws (low-set b us (first + i) (kept i) (omega arith)) e) ws (low_same b ws)
 
   -- a parent whose words stand past the bound, if it is there
   abbrev Past : Option Counted → Type 0
@@ -144,4 +138,4 @@ module _ (b : ℕ) (most : b ≤ 71) (t : ℕ) (word-past : (c : ℕ) → 0 < wo
   pub kept_low : (k : ℕ) (cells : Cells) (progress : Progress) (ws : List ℕ) → Low b (kept_words t k cells progress ws) ws
   unfolding kept_words
   kept_low k cells progress ws =
-      low-then b (kept_words t k cells progress ws) (words_below t k cells 8 ws) ws (ruled_low (rule_of t) k cells progress (words_below t k cells 8 ws)) (line_low k cells 8 ws)
+      low-then b (kept_words t k cells progress ws) (codes_kept t k cells ws) ws (ruled_low (rule_of t) k cells progress (codes_kept t k cells ws)) (line_low k cells ws)

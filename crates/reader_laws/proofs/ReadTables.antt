@@ -1,6 +1,5 @@
 -- An accepted reading: the slices were long enough, the tables left this memory, and its road is admitted.
 use Prim.Native.Nat.{ℕ, ◌≤◌}
-use native.Mathlib.Omega.{arith}
 use mathlib.Core.Path.{◌≡◌, refl, sym, ◌∙◌, ap}
 use mathlib.Core.Bool.{Bool, true, false, ◌&&◌, cond}
 use mathlib.Core.List.{List, [], ◌∷◌}
@@ -20,34 +19,34 @@ abbrev pub sound_of : Outcome → Bool
 sound_of (done at count progress ws ns vs) = progress.sound
 sound_of (stop m) = false
 
--- tables of right form into slices that are long enough, with their references and order right; admission has not been asked
-pub record Stored (text : List ℕ) (l m n : ℕ) (o : Outcome) : Type 0 where
+-- tables of right form into slices that are long enough; whether references and order are right is not said
+pub record RightForm (text : List ℕ) (l m n : ℕ) (o : Outcome) : Type 0 where
   pub words_long : 1891 ≤ length (zeros l)
   pub numbers_long : 8449 ≤ length (zero_numbers m)
   pub wants_long : 32 ≤ length (zeros n)
   pub tables : tables_from 16 0 text 0 0 start_progress (zeros l) (zero_numbers m) (zeros n) ≡ o
+
+-- with their references and order right; admission has not been asked
+pub record Stored (text : List ℕ) (l m n : ℕ) (o : Outcome) : Type 0 where
+  pub form : RightForm text l m n o
   pub sound : sound_of o ≡ true
 
 pub record Accepted (text : List ℕ) (l m n : ℕ) (o : Outcome) (ws : List ℕ) (ns : List Float) : Type 0 where
-  pub words_long : 1891 ≤ length (zeros l)
-  pub numbers_long : 8449 ≤ length (zero_numbers m)
-  pub wants_long : 32 ≤ length (zeros n)
-  pub tables : tables_from 16 0 text 0 0 start_progress (zeros l) (zero_numbers m) (zeros n) ≡ o
+  pub stored : Stored text l m n o
   pub admits : admit_call ws ns ≡ value tt
-  pub sound : sound_of o ≡ true
 
 module _ (text : List ℕ) (l m n at count : ℕ) (progress : Progress) (ws : List ℕ) (ns : List Float) (vs : List ℕ) where
   abbrev end : Outcome
   end = done at count progress ws ns vs
 
   judged : (o : Outcome) → judge o ≡ end → (o ≡ end) × (admit_call ws ns ≡ value tt) × (progress.sound ≡ true)
-  judged (stop k) e = let z : ◌≡◌ {A = ℕ} 0 1 = cc in absurd (omega arith)
+  judged (stop k) e = absurd cc
   judged (done at' count' progress' us xs vs') e = go progress'.sound (admit_call us xs) refl refl e
     where
       go : (b : Bool) (a : Answer (Unit {0})) → progress'.sound ≡ b → admit_call us xs ≡ a → cond b (admitted_as a (done at' count' progress' us xs vs') stop) (stop 3) ≡ end → (done at' count' progress' us xs vs' ≡ end) × (admit_call ws ns ≡ value tt) × (progress.sound ≡ true)
       go true (value u) d g f = (f, ap (λ (o : Outcome). admit_call (words_held 0 o) (numbers_held 0 o)) (sym f) ∙ g, ap sound_of (sym f) ∙ d)
-      go true (refused k) d g f = let z : ◌≡◌ {A = ℕ} 0 1 = cc in absurd (omega arith)
-      go false a d g f = let z : ◌≡◌ {A = ℕ} 0 1 = cc in absurd (omega arith)
+      go true (refused k) d g f = absurd cc
+      go false a d g f = absurd cc
 
   pub accepted : reading_of text l m n ≡ end → Accepted text l m n end ws ns
   unfolding reading_of reading_by
@@ -58,9 +57,7 @@ module _ (text : List ℕ) (l m n at count : ℕ) (progress : Progress) (ws : Li
       go true false e f =
           let t = chain-at (leb 1891 (length (zeros l))) (leb 8449 (length (zero_numbers m)) ∷ leb 32 (length (zeros n)) ∷ []) e in
           let j = judged (tables_from 16 0 text 0 0 start_progress (zeros l) (zero_numbers m) (zeros n)) f in
-          record { words_long = leb-true 1891 (length (zeros l)) (t 0); numbers_long = leb-true 8449 (length (zero_numbers m)) (t 1); wants_long = leb-true 32 (length (zeros n)) (t 2); tables = j.0; admits = j.1; sound = j.2 }
-      go true true e f = let z : ◌≡◌ {A = ℕ} 0 1 = cc in absurd (omega arith)
-      go false b e f = let z : ◌≡◌ {A = ℕ} 0 1 = cc in absurd (omega arith)
-
-  pub stored : reading_of text l m n ≡ end → Stored text l m n end
-  stored read = let a = accepted read in record { words_long = a.words_long; numbers_long = a.numbers_long; wants_long = a.wants_long; tables = a.tables; sound = a.sound }
+          let form : RightForm text l m n end = record { words_long = leb-true 1891 (length (zeros l)) (t 0); numbers_long = leb-true 8449 (length (zero_numbers m)) (t 1); wants_long = leb-true 32 (length (zeros n)) (t 2); tables = j.0 } in
+          record { stored = record { form = form; sound = j.2 }; admits = j.1 }
+      go true true e f = absurd cc
+      go false b e f = absurd cc

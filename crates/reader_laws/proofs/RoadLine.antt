@@ -17,7 +17,7 @@ use Rattle.reader_lines.specs.declared.names_line.Head.{Head}
 use Rattle.reader_lines.specs.declared.values_line.Values.{Values}
 use Rattle.reader_lines.specs.declared.columns.Order.{Order}
 use Rattle.reader_lines.specs.declared.columns.Cells.{Cells}
-use Rattle.reader_store.specs.Layout.{words_below, rule_of, numbers_below, wants_kept, count_kept}
+use Rattle.reader_store.specs.Layout.{codes_kept, rule_of, numbers_kept, wants_kept, count_kept}
 use Rattle.reader_store.specs.Progress.{strip_line, listed_as, start_progress, unsound_progress, ended_progress}
 use Rattle.reader_store.specs.Parents.{lane_turn, parent_of}
 use Rattle.reader_store.specs.Keep.{strip_named, in_order, under_progress, strip_progress, ruled_progress, kept_words, kept_progress}
@@ -36,7 +36,7 @@ by_cases true from x y f g = f
 by_cases false from x y f g = g
 
 never : (from : Progress) → false ≡ true → from.sound ≡ true
-never from e = let z : ◌≡◌ {A = ℕ} 0 1 = cc in absurd (omega arith)
+never from e = absurd cc
 
 under-sound : (parent : Option Counted) (progress : Progress) → (under_progress parent progress).sound ≡ true → progress.sound ≡ true
 unfolding under_progress
@@ -54,7 +54,7 @@ ruled-sound (Some (Child family)) k cells progress ws = under-sound (parent_of w
 
 pub kept-sound : (t k : ℕ) (cells : Cells) (progress : Progress) (ws : List ℕ) → (kept_progress t k cells progress ws).sound ≡ true → progress.sound ≡ true
 unfolding kept_progress
-kept-sound t k cells progress ws = ruled-sound (rule_of t) k cells progress (words_below t k cells 8 ws)
+kept-sound t k cells progress ws = ruled-sound (rule_of t) k cells progress (codes_kept t k cells ws)
 
 abbrev SoundBy : Progress → Outcome → Type 0
 SoundBy from (stop m) = Unit {0}
@@ -72,10 +72,10 @@ lines-sound zero t order text at k progress ws ns vs = go (eqb (byte_at text at)
     go true x = λ e. e
     go false (Some row) = tt
     go false None = tt
-lines-sound (suc fuel) t order text at k progress ws ns vs = go (eqb (byte_at text at) 10) (values_at text at t order) (λ cells next. lines-sound fuel t order text next (k + 1) (kept_progress t k cells progress ws) (kept_words t k cells progress ws) (numbers_below t k cells 8 ns) (wants_kept t k cells vs))
+lines-sound (suc fuel) t order text at k progress ws ns vs = go (eqb (byte_at text at) 10) (values_at text at t order) (λ cells next. lines-sound fuel t order text next (k + 1) (kept_progress t k cells progress ws) (kept_words t k cells progress ws) (numbers_kept t k cells ns) (wants_kept t k cells vs))
   where
-    go : (a : Bool) (x : Option Values) → ((cells : Cells) (next : ℕ) → SoundBy (kept_progress t k cells progress ws) (lines_from fuel t order text next (k + 1) (kept_progress t k cells progress ws) (kept_words t k cells progress ws) (numbers_below t k cells 8 ns) (wants_kept t k cells vs)))
-        → SoundBy progress (cond a (done (at + 1) k (ended_progress progress) (count_kept t k ws) ns vs) (by_values x (λ cells next. lines_from fuel t order text next (k + 1) (kept_progress t k cells progress ws) (kept_words t k cells progress ws) (numbers_below t k cells 8 ns) (wants_kept t k cells vs))))
+    go : (a : Bool) (x : Option Values) → ((cells : Cells) (next : ℕ) → SoundBy (kept_progress t k cells progress ws) (lines_from fuel t order text next (k + 1) (kept_progress t k cells progress ws) (kept_words t k cells progress ws) (numbers_kept t k cells ns) (wants_kept t k cells vs)))
+        → SoundBy progress (cond a (done (at + 1) k (ended_progress progress) (count_kept t k ws) ns vs) (by_values x (λ cells next. lines_from fuel t order text next (k + 1) (kept_progress t k cells progress ws) (kept_words t k cells progress ws) (numbers_kept t k cells ns) (wants_kept t k cells vs))))
     go true x ih = λ e. e
     go false (Some row) ih = sound-then (kept_progress t k row.cells progress ws) progress _ (kept-sound t k row.cells progress ws) (ih row.cells row.next)
     go false None ih = tt
@@ -122,7 +122,7 @@ unfolding tables_lines tables_from counted_progress
 first_line_lem text progress ws ns vs = step (table_lines 0 text 0) (table_at 0 text 0 progress ws ns vs) (table-agree 0 text 0 progress ws ns vs)
   where
     some : (n k : ℕ) (progress' : Progress) → n ≡ 0 + k → (counted_progress 0 n progress').sound ≡ true → 0 < k
-    some n zero progress' e s = let z : n ≡ 0 = omega arith in let w = subst (λ (m : ℕ). (counted_progress 0 m progress').sound ≡ true) z s in let q : ◌≡◌ {A = ℕ} 0 1 = cc in absurd (omega arith)
+    some n zero progress' e s = let z : n ≡ 0 = omega arith in let w = subst (λ (m : ℕ). (counted_progress 0 m progress').sound ≡ true) z s in absurd cc
     some n (suc k) progress' e s = omega arith
 
     step : (p : Lines) (o : Outcome) → Agree 0 (limit_of 0) 0 ns p o
@@ -140,4 +140,4 @@ pub road_line : (text : List ℕ) (l m n at count : ℕ) (progress : Progress) (
 unfolding lines_of
 road_line text l m n at count progress ws ns vs read =
     let a = read in
-    subst (λ (o : Outcome). LineBy (tables_lines 16 0 text 0) o) a.tables (first_line_lem text start_progress (zeros l) (zero_numbers m) (zeros n)) a.sound
+    subst (λ (o : Outcome). LineBy (tables_lines 16 0 text 0) o) a.form.tables (first_line_lem text start_progress (zeros l) (zero_numbers m) (zeros n)) a.sound

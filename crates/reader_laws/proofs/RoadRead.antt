@@ -19,7 +19,8 @@ use Rattle.records_lent.proofs.TableLaws.{length-table}
 use Rattle.admission_structure.proofs.StructureLaws.{cubics-full}
 use Rattle.reader_lines.specs.Columns.{cell_of, no_cells}
 use Rattle.std.specs.Prelude.{Some}
-use Rattle.reader_store.specs.Layout.{number_lines, word_lines, number_row, number_place, word_row, word_place, code_of, count_place}
+use Rattle.reader_store.specs.Layout.{number_lines, word_lines, number_columns, word_columns, code_of, count_place}
+use Rattle.reader_laws.proofs.ColumnPlaces.{number_place, word_place}
 use Rattle.reader_store.specs.declared.progress.Progress.{Progress}
 use Rattle.reader_calls.specs.Reading.{done}
 use Rattle.reader_laws.proofs.ReadTables.{Stored}
@@ -42,7 +43,7 @@ unfolding count_place
 counted = (refl, refl, refl, refl, refl, refl, refl)
 
 single : (number_place 6 0 ≡ 0 + 1) × (number_place 10 0 ≡ 0 + 1) × (number_place 0 0 ≡ 0 + 1) × (number_place 9 2 ≡ 0 + 1) × (number_place 9 3 ≡ 1 + 1) × (number_place 9 4 ≡ 2 + 1) × (number_place 14 2 ≡ 0 + 1) × (number_place 14 3 ≡ 1 + 1)
-unfolding number_place number_row
+unfolding number_place number_columns
 single = (refl, refl, refl, refl, refl, refl, refl, refl)
 
 -- a list of the values of a function is a list of lines, each by itself
@@ -62,13 +63,13 @@ unused-same : (kind kind' : ℕ) (f g f' g' : Float) → kind ≡ kind' → f �
 unused-same kind kind' f g f' g' k p q = cc
 
 geom-columns : (number_place 1 0 ≡ 0 + 1) × (number_place 1 1 ≡ 1 + 1) × (number_place 1 2 ≡ 2 + 1) × (number_place 1 3 ≡ 3 + 1) × (number_place 1 4 ≡ 4 + 1) × (number_place 1 6 ≡ 5 + 1) × (number_place 1 7 ≡ 6 + 1)
-unfolding number_place number_row
+unfolding number_place number_columns
 geom-columns = (refl, refl, refl, refl, refl, refl, refl)
 
 module _ (text : List ℕ) (l m n at count : ℕ) (progress : Progress) (ws : List ℕ) (ns : List Float) (vs : List ℕ) (read : Stored text l m n (done at count progress ws ns vs)) where
   -- a cell of line k
   cell-read : (t k c j : ℕ) → t < 16 → k < length (lines_of text t) → number_place t c ≡ j + 1 → number_of ws ns t k c ≡ number_in (get_or (lines_of text t) k no_cells) c
-  cell-read t k c j h i e = number-kept text l m n at count progress ws ns vs read t k c h i (omega arith)
+  cell-read t k c j h i e = number-kept text l m n at count progress ws ns vs read.form t k c h i (omega arith)
 
   -- line k of a table with the columns start a b c d: elev, bank, offset, tshift, extent, shape, cubic
   pub line_read : (t column base : ℕ) → Five t column base → t < 16 → (k : ℕ) → k < length (lines_of text t) → cubic_of ws ns t column k ≡ cubic_in column (get_or (lines_of text t) k no_cells)
@@ -85,13 +86,13 @@ module _ (text : List ℕ) (l m n at count : ℕ) (progress : Progress) (ws : Li
       where
         full : length (cubics_in ws ns base 0 (length (lines_of text t))) ≡ length (lines_of text t)
         full =
-            let r = rows_inside text l m n at count progress ws ns vs read t small in
+            let r = rows_inside text l m n at count progress ws ns vs read.form t small in
             let f = five.first in
             let s : (number_lines t).first + length (lines_of text t) * 5 ≤ length ns = subst (λ (q : ℕ). (number_lines t).first + length (lines_of text t) * q ≤ length ns) five.stride r in
             cubics-full ws ns base 0 (length (lines_of text t)) (omega arith)
 
     cubics-read : cubics_in ws ns base 0 (get_or ws p 0) ≡ map (cubic_in column) (lines_of text t)
-    cubics-read = ap (cubics_in ws ns base 0) (count_kept_lem text l m n at count progress ws ns vs read t p small own) ∙ cubics-all
+    cubics-read = ap (cubics_in ws ns base 0) (count_kept_lem text l m n at count progress ws ns vs read.form t p small own) ∙ cubics-all
 
   pub elevations-read : (road_of ws ns).elevations ≡ map (cubic_in 0) (lines_of text 2)
   unfolding count_place
@@ -116,25 +117,25 @@ module _ (text : List ℕ) (l m n at count : ℕ) (progress : Progress) (ws : Li
   -- as many sections and profiles as lines, and where they start
   pub sections-read : length (road_of ws ns).sections ≡ length (lines_of text 6)
   unfolding count_place
-  sections-read = ap (λ (xs : List Section). length xs) (sections-join ws ns) ∙ length-table (section_in ws ns) (get_or ws 5 0) ∙ count_kept_lem text l m n at count progress ws ns vs read 6 5 (omega arith) counted.4
+  sections-read = ap (λ (xs : List Section). length xs) (sections-join ws ns) ∙ length-table (section_in ws ns) (get_or ws 5 0) ∙ count_kept_lem text l m n at count progress ws ns vs read.form 6 5 (omega arith) counted.4
 
   pub section_start-read : (i : ℕ) → i < length (lines_of text 6) → (section_of (road_of ws ns) i).start ≡ number_in (get_or (lines_of text 6) i no_cells) 0
   section_start-read i h =
-      ap (λ (x : Section). x.start) (section_in_lem ws ns i (subst (λ (k : ℕ). i < k) (sym (count_kept_lem text l m n at count progress ws ns vs read 6 5 (omega arith) counted.4)) h)) ∙ section_start-join ws ns i ∙ cell-read 6 i 0 0 (omega arith) h single.0
+      ap (λ (x : Section). x.start) (section_in_lem ws ns i (subst (λ (k : ℕ). i < k) (sym (count_kept_lem text l m n at count progress ws ns vs read.form 6 5 (omega arith) counted.4)) h)) ∙ section_start-join ws ns i ∙ cell-read 6 i 0 0 (omega arith) h single.0
 
   pub profiles-read : length (road_of ws ns).profiles ≡ length (lines_of text 10)
   unfolding count_place
-  profiles-read = ap (λ (xs : List Profile). length xs) (profiles-join ws ns) ∙ length-table (profile_in ws ns) (get_or ws 6 0) ∙ count_kept_lem text l m n at count progress ws ns vs read 10 6 (omega arith) counted.5
+  profiles-read = ap (λ (xs : List Profile). length xs) (profiles-join ws ns) ∙ length-table (profile_in ws ns) (get_or ws 6 0) ∙ count_kept_lem text l m n at count progress ws ns vs read.form 10 6 (omega arith) counted.5
 
   pub profile_start-read : (i : ℕ) → i < length (lines_of text 10) → (profile_at (road_of ws ns) i).s ≡ number_in (get_or (lines_of text 10) i no_cells) 0
   profile_start-read i h =
-      ap (λ (x : Profile). x.s) (profile_in_lem ws ns i (subst (λ (k : ℕ). i < k) (sym (count_kept_lem text l m n at count progress ws ns vs read 10 6 (omega arith) counted.5)) h) ∙ profile-join ws ns i) ∙ cell-read 10 i 0 0 (omega arith) h single.1
+      ap (λ (x : Profile). x.s) (profile_in_lem ws ns i (subst (λ (k : ℕ). i < k) (sym (count_kept_lem text l m n at count progress ws ns vs read.form 10 6 (omega arith) counted.5)) h) ∙ profile-join ws ns i) ∙ cell-read 10 i 0 0 (omega arith) h single.1
 
   -- ---- geometries, each with its kind and its columns
 
   kind-read : (i : ℕ) → i < length (lines_of text 1) → code_at ws ns 1 i 5 ≡ code_of (cell_of (get_or (lines_of text 1) i no_cells) 5)
-  unfolding number_lines word_lines word_place word_row
-  kind-read i h = ap (λ (p : ℕ). get_or ws p 0) (place i) ∙ kind-kept text l m n at count progress ws ns vs read i h
+  unfolding number_lines word_lines word_place word_columns
+  kind-read i h = ap (λ (p : ℕ). get_or ws p 0) (place i) ∙ kind-kept text l m n at count progress ws ns vs read.form i h
     where
       place : (i : ℕ) → 7 + i * 1 + 0 ≡ 7 + i
       place i = omega arith
@@ -152,13 +153,13 @@ module _ (text : List ℕ) (l m n at count : ℕ) (progress : Progress) (ws : Li
   pub geoms-read : (road_of ws ns).geoms ≡ map geom_said (lines_of text 1)
   unfolding count_place
   geoms-read =
-      geoms-join ws ns ∙ ap (tabulate (records-roads.geom_in ws ns)) (count_kept_lem text l m n at count progress ws ns vs read 1 0 (omega arith) counted.6)
+      geoms-join ws ns ∙ ap (tabulate (records-roads.geom_in ws ns)) (count_kept_lem text l m n at count progress ws ns vs read.form 1 0 (omega arith) counted.6)
       ∙ table-map (lines_of text 1) (records-roads.geom_in ws ns) geom_said no_cells geom-read
 
   pub unused-all_read : (road_of ws ns).unused ≡ map unused_said (lines_of text 1)
   unfolding count_place
   unused-all_read =
-      unused-list-join ws ns ∙ ap (tabulate (records-roads.unused_in ws ns)) (count_kept_lem text l m n at count progress ws ns vs read 1 0 (omega arith) counted.6)
+      unused-list-join ws ns ∙ ap (tabulate (records-roads.unused_in ws ns)) (count_kept_lem text l m n at count progress ws ns vs read.form 1 0 (omega arith) counted.6)
       ∙ table-map (lines_of text 1) (records-roads.unused_in ws ns) unused_said no_cells unused-read
 
   -- the road's length, of the one line that there is

@@ -1,79 +1,48 @@
 -- An accepted text's numbers: for every table, line and column that holds a number, memory holds the cell's float where the layout says (`number-kept`).
--- What the layout must have for this is four computed tests: columns inside their line and apart, tables one after another, all within 8,449 numbers.
-use Prim.Native.Nat.{ℕ, zero, suc, ◌+◌, ◌*◌, ◌<◌, ◌≤◌}
+-- What the layout must have for this is three computed tests: numbers inside their line, tables one after another, all within 8,449 numbers.
+use Prim.Native.Nat.{ℕ, zero, suc, ◌+◌, ◌-◌, ◌*◌, ◌<◌, ◌≤◌}
 use native.Mathlib.Omega.{arith}
 use native.Mathlib.Nat.{le_of_suc-le-suc, not-suc-le-zero, mul-le-mul_right, zero-add}
 use mathlib.Core.Path.{◌≡◌, refl, sym, ◌∙◌, ap, subst}
-use mathlib.Core.Bool.{Bool, true, false, not, ◌||◌, cond}
+use mathlib.Core.Bool.{Bool, true, false, ◌||◌, cond}
 use mathlib.Core.List.{List, [], ◌∷◌}
 use lib.ListN.{length, get_or}
 use lib.Dec.{eqb, ltb, leb}
 use lib.Ieee.{Float, nan, binary64, of_bits}
-use borrow.Author.Tests.{ltb-true, ltb-false, leb-true, eqb-true, ne_eqb, eq-eqb, lt-leb}
+use borrow.Author.Tests.{leb-true, ne_eqb, lt-leb}
 use Rattle.records_lent.specs.Lists.{all_below}
 use Rattle.records_lent.proofs.TestLaws.{all-at}
 use Rattle.reader_schema.specs.Schema.{limits, limit_of}
 use Rattle.reader_lines.specs.Columns.{cell_of, no_cells}
 use Rattle.reader_lines.specs.declared.columns.Cells.{Cells}
-use Rattle.reader_store.specs.Layout.{number_lines, word_lines, number_row, number_place}
+use Rattle.reader_store.specs.Layout.{number_lines, number_columns}
 use Rattle.reader_store.specs.Progress.{start_progress}
 use Rattle.reader_store.specs.declared.progress.Progress.{Progress}
 use Rattle.reader_calls.specs.Reading.{Outcome, done, stop, by_outcome, table_at, counted_progress, tables_from, zeros, zero_numbers}
 use Rattle.reader_laws.specs.Lines.{Lines, lines, broken, by_lines, table_lines, tables_lines, lines_of}
-use Rattle.reader_laws.proofs.NumbersKept.{place_of, rows_put, rows-length, rows_other, rows_same}
-use Rattle.reader_laws.proofs.ReadTables.{Stored}
+use Rattle.reader_laws.proofs.LowWords.{or_else}
+use Rattle.reader_laws.proofs.ColumnPlaces.{place_in, number_place, place-found}
+use Rattle.reader_laws.proofs.NumbersKept.{place_at, rows_put, rows-length, rows_other, rows_same}
+use Rattle.reader_laws.proofs.ReadTables.{RightForm}
 use Rattle.reader_laws.proofs.LinesKept.{Agree, table-agree}
 
 -- ---- the layout's tests
 
-inside-test : all_below (λ t. all_below (λ c. leb (number_place t c) (number_lines t).stride) 8) 16 ≡ true
-unfolding all_below number_lines word_lines number_place number_row
+inside-test : all_below (λ t. leb (length (number_columns t)) (number_lines t).stride) 16 ≡ true
+unfolding all_below number_lines number_columns
 inside-test = refl
 
-own-test : all_below (λ t. all_below (λ c. all_below (λ d. eqb (number_place t c) 0 || (not (eqb (number_place t c) (number_place t d)) || eqb c d)) 8) 8) 16 ≡ true
-unfolding all_below number_place number_row
-own-test = refl
-
 region-test : all_below (λ t. all_below (λ u. leb u t || (eqb (number_lines t).stride 0 || (eqb (number_lines u).stride 0 || leb ((number_lines t).first + limit_of t * (number_lines t).stride) (number_lines u).first))) 16) 16 ≡ true
-unfolding all_below number_lines word_lines limit_of limits
+unfolding all_below number_lines limit_of limits
 region-test = refl
 
 room-test : all_below (λ t. leb ((number_lines t).first + limit_of t * (number_lines t).stride) 8449) 16 ≡ true
-unfolding all_below number_lines word_lines limit_of limits
+unfolding all_below number_lines limit_of limits
 room-test = refl
 
-or_else : (a b : Bool) → a || b ≡ true → a ≡ false → b ≡ true
-or_else true b e f = let z : true ≡ false = f in absurd (differ z)
-  where
-    differ : true ≡ false → ⊥
-    differ z = let y : ◌≡◌ {A = ℕ} 0 1 = cc in omega arith
-or_else false b e f = e
-
 module _ (t : ℕ) (small : t < 16) where
-  column-below : (c : ℕ) → 0 < number_place t c → c < 8
-  unfolding number_place
-  column-below c h = go (ltb c 8) refl h
-    where
-      go : (b : Bool) → ltb c 8 ≡ b → 0 < cond b (get_or (number_row t) c 0) 0 → c < 8
-      go true e p = ltb-true c 8 e
-      go false e p = absurd (not-suc-le-zero p)
-
-  inside : (c : ℕ) → number_place t c ≤ (number_lines t).stride
-  inside c = go (ltb 0 (number_place t c)) refl
-    where
-      go : (b : Bool) → ltb 0 (number_place t c) ≡ b → number_place t c ≤ (number_lines t).stride
-      go true e =
-          let l = column-below c (ltb-true 0 (number_place t c) e) in
-          leb-true (number_place t c) (number_lines t).stride (all-at (λ c. leb (number_place t c) (number_lines t).stride) 8 (all-at (λ t. all_below (λ c. leb (number_place t c) (number_lines t).stride) 8) 16 inside-test t small) c l)
-      go false e = let n = ltb-false 0 (number_place t c) e in omega arith
-
-  own : (c : ℕ) → 0 < number_place t c → (d : ℕ) → 0 < number_place t d → number_place t c ≡ number_place t d → c ≡ d
-  own c p d q e =
-      let test : ℕ → ℕ → Bool = λ c d. eqb (number_place t c) 0 || (not (eqb (number_place t c) (number_place t d)) || eqb c d) in
-      let a = all-at (λ t. all_below (λ c. all_below (λ d. eqb (number_place t c) 0 || (not (eqb (number_place t c) (number_place t d)) || eqb c d)) 8) 8) 16 own-test t small in
-      let b = all-at (test c) 8 (all-at (λ c. all_below (test c) 8) 8 a c (column-below c p)) d (column-below d q) in
-      let f = or_else (eqb (number_place t c) 0) (not (eqb (number_place t c) (number_place t d)) || eqb c d) b (ne_eqb (number_place t c) 0 (λ z. omega arith)) in
-      eqb-true c d (or_else (not (eqb (number_place t c) (number_place t d))) (eqb c d) f (ap not (eq-eqb (number_place t c) (number_place t d) e)))
+  inside : length (number_columns t) ≤ (number_lines t).stride
+  inside = leb-true (length (number_columns t)) (number_lines t).stride (all-at (λ t. leb (length (number_columns t)) (number_lines t).stride) 16 inside-test t small)
 
   room : (number_lines t).first + limit_of t * (number_lines t).stride ≤ 8449
   room = leb-true ((number_lines t).first + limit_of t * (number_lines t).stride) 8449 (all-at (λ t. leb ((number_lines t).first + limit_of t * (number_lines t).stride) 8449) 16 room-test t small)
@@ -94,8 +63,8 @@ pub record Holds (n t : ℕ) (ns xs : List Float) (tables : List (List Cells)) :
   pub same : length xs ≡ length ns
   pub other : (p : ℕ) → ((u : ℕ) → t ≤ u → u < t + n → 0 < (number_lines u).stride → p < (number_lines u).first) → get_or xs p nan ≡ get_or ns p nan
   pub few : (i u : ℕ) → u ≡ t + i → i < n → length (get_or tables i []) ≤ limit_of u
-  pub cell : (i u k c : ℕ) → u ≡ t + i → i < n → k < length (get_or tables i []) → 0 < number_place u c
-      → get_or xs (place_of u k c) nan ≡ of_bits binary64 (cell_of (get_or (get_or tables i []) k no_cells) c)
+  pub cell : (i u k j : ℕ) → u ≡ t + i → i < n → k < length (get_or tables i []) → j < length (number_columns u)
+      → get_or xs (place_at u k j) nan ≡ of_bits binary64 (cell_of (get_or (get_or tables i []) k no_cells) (get_or (number_columns u) j 0))
 
 abbrev pub Kept : ℕ → ℕ → List Float → List (List Cells) → Outcome → Type 0
 Kept n t ns tables (stop m) = Unit {0}
@@ -113,7 +82,7 @@ module _ (n t : ℕ) (most : t + suc n ≤ 16) (ns : List Float) (long : 8449 �
   join tables xs (done at count progress ws ys vs) e h =
       record {
         same = h.same ∙ ap (λ (zs : List Float). length zs) e ∙ rows-length t rows 0 ns;
-        other = λ p f. h.other p (λ u a b. f u (omega arith) (omega arith)) ∙ ap (λ (zs : List Float). get_or zs p nan) e ∙ rows_other t rows 0 p ns (λ j c a b g q. let i = inside t small c in let l = f t (omega arith) (omega arith) (omega arith) in omega arith);
+        other = λ p f. h.other p (λ u a b. f u (omega arith) (omega arith)) ∙ ap (λ (zs : List Float). get_or zs p nan) e ∙ rows_other t rows 0 p ns (λ j c a b g q. let i = inside t small in let l = f t (omega arith) (omega arith) (omega arith) in omega arith);
         few = fewer;
         cell = cells;
       }
@@ -122,21 +91,21 @@ module _ (n t : ℕ) (most : t + suc n ≤ 16) (ns : List Float) (long : 8449 �
       fewer zero u q l = subst (λ (w : ℕ). length rows ≤ limit_of w) (omega arith) few
       fewer (suc i) u q l = h.few i u (omega arith) (le_of_suc-le-suc l)
 
-      first : (k c : ℕ) → k < length rows → 0 < number_place t c → get_or ys (place_of t k c) nan ≡ of_bits binary64 (cell_of (get_or rows k no_cells) c)
-      first k c l p =
-          let i = inside t small c in
+      first : (k j : ℕ) → k < length rows → j < length (number_columns t) → get_or ys (place_at t k j) nan ≡ of_bits binary64 (cell_of (get_or rows k no_cells) (get_or (number_columns t) j 0))
+      first k j l p =
+          let i = inside t small in
           let m = end_below k l in
-          h.other (place_of t k c) (λ u a b g. let r = region t small u (omega arith) (omega arith) (omega arith) g in omega arith)
-          ∙ ap (λ (zs : List Float). get_or zs (place_of t k c) nan) e
-          ∙ ap (λ (j : ℕ). get_or (rows_put t 0 rows ns) (place_of t j c) nan) (sym (zero-add k))
-          ∙ rows_same t (inside t small) c (column-below t small c p) p (own t small c p) rows 0 k ns l (let r = room t small in let f : length rows * (number_lines t).stride ≤ limit_of t * (number_lines t).stride = mul-le-mul_right (number_lines t).stride few in omega arith)
+          h.other (place_at t k j) (λ u a b g. let r = region t small u (omega arith) (omega arith) (omega arith) g in omega arith)
+          ∙ ap (λ (zs : List Float). get_or zs (place_at t k j) nan) e
+          ∙ ap (λ (q : ℕ). get_or (rows_put t 0 rows ns) (place_at t q j) nan) (sym (zero-add k))
+          ∙ rows_same t (inside t small) j p rows 0 k ns l (let r = room t small in let f : length rows * (number_lines t).stride ≤ limit_of t * (number_lines t).stride = mul-le-mul_right (number_lines t).stride few in omega arith)
 
-      cells : (i u k c : ℕ) → u ≡ t + i → i < suc n → k < length (get_or (rows ∷ tables) i []) → 0 < number_place u c
-          → get_or ys (place_of u k c) nan ≡ of_bits binary64 (cell_of (get_or (get_or (rows ∷ tables) i []) k no_cells) c)
-      cells zero u k c q l m p =
+      cells : (i u k j : ℕ) → u ≡ t + i → i < suc n → k < length (get_or (rows ∷ tables) i []) → j < length (number_columns u)
+          → get_or ys (place_at u k j) nan ≡ of_bits binary64 (cell_of (get_or (get_or (rows ∷ tables) i []) k no_cells) (get_or (number_columns u) j 0))
+      cells zero u k j q l m p =
           let r : t ≡ u = omega arith in
-          subst (λ (w : ℕ). get_or ys (place_of w k c) nan ≡ of_bits binary64 (cell_of (get_or rows k no_cells) c)) r (first k c m (subst (λ (w : ℕ). 0 < number_place w c) (sym r) p))
-      cells (suc i) u k c q l m p = h.cell i u k c (omega arith) (le_of_suc-le-suc l) m p
+          subst (λ (w : ℕ). get_or ys (place_at w k j) nan ≡ of_bits binary64 (cell_of (get_or rows k no_cells) (get_or (number_columns w) j 0))) r (first k j m (subst (λ (w : ℕ). j < length (number_columns w)) (sym r) p))
+      cells (suc i) u k j q l m p = h.cell i u k j (omega arith) (le_of_suc-le-suc l) m p
 
 no_cell : (i : ℕ) {A : Type 0} → i < 0 → A
 no_cell i h = absurd (not-suc-le-zero h)
@@ -166,16 +135,18 @@ tables-kept (suc n) t text at count progress ws ns vs most long =
 
 -- ---- a whole text
 
-module _ (text : List ℕ) (l m n at count : ℕ) (progress : Progress) (ws : List ℕ) (ns : List Float) (vs : List ℕ) (read : Stored text l m n (done at count progress ws ns vs)) where
+module _ (text : List ℕ) (l m n at count : ℕ) (progress : Progress) (ws : List ℕ) (ns : List Float) (vs : List ℕ) (form : RightForm text l m n (done at count progress ws ns vs)) where
   holds : Holds 16 0 (zero_numbers m) ns (tables_lines 16 0 text 0)
-  holds =
-      let a = read in
-      subst (λ (o : Outcome). Kept 16 0 (zero_numbers m) (tables_lines 16 0 text 0) o) a.tables (tables-kept 16 0 text 0 0 start_progress (zeros l) (zero_numbers m) (zeros n) (omega arith) a.numbers_long)
+  holds = subst (λ (o : Outcome). Kept 16 0 (zero_numbers m) (tables_lines 16 0 text 0) o) form.tables (tables-kept 16 0 text 0 0 start_progress (zeros l) (zero_numbers m) (zeros n) (omega arith) form.numbers_long)
 
   -- every cell of the text that is a number
-  pub number-kept : (t k c : ℕ) → t < 16 → k < length (lines_of text t) → 0 < number_place t c → get_or ns (place_of t k c) nan ≡ of_bits binary64 (cell_of (get_or (lines_of text t) k no_cells) c)
-  unfolding lines_of
-  number-kept t k c h = holds.cell t t k c (sym (zero-add t)) h
+  pub number-kept : (t k c : ℕ) → t < 16 → k < length (lines_of text t) → 0 < number_place t c
+      → get_or ns ((number_lines t).first + k * (number_lines t).stride + (number_place t c - 1)) nan ≡ of_bits binary64 (cell_of (get_or (lines_of text t) k no_cells) c)
+  unfolding lines_of number_place
+  number-kept t k c h l p =
+      let f = place-found (number_columns t) c (place_in (number_columns t) c - 1) (omega arith) in
+      holds.cell t t k (place_in (number_columns t) c - 1) (sym (zero-add t)) h l f.0
+      ∙ ap (λ (d : ℕ). of_bits binary64 (cell_of (get_or (get_or (tables_lines 16 0 text 0) t []) k no_cells) d)) f.1
 
   pub rows_few : (t : ℕ) → t < 16 → length (lines_of text t) ≤ limit_of t
   unfolding lines_of
@@ -188,7 +159,7 @@ module _ (text : List ℕ) (l m n at count : ℕ) (progress : Progress) (ws : Li
   -- a table with all the lines that the text has of it ends inside memory
   pub rows_inside : (t : ℕ) → t < 16 → (number_lines t).first + length (lines_of text t) * (number_lines t).stride ≤ length ns
   rows_inside t h =
-      let a = read.numbers_long in
+      let a = form.numbers_long in
       let r = room t h in
       let f : length (lines_of text t) * (number_lines t).stride ≤ limit_of t * (number_lines t).stride = mul-le-mul_right (number_lines t).stride (rows_few t h) in
       let e = numbers-length in

@@ -65,7 +65,7 @@ strip relative width terms = present (record { relative = relative; width = widt
 abbrev pub read_of : List String → Outcome
 read_of lines = reading_of (text_of lines) words_needed numbers_needed wants_needed
 
--- it is accepted, with as many wants; the words and the numbers stand for the road, and the wants are held first
+-- a text that is read is accepted, with as many wants; the words and the numbers stand for the road, and the wants are held first
 pub record Reads (lines : List String) (road : Road) (wants : List ℕ) (n : ℕ) : Type 0 where
   pub accepted : verdict_of (read_of lines) ≡ value n
   pub stands : road_of (words_held words_needed (read_of lines)) (numbers_held numbers_needed (read_of lines)) ≡ road

@@ -20,7 +20,7 @@ all_due n = record { of = ltb 0 n ∷ ltb 1 n ∷ ltb 2 n ∷ ltb 3 n ∷ ltb 4 
 abbrev pub is_due : Due → ℕ → Bool
 is_due due column = get_or due.of column false
 
--- with a column named
+-- the columns still to be named once one is named
 abbrev pub met_in : Due → ℕ → Due
 met_in due column = record { of = set due.of column false }
 
@@ -28,7 +28,7 @@ met_in due column = record { of = set due.of column false }
 abbrev pub ordered_column : Order → ℕ → ℕ
 ordered_column order i = get_or order.of i 0
 
--- with word i in that column
+-- an order with word i in a column
 abbrev pub ordered_by : Order → ℕ → ℕ → Order
 ordered_by order i column = record { of = set order.of i column }
 
@@ -36,6 +36,6 @@ ordered_by order i column = record { of = set order.of i column }
 abbrev pub cell_of : Cells → ℕ → ℕ
 cell_of cells column = get_or cells.of column 0
 
--- with a value in that column
+-- a line's cells with a value in a column
 abbrev pub valued_by : Cells → ℕ → ℕ → Cells
 valued_by cells column v = record { of = set cells.of column v }

@@ -13,7 +13,7 @@ use Rattle.reader_cells.specs.declared.names.Span.{Span}
 
 -- a line that is broken is not good
 pub no-good : {A : Type 0} → false ≡ true → A
-no-good e = let z : ◌≡◌ {A = ℕ} 0 1 = cc in absurd (omega arith)
+no-good e = absurd cc
 
 module _ (text : List ℕ) (at : ℕ) where
   pub byte_at_lem : (k : ℕ) → byte_at text (at + k) ≡ byte_at (drop at text) k

@@ -11,7 +11,7 @@ use Rattle.reader_schema.specs.Schema.{name_of, limit_of, word_count}
 use Rattle.reader_lines.specs.Columns.{no_cells}
 use Rattle.reader_lines.specs.declared.columns.Order.{Order}
 use Rattle.reader_lines.specs.declared.columns.Cells.{Cells}
-use Rattle.reader_store.specs.Layout.{numbers_below, wants_kept}
+use Rattle.reader_store.specs.Layout.{numbers_kept, wants_kept}
 use Rattle.reader_store.specs.Keep.{kept_words, kept_progress}
 use Rattle.reader_store.specs.declared.progress.Progress.{Progress}
 use Rattle.reader_calls.specs.Reading.{Outcome, done, stop, by_outcome, lines_from, table_at, counted_progress, tables_from}
@@ -66,7 +66,7 @@ module _ (text : List ℕ) (t : ℕ) (small : t < 16) where
       let h = f 0 (omega arith) in
       let g = lines_split at cells rows (10 ∷ rest) e in
       rw (line-starts t small cells h text at (values_lines t rows ++ (10 ∷ rest)) g, line_read t small cells h text at (values_lines t rows ++ (10 ∷ rest)) g, ← (lines-place at cells rows))
-      (lines-done rows fuel (at + length (values_line t cells)) rest (k + 1) (kept_progress t k cells progress ws) (kept_words t k cells progress ws) (numbers_below t k cells 8 ns) (wants_kept t k cells vs)
+      (lines-done rows fuel (at + length (values_line t cells)) rest (k + 1) (kept_progress t k cells progress ws) (kept_words t k cells progress ws) (numbers_kept t k cells ns) (wants_kept t k cells vs)
       (λ k m. f (suc k) (omega arith)) (le_of_suc-le-suc l) (past text at (values_line t cells) g))
 
   module _ (rows : List Cells) (f : AllFit rows) (l : length rows ≤ limit_of t) (at : ℕ) (rest : List ℕ) (e : drop at text ≡ table_of t rows ++ rest) where

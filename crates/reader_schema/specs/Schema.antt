@@ -167,6 +167,6 @@ seek (suc n) first word i = cond (eqb (word_of (first + i)) word) i (seek n firs
 unfoldable pub place_of : ℕ → ℕ → ℕ
 place_of list word = seek (word_count list) (first_of list) word 0
 
--- the same; none where it is not there
+-- the place of a word in a list; none where it is not there
 unfoldable pub listed_place : ℕ → ℕ → Option ℕ
 listed_place list word = cond (ltb (place_of list word) (word_count list)) (Some (place_of list word)) None

@@ -66,13 +66,13 @@ pub enum Kind {
     Term,
 }
 
-impl Kind {
-    // The number of a kind: the list of its words, 0 for an f64 and 1 for a whole number, which have none. Those two are also the lists of two tables' column
-    // names: no column holds such a name, so as a kind's number each has one meaning.
-    pub fn number(self) -> usize
-        ensures { result ≡ kind_by self }
+// The number of a kind: the list of its words, 0 for an f64 and 1 for a whole number, which have none. Those two are also the lists of two tables' column
+// names: no column holds such a name, so as a kind's number each has one meaning.
+impl From<Kind> for usize {
+    fn from(kind: Kind) -> usize
+        ensures { result ≡ kind_by kind }
     {
-        match self {
+        match kind {
             Kind::Number => 0,
             Kind::Whole => 1,
             Kind::ShapeKind => SHAPE_KINDS,

@@ -2,11 +2,10 @@
 -- "At most 6 a side", "0..16 a lane" and the like are not tested here: admission tests them on the road that is kept.
 use Rattle.std.specs.Prelude.{ℕ, ◌+◌, ◌-◌, ◌*◌, Bool, cond, List, Option, Some, None, is_some, unwrap_or, get_or, set, leb}
 use Rattle.records.specs.Layout.{strip_words as strip_base, strip_stride, mark_words, mark_stride}
-use Rattle.reader_schema.specs.Tables.{columns_most}
 use Rattle.reader_cells.specs.Cells.{whole_bias}
 use Rattle.reader_lines.specs.Columns.{cell_of}
 use Rattle.reader_lines.specs.declared.columns.Cells.{Cells}
-use Rattle.reader_store.specs.Layout.{code_of, one_more, put_at, words_below, rule_of}
+use Rattle.reader_store.specs.Layout.{code_of, one_more, put_at, codes_kept, rule_of}
 use Rattle.reader_store.specs.Progress.{bit_in, strip_of, strip_line, listed_as, unsound_progress}
 use Rattle.reader_store.specs.Parents.{index_at, lane_turn, parent_of, mark_lane}
 use Rattle.reader_store.specs.declared.layout.Family.{Family}
@@ -80,7 +79,7 @@ ruled_progress ws (Some (Child family)) k cells progress = under_progress (paren
 
 -- line k of a table, counted from 0, kept in the words, and what is remembered then
 unfoldable pub kept_words : ℕ → ℕ → Cells → Progress → List ℕ → List ℕ
-kept_words table k cells progress ws = ruled_words (words_below table k cells columns_most ws) (rule_of table) k cells progress
+kept_words table k cells progress ws = ruled_words (codes_kept table k cells ws) (rule_of table) k cells progress
 
 unfoldable pub kept_progress : ℕ → ℕ → Cells → Progress → List ℕ → Progress
-kept_progress table k cells progress ws = ruled_progress (words_below table k cells columns_most ws) (rule_of table) k cells progress
+kept_progress table k cells progress ws = ruled_progress (codes_kept table k cells ws) (rule_of table) k cells progress

@@ -5,11 +5,11 @@
 -- the shapes' range of each profile; (presence, and the ranges of width and of the terms 0 to 3) of each of four strips; the marks' range of each section;
 -- (lane, kind) of each mark. wants: the patterns of s and t.
 -- Line k of a table is at most the 512th here (the tables' limits are tested before a line is kept), so every index and count is small.
-use Rattle.std.specs.Prelude.{ℕ, zero, suc, ◌+◌, ◌-◌, ◌*◌, cond, List, [], ◌∷◌, Option, Some, None, get_or, set, eqb, ltb, Float}
+use Rattle.std.specs.Prelude.{ℕ, ◌+◌, ◌*◌, cond, List, [], ◌∷◌, Option, Some, None, set, eqb, ltb, Float}
 use Rattle.std.specs.Float.{binary64}
 use Rattle.std.specs.Float.Ieee.{of_bits}
 use Rattle.records.specs.Layout.{length_place, geom_base, geom_stride, elev_base, bank_base, offset_base, tshift_base, section_base, extent_base, height_base, profile_base, shape_base, cubic_base, cubic_stride, height_stride, geom_count_at, elev_count_at, bank_count_at, offset_count_at, tshift_count_at, section_count_at, profile_count_at, kind_words, lane_words, lane_stride, profile_words, profile_stride, strip_words, span_base, span_stride, section_mark_words, section_mark_stride, want_stride}
-use Rattle.reader_schema.specs.Tables.{road_table, geom_table, elev_table, bank_table, offset_table, tshift_table, section_table, lane_table, extent_table, height_table, profile_table, shape_table, strip_table, cubic_table, mark_table, want_table, columns_most}
+use Rattle.reader_schema.specs.Tables.{road_table, geom_table, elev_table, bank_table, offset_table, tshift_table, section_table, lane_table, extent_table, height_table, profile_table, shape_table, strip_table, cubic_table, mark_table, want_table}
 use Rattle.reader_store.specs.declared.layout.Lines.{Lines}
 use Rattle.reader_store.specs.declared.layout.Family.{Family}
 use Rattle.reader_store.specs.declared.layout.Family.TheVariants.{Extent, Height, Shape, Cubic, Mark}
@@ -45,34 +45,26 @@ word_lines table =
     cond (eqb table geom_table) (spaced kind_words 1)
     (cond (eqb table lane_table) (spaced lane_words lane_stride) (spaced 0 0))
 
--- which of its line's numbers each column is, counted from 1, eight columns to a table; 0 where it is none: a parent's number, a code, a want
-unfoldable pub number_row : ℕ → List ℕ
-number_row table =
-    cond (eqb table road_table) (1 ∷ 0 ∷ 0 ∷ 0 ∷ 0 ∷ 0 ∷ 0 ∷ 0 ∷ [])
-    (cond (eqb table geom_table) (1 ∷ 2 ∷ 3 ∷ 4 ∷ 5 ∷ 0 ∷ 6 ∷ 7 ∷ [])
-    (cond (eqb table elev_table) (1 ∷ 2 ∷ 3 ∷ 4 ∷ 5 ∷ 0 ∷ 0 ∷ 0 ∷ [])
-    (cond (eqb table bank_table) (1 ∷ 2 ∷ 3 ∷ 4 ∷ 5 ∷ 0 ∷ 0 ∷ 0 ∷ [])
-    (cond (eqb table offset_table) (1 ∷ 2 ∷ 3 ∷ 4 ∷ 5 ∷ 0 ∷ 0 ∷ 0 ∷ [])
-    (cond (eqb table tshift_table) (1 ∷ 2 ∷ 3 ∷ 4 ∷ 5 ∷ 0 ∷ 0 ∷ 0 ∷ [])
-    (cond (eqb table section_table) (1 ∷ 0 ∷ 0 ∷ 0 ∷ 0 ∷ 0 ∷ 0 ∷ 0 ∷ [])
-    (cond (eqb table extent_table) (0 ∷ 0 ∷ 1 ∷ 2 ∷ 3 ∷ 4 ∷ 5 ∷ 0 ∷ [])
-    (cond (eqb table height_table) (0 ∷ 0 ∷ 1 ∷ 2 ∷ 3 ∷ 0 ∷ 0 ∷ 0 ∷ [])
-    (cond (eqb table profile_table) (1 ∷ 0 ∷ 0 ∷ 0 ∷ 0 ∷ 0 ∷ 0 ∷ 0 ∷ [])
-    (cond (eqb table shape_table) (0 ∷ 1 ∷ 2 ∷ 3 ∷ 4 ∷ 5 ∷ 0 ∷ 0 ∷ [])
-    (cond (eqb table cubic_table) (0 ∷ 0 ∷ 0 ∷ 1 ∷ 2 ∷ 3 ∷ 4 ∷ 5 ∷ [])
-    (cond (eqb table mark_table) (0 ∷ 0 ∷ 1 ∷ 2 ∷ 0 ∷ 0 ∷ 0 ∷ 0 ∷ []) (0 ∷ 0 ∷ 0 ∷ 0 ∷ 0 ∷ 0 ∷ 0 ∷ 0 ∷ [])))))))))))))
+-- the columns that hold a line's numbers, in the order of its places; the others hold a parent's number, a code, a want
+unfoldable pub number_columns : ℕ → List ℕ
+number_columns table =
+    cond (eqb table road_table) (0 ∷ [])
+    (cond (eqb table geom_table) (0 ∷ 1 ∷ 2 ∷ 3 ∷ 4 ∷ 6 ∷ 7 ∷ [])
+    (cond (eqb table elev_table) (0 ∷ 1 ∷ 2 ∷ 3 ∷ 4 ∷ [])
+    (cond (eqb table bank_table) (0 ∷ 1 ∷ 2 ∷ 3 ∷ 4 ∷ [])
+    (cond (eqb table offset_table) (0 ∷ 1 ∷ 2 ∷ 3 ∷ 4 ∷ [])
+    (cond (eqb table tshift_table) (0 ∷ 1 ∷ 2 ∷ 3 ∷ 4 ∷ [])
+    (cond (eqb table section_table) (0 ∷ [])
+    (cond (eqb table extent_table) (2 ∷ 3 ∷ 4 ∷ 5 ∷ 6 ∷ [])
+    (cond (eqb table height_table) (2 ∷ 3 ∷ 4 ∷ [])
+    (cond (eqb table profile_table) (0 ∷ [])
+    (cond (eqb table shape_table) (1 ∷ 2 ∷ 3 ∷ 4 ∷ 5 ∷ [])
+    (cond (eqb table cubic_table) (3 ∷ 4 ∷ 5 ∷ 6 ∷ 7 ∷ [])
+    (cond (eqb table mark_table) (2 ∷ 3 ∷ []) []))))))))))))
 
-unfoldable pub number_place : ℕ → ℕ → ℕ
-number_place table column = cond (ltb column columns_most) (get_or (number_row table) column 0) 0
-
--- which of its line's words each column is, likewise: a geometry's kind, a lane's extent and level. A strip's relative, and a mark's lane and kind, have rules of their own
-unfoldable pub word_row : ℕ → List ℕ
-word_row table =
-    cond (eqb table geom_table) (0 ∷ 0 ∷ 0 ∷ 0 ∷ 0 ∷ 1 ∷ 0 ∷ 0 ∷ [])
-    (cond (eqb table lane_table) (0 ∷ 0 ∷ 1 ∷ 2 ∷ 0 ∷ 0 ∷ 0 ∷ 0 ∷ []) (0 ∷ 0 ∷ 0 ∷ 0 ∷ 0 ∷ 0 ∷ 0 ∷ 0 ∷ []))
-
-unfoldable pub word_place : ℕ → ℕ → ℕ
-word_place table column = cond (ltb column columns_most) (get_or (word_row table) column 0) 0
+-- the columns that hold a line's words: a geometry's kind, a lane's extent and level. A strip's relative, and a mark's lane and kind, have rules of their own
+unfoldable pub word_columns : ℕ → List ℕ
+word_columns table = cond (eqb table geom_table) (5 ∷ []) (cond (eqb table lane_table) (2 ∷ 3 ∷ []) [])
 
 -- the word that holds a table's count of lines; the counts of the others are those of their ranges
 unfoldable pub count_place : ℕ → Option ℕ
@@ -122,30 +114,17 @@ code_of v = cond (ltb v (greatest_word + 1)) v greatest_word
 unfoldable pub one_more : ℕ → ℕ
 one_more n = cond (ltb n greatest_word) (n + 1) n
 
--- a list with a value at a place, counted from 1, of the line that begins at `line`; 0 is no place
-abbrev pub placed : {A : Type 0} → ℕ → ℕ → A → List A → List A
-placed line place v xs = cond (ltb 0 place) (set xs (line + (place - 1)) v) xs
+-- a list with the cells of columns kept one after the other from a place on, each as f makes of it
+unfoldable pub cells_kept : {A : Type 0} → (ℕ → A) → Cells → List ℕ → ℕ → List A → List A
+cells_kept f cells [] place xs = xs
+cells_kept f cells (column ∷ columns) place xs = cells_kept f cells columns (place + 1) (set xs place (f (cell_of cells column)))
 
--- a list with the cells of the first n columns of such a line kept as f makes of each, by the places of the columns
-unfoldable pub cells_below : {A : Type 0} → (ℕ → A) → ℕ → List ℕ → Cells → ℕ → List A → List A
-cells_below f line places cells zero xs = xs
-cells_below f line places cells (suc n) xs = placed line (get_or places n 0) (f (cell_of cells n)) (cells_below f line places cells n xs)
+-- the numbers with the cells of line k kept, an f64 as the float of its pattern; the words with them kept, a word of a list as its place there
+unfoldable pub numbers_kept : ℕ → ℕ → Cells → List Float → List Float
+numbers_kept table k cells ns = cells_kept (of_bits binary64) cells (number_columns table) ((number_lines table).first + k * (number_lines table).stride) ns
 
--- the numbers and the words with one cell of line k kept: an f64 as the float of its pattern, a word of a list as its place there
-unfoldable pub number_put : ℕ → ℕ → ℕ → ℕ → List Float → List Float
-number_put table k column v ns = placed ((number_lines table).first + k * (number_lines table).stride) (number_place table column) (of_bits binary64 v) ns
-
-unfoldable pub word_put : ℕ → ℕ → ℕ → ℕ → List ℕ → List ℕ
-word_put table k column v ws = placed ((word_lines table).first + k * (word_lines table).stride) (word_place table column) (code_of v) ws
-
--- the same with the cells of the first n columns kept; all are `numbers_below table k cells columns_most`
-unfoldable pub numbers_below : ℕ → ℕ → Cells → ℕ → List Float → List Float
-numbers_below table k cells zero ns = ns
-numbers_below table k cells (suc n) ns = number_put table k n (cell_of cells n) (numbers_below table k cells n ns)
-
-unfoldable pub words_below : ℕ → ℕ → Cells → ℕ → List ℕ → List ℕ
-words_below table k cells zero ws = ws
-words_below table k cells (suc n) ws = word_put table k n (cell_of cells n) (words_below table k cells n ws)
+unfoldable pub codes_kept : ℕ → ℕ → Cells → List ℕ → List ℕ
+codes_kept table k cells ws = cells_kept code_of cells (word_columns table) ((word_lines table).first + k * (word_lines table).stride) ws
 
 -- the wants with line k of the table want kept, as patterns: the digits of a NaN are not lost
 unfoldable pub wants_kept : ℕ → ℕ → Cells → List ℕ → List ℕ

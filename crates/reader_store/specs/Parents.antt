@@ -72,7 +72,7 @@ lane_beside ws s side =
 abbrev pub lane_under : List ℕ → ℕ → Ranked → Option Counted
 lane_under ws id s = option_map (lane_beside ws s) (side_of (get_or ws (section_word s.index + 1) 0) (get_or ws (section_word s.index + 2) 0) id)
 
--- the same, by the section that the line names
+-- a lane under the section that the line names, if it is this id's turn
 unfoldable pub lane_turn : List ℕ → ℕ → ℕ → Option Counted
 lane_turn ws section id = option_and_then (lane_under ws id) (section_at ws section)
 
@@ -84,10 +84,11 @@ lane_among first left right id =
     (cond (ltb (left + whole_bias) id) None (Some (index_at (first + (id - first_left)))))
     (cond (ltb (id + right) whole_bias) None (Some (index_at (first + left + (first_right - id))))))
 
--- the lane with an id, of a section; then of the section that the line names
+-- the lane with an id, of a section
 abbrev pub lane_within : List ℕ → ℕ → Ranked → Option Ranked
 lane_within ws id s = lane_among (get_or ws (section_word s.index) 0) (get_or ws (section_word s.index + 1) 0) (get_or ws (section_word s.index + 2) 0) id
 
+-- the lane with an id, of the section that the line names
 unfoldable pub lane_index : List ℕ → ℕ → ℕ → Option Ranked
 lane_index ws section id = option_and_then (lane_within ws id) (section_at ws section)
 
@@ -95,7 +96,8 @@ lane_index ws section id = option_and_then (lane_within ws id) (section_at ws se
 abbrev pub mark_lane_in : List ℕ → ℕ → Ranked → Option Ranked
 mark_lane_in ws id s = lane_among 0 (get_or ws (section_word s.index + 1) 0) (get_or ws (section_word s.index + 2) 0) id
 
--- The same, by the section that the line names. Where it is not there section 0 stands in for it: a mark's words are kept all the same, and its lane's means nothing.
+-- The place of a mark's lane in the section that the line names. Where that is not there section 0 stands in for it: a mark's words are kept all the same, and its
+-- lane's means nothing.
 unfoldable pub mark_lane : List ℕ → ℕ → ℕ → Option Ranked
 mark_lane ws section id = mark_lane_in ws id (unwrap_or (section_at ws section) (index_at 0))
 

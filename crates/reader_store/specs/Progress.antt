@@ -15,7 +15,7 @@ strip_of side place = bit_in side * 2 + bit_in place
 abbrev pub strip_line : List (Option ℕ) → ℕ → Option ℕ
 strip_line strips strip = get_or strips strip None
 
--- with a line noted for a strip
+-- the strips' lines with one noted for a strip
 abbrev pub listed_as : List (Option ℕ) → ℕ → ℕ → List (Option ℕ)
 listed_as strips strip line = set strips strip (Some line)
 

@@ -1,12 +1,11 @@
 // The cells of line k of a table, each put where its column is kept.
 ghost use Rattle.std.specs.Prelude.{◌≡◌, ◌+◌, ◌<◌, ℕ};
-ghost use Rattle.reader_schema.specs.Tables.{columns_most};
-ghost use Rattle.reader_store.specs.Layout.{placed, cells_below, numbers_below, words_below, wants_kept};
+ghost use Rattle.reader_store.specs.Layout.{cells_kept, numbers_kept, codes_kept, wants_kept};
 
-use crate::layout::{Row, number_lines, number_row, word_lines, word_row};
+use crate::layout::{number_columns, number_lines, word_columns, word_lines};
 use crate::memory::code;
 use reader_lines::{Cells, put};
-use reader_schema::tables::{COLUMNS_MOST, WANT_TABLE};
+use reader_schema::tables::WANT_TABLE;
 use records::layout::WANT_STRIDE;
 
 // Line k of a table, counted from 0, and its cells.
@@ -17,50 +16,41 @@ pub struct TableLine {
     pub cells: Cells,
 }
 
-// Keeps a value at its place, counted from 1, of the line that begins at `line`; 0 is no place.
-fn put_cell<T: Copy>(list: &mut [T], line: usize, place: u8, value: T)
-    requires { line < 1000000000000000 }
-    ensures { list.new ≡ placed line place value list.old }
-{
-    if let Some(d) = place.checked_sub(1) {
-        put(list, line + d as usize, value);
-    }
-}
-
-// Keeps the cells of the line that begins at `line`, each as what `kept_as` makes of it.
+// Keeps the cells of columns from the place `first` on, each as what `kept_as` makes of it.
 fn put_cells<T: Copy, F: Fn(u64) -> T>(
     list: &mut [T],
-    line: usize,
-    places: Row,
+    first: usize,
+    columns: &[u8],
     cells: Cells,
     kept_as: F,
 )
-    requires start { line < 1000000000000000 }
+    requires start { first < 1000000000000000 }
     requires called { F.IsAlwaysCallable kept_as }
-    ensures { (f : ℕ → T) → ((x : ℕ) (y : T) → F.post kept_as x y → y ≡ f x) → list.new ≡ cells_below f line places cells columns_most list.old }
+    ensures { (f : ℕ → T) → ((x : ℕ) (y : T) → F.post kept_as x y → y ≡ f x) → list.new ≡ cells_kept f cells columns.now first list.old }
 {
-    for column in 0..COLUMNS_MOST {
-        let value = kept_as(cells.of[column]);
-        put_cell(list, line, places[column], value);
+    for (i, column) in columns.iter().enumerate() {
+        put(list, first + i, kept_as(cells.at(*column as usize)));
     }
 }
 
 // Keeps the f64 cells.
 pub(crate) fn put_numbers(numbers: &mut [f64], line: TableLine)
-    ensures { numbers.new ≡ numbers_below line.table line.k line.cells columns_most numbers.old }
+    ensures { numbers.new ≡ numbers_kept line.table line.k line.cells numbers.old }
 {
-    let start = number_lines(line.table).line(line.k as u32);
-    put_cells(numbers, start, number_row(line.table), line.cells, |cell| {
+    let first = number_lines(line.table).line(line.k as u32);
+    let columns = number_columns(line.table);
+    put_cells(numbers, first, columns, line.cells, |cell| {
         reader_hex::of_bits(cell)
     });
 }
 
 // Keeps the codes.
-pub(crate) fn put_words(words: &mut [u16], line: TableLine)
-    ensures { words.new ≡ words_below line.table line.k line.cells columns_most words.old }
+pub(crate) fn put_codes(words: &mut [u16], line: TableLine)
+    ensures { words.new ≡ codes_kept line.table line.k line.cells words.old }
 {
-    let start = word_lines(line.table).line(line.k as u32);
-    put_cells(words, start, word_row(line.table), line.cells, code);
+    let first = word_lines(line.table).line(line.k as u32);
+    let columns = word_columns(line.table);
+    put_cells(words, first, columns, line.cells, code);
 }
 
 // Keeps a want: the patterns of s and t as they were read, a NaN's too.

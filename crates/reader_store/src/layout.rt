@@ -1,13 +1,13 @@
 // The layout of a lent road's memory by table: its places and strides are those of crate records. A function answers each question; a struct for each table
-// would name six things, most of them none. Where a table has no numbers, or no words, its row has no place, and nothing is kept wherever its lines are said to
-// stand: an Option of where they stand would say a second time what the row says.
+// would name six things, most of them none. Where a table has no numbers, or no words, no column holds one, and nothing is kept wherever its lines are said to
+// stand: an Option of where they stand would say a second time what the columns say.
 ghost use Rattle.std.specs.Prelude.{◌≡◌, ◌+◌, ◌*◌, ◌<◌};
-ghost use Rattle.reader_store.specs.Layout.{spaced, number_lines, word_lines, number_row, word_row, count_place, rule_of, base_of, stride_of};
+ghost use Rattle.reader_store.specs.Layout.{spaced, number_lines, word_lines, number_columns, word_columns, count_place, rule_of, base_of, stride_of};
 
 use reader_schema::tables::{
-    BANK_TABLE, COLUMNS_MOST, CUBIC_TABLE, ELEV_TABLE, EXTENT_TABLE, GEOM_TABLE, HEIGHT_TABLE,
-    LANE_TABLE, MARK_TABLE, OFFSET_TABLE, PROFILE_TABLE, ROAD_TABLE, SECTION_TABLE, SHAPE_TABLE,
-    STRIP_TABLE, TSHIFT_TABLE,
+    BANK_TABLE, CUBIC_TABLE, ELEV_TABLE, EXTENT_TABLE, GEOM_TABLE, HEIGHT_TABLE, LANE_TABLE,
+    MARK_TABLE, OFFSET_TABLE, PROFILE_TABLE, ROAD_TABLE, SECTION_TABLE, SHAPE_TABLE, STRIP_TABLE,
+    TSHIFT_TABLE,
 };
 use records::HeightDef;
 use records::layout::{
@@ -48,33 +48,27 @@ impl Lines {
     }
 }
 
-// Which of its line's numbers, or words, each column of a table is, counted from 1; 0 where it is none. The bar is the reading of a job in docs/PERFORMANCE.md,
-// 94 µs. Options in place of the numbers are laid out one to a line, and read for each column took 100 µs of a text of 57,213 bytes where these took 94.
-pub(crate) type Row = [u8; COLUMNS_MOST];
+// The columns that hold a line's numbers, in the order in which they are kept; lanes, strips and wants have none.
+const ONE: &[u8] = &[0]; // road, section, profile
 
-const NO_PLACES: Row = [0; COLUMNS_MOST];
+const GEOM: &[u8] = &[0, 1, 2, 3, 4, 6, 7];
 
-// Lanes, strips and wants have no numbers.
-const ONE: Row = [1, 0, 0, 0, 0, 0, 0, 0]; // road, section, profile
+const ALONG: &[u8] = &[0, 1, 2, 3, 4]; // elev, bank, offset, tshift
 
-const GEOM: Row = [1, 2, 3, 4, 5, 0, 6, 7];
+const EXTENT: &[u8] = &[2, 3, 4, 5, 6];
 
-const ALONG: Row = [1, 2, 3, 4, 5, 0, 0, 0]; // elev, bank, offset, tshift
+const HEIGHT: &[u8] = &[2, 3, 4];
 
-const EXTENT: Row = [0, 0, 1, 2, 3, 4, 5, 0];
+const SHAPE: &[u8] = &[1, 2, 3, 4, 5];
 
-const HEIGHT: Row = [0, 0, 1, 2, 3, 0, 0, 0];
+const CUBIC: &[u8] = &[3, 4, 5, 6, 7];
 
-const SHAPE: Row = [0, 1, 2, 3, 4, 5, 0, 0];
+const MARK: &[u8] = &[2, 3];
 
-const CUBIC: Row = [0, 0, 0, 1, 2, 3, 4, 5];
+// The columns that hold words: a geometry's kind, a lane's extent and level.
+const GEOM_CODES: &[u8] = &[5];
 
-const MARK: Row = [0, 0, 1, 2, 0, 0, 0, 0];
-
-// The words: a geometry's kind, a lane's extent and level.
-const GEOM_CODES: Row = [0, 0, 0, 0, 0, 1, 0, 0];
-
-const LANE_CODES: Row = [0, 0, 1, 2, 0, 0, 0, 0];
+const LANE_CODES: &[u8] = &[2, 3];
 
 // Whose children the lines of a table are, where a parent has a range of them: a lane's extents, its heights, a profile's shapes, a strip's cubics, a section's marks.
 #[derive(Clone, Copy, Debug, PartialEq, Eq)]
@@ -145,10 +139,10 @@ pub(crate) fn word_lines(table: usize) -> Lines
     }
 }
 
-// Which of its line's numbers each column of a table is.
-#[tactic(auto, unfolding(crate::specs::Layout::number_row))]
-pub(crate) fn number_row(table: usize) -> Row
-    ensures { result ≡ number_row table }
+// The columns of a table that hold numbers, in the order of a line's places.
+#[tactic(auto, unfolding(crate::specs::Layout::number_columns))]
+pub(crate) fn number_columns(table: usize) -> &'static [u8]
+    ensures { result.now ≡ number_columns table }
 {
     match table {
         ROAD_TABLE => ONE,
@@ -164,19 +158,19 @@ pub(crate) fn number_row(table: usize) -> Row
         SHAPE_TABLE => SHAPE,
         CUBIC_TABLE => CUBIC,
         MARK_TABLE => MARK,
-        _ => NO_PLACES,
+        _ => &[],
     }
 }
 
-// Which of its line's words each column of a table is.
-#[tactic(auto, unfolding(crate::specs::Layout::word_row))]
-pub(crate) fn word_row(table: usize) -> Row
-    ensures { result ≡ word_row table }
+// The columns of a table that hold words, in the order of a line's places.
+#[tactic(auto, unfolding(crate::specs::Layout::word_columns))]
+pub(crate) fn word_columns(table: usize) -> &'static [u8]
+    ensures { result.now ≡ word_columns table }
 {
     match table {
         GEOM_TABLE => GEOM_CODES,
         LANE_TABLE => LANE_CODES,
-        _ => NO_PLACES,
+        _ => &[],
     }
 }
 

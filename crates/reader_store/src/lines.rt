@@ -1,11 +1,10 @@
 // A line kept: its cells at their places, and the line under its parent.
 ghost use Rattle.std.specs.Prelude.{◌≡◌};
-ghost use Rattle.reader_schema.specs.Tables.{columns_most};
-ghost use Rattle.reader_store.specs.Layout.{numbers_below, wants_kept, count_kept, rule_of};
+ghost use Rattle.reader_store.specs.Layout.{numbers_kept, wants_kept, count_kept, rule_of};
 ghost use Rattle.reader_store.specs.Progress.{ended_progress};
 ghost use Rattle.reader_store.specs.Keep.{added, under_progress, under_words, strip_progress, strips_kept, mark_kind, mark_put, own_words, ruled_progress, ruled_words, kept_progress, kept_words};
 
-use crate::columns::{TableLine, put_numbers, put_wants, put_words};
+use crate::columns::{TableLine, put_codes, put_numbers, put_wants};
 use crate::layout::{Family, Rule, count_place, rule_of};
 use crate::memory::{code, one_more, put_at, word};
 use crate::parents::{Counted, lane_turn, mark_lane, parent_of, ranked_at};
@@ -122,12 +121,12 @@ pub fn keep_line(
 ) -> Progress
     ensures value { result ≡ kept_progress line.table line.k line.cells progress words.old }
     ensures words_after { words.new ≡ kept_words line.table line.k line.cells progress words.old }
-    ensures numbers_after { numbers.new ≡ numbers_below line.table line.k line.cells columns_most numbers.old }
+    ensures numbers_after { numbers.new ≡ numbers_kept line.table line.k line.cells numbers.old }
     ensures wants_after { wants.new ≡ wants_kept line.table line.k line.cells wants.old }
 {
     put_numbers(numbers, line);
     put_wants(wants, line);
-    put_words(words, line);
+    put_codes(words, line);
     keep_ruled(words, line, progress)
 }
 

@@ -159,7 +159,7 @@ fn lane_by(section: SectionRecord, id: u64) -> Option<Ranked>
     Some(ranked_at(first as u32 + left as u32 + (FIRST_RIGHT - id) as u32))
 }
 
-// The same, of the section that a line names.
+// The lane with an id, of the section that a line names.
 #[tactic(auto, unfolding(crate::specs::Parents::lane_index))]
 fn lane_of(words: &[u16], section: u64, id: u64) -> Option<Ranked>
     ensures { result ≡ lane_index words.now section id }

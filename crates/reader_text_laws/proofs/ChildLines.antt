@@ -7,7 +7,7 @@ use mathlib.Core.List.{List}
 use lib.ListN.{length, get_or, replicate}
 use borrow.Author.Tests.{eqb-true, eq-eqb}
 use Rattle.std.specs.Prelude.{Option, Some, None, option_and_then}
-use Rattle.reader_schema.specs.Schema.{limits, limit_of}
+use Rattle.reader_schema.specs.Schema.{limit_of}
 use Rattle.reader_lines.specs.Columns.{cell_of, no_cells}
 use Rattle.reader_lines.specs.declared.columns.Cells.{Cells}
 use Rattle.reader_store.specs.Parents.{index_at, section_at, counted, lane_among, lane_within, lane_index, index_of}
@@ -16,6 +16,7 @@ use Rattle.reader_store.specs.declared.layout.Family.TheVariants.{Extent, Height
 use Rattle.reader_store.specs.declared.parents.Ranked.{Ranked}
 use Rattle.reader_store.specs.declared.progress.Progress.{Progress}
 use Rattle.reader_laws.specs.Lines.{lines_of}
+use Rattle.reader_laws.proofs.LineLimits.{line_limits}
 use Rattle.reader_text_laws.specs.Said.{under, of_lane}
 use Rattle.reader_text_laws.specs.Family.{Follow}
 use Rattle.reader_text_laws.proofs.ParentCases.{found, There, there, counted-there}
@@ -133,10 +134,6 @@ module _ (lanes : List Cells) (S : ℕ) (zs : List ℕ) (rows : LaneRows lanes S
       let y = lane-rank (get_or all (suc k) no_cells) b.0 b.1 b.2 in
       omega arith
 
-limits-are : (limit_of 6 ≡ 16) × (limit_of 7 ≡ 192) × (limit_of 8 ≡ 512) × (limit_of 9 ≡ 512) × (limit_of 10 ≡ 16) × (limit_of 11 ≡ 256)
-unfolding limit_of limits
-limits-are = (refl, refl, refl, refl, refl, refl)
-
 module _ (text : List ℕ) (l n u : ℕ) (state : ℕ → State) (reading : Reading text l n u state) where
   abbrev st : ℕ → State
   st t = state t
@@ -148,13 +145,13 @@ module _ (text : List ℕ) (l n u : ℕ) (state : ℕ → State) (reading : Read
   few t h = reading.few t h
 
   pub sections-few : length (lines_of text 6) ≤ 16
-  sections-few = let f = few 6 (omega arith) in let e = limits-are.0 in omega arith
+  sections-few = let f = few 6 (omega arith) in let e = line_limits.sections in omega arith
 
   pub lanes-few : length (lines_of text 7) ≤ 192
-  lanes-few = let f = few 7 (omega arith) in let e = limits-are.1 in omega arith
+  lanes-few = let f = few 7 (omega arith) in let e = line_limits.lanes in omega arith
 
   pub profiles-few : length (lines_of text 10) ≤ 16
-  profiles-few = let f = few 10 (omega arith) in let e = limits-are.4 in omega arith
+  profiles-few = let f = few 10 (omega arith) in let e = line_limits.profiles in omega arith
 
   pub long : (t : ℕ) → t ≤ 16 → 1891 ≤ length (st t).words
   long t h = state-long text l n u state reading t h
@@ -184,7 +181,7 @@ module _ (text : List ℕ) (l n u : ℕ) (state : ℕ → State) (reading : Read
 
     pub extent-parents : Parents Extent 121 6 (λ i. i < length (lines_of text 7)) NoWord (lines_of text 8) (st 8).progress.strips (st 8).words (lane_as (lines_of text 7) (length (lines_of text 6)) (st 8).words rows-8 counts-8 lanes-few)
     extent-parents =
-        lane-parents (lines_of text 7) (length (lines_of text 6)) (st 8).words rows-8 counts-8 lanes-few Extent 121 (lines_of text 8) (st 8).progress.strips (omega arith) (omega arith) (let f = few 8 (omega arith) in let e = limits-are.2 in omega arith) (long 8 (omega arith))
+        lane-parents (lines_of text 7) (length (lines_of text 6)) (st 8).words rows-8 counts-8 lanes-few Extent 121 (lines_of text 8) (st 8).progress.strips (omega arith) (omega arith) (let f = few 8 (omega arith) in let e = line_limits.extents in omega arith) (long 8 (omega arith))
         (λ us cells. (index-lane us cells (st 8).progress.strips).0)
         (λ i h. let f = lanes-few in (blank-8 (121 + i * 6) (omega arith) (λ j g. (λ e. omega arith, λ e. omega arith)), blank-8 (121 + i * 6 + 1) (omega arith) (λ j g. (λ e. omega arith, λ e. omega arith))))
 
@@ -216,7 +213,7 @@ module _ (text : List ℕ) (l n u : ℕ) (state : ℕ → State) (reading : Read
 
       pub height-parents : Parents Height 123 6 (λ i. i < length (lines_of text 7)) NoWord (lines_of text 9) (st 9).progress.strips (st 9).words (lane_as (lines_of text 7) (length (lines_of text 6)) (st 9).words rows-9 counts-9 lanes-few)
       height-parents =
-          lane-parents (lines_of text 7) (length (lines_of text 6)) (st 9).words rows-9 counts-9 lanes-few Height 123 (lines_of text 9) (st 9).progress.strips (omega arith) (omega arith) (let f = few 9 (omega arith) in let e = limits-are.3 in omega arith) (long 9 (omega arith))
+          lane-parents (lines_of text 7) (length (lines_of text 6)) (st 9).words rows-9 counts-9 lanes-few Height 123 (lines_of text 9) (st 9).progress.strips (omega arith) (omega arith) (let f = few 9 (omega arith) in let e = line_limits.heights in omega arith) (long 9 (omega arith))
           (λ us cells. (index-lane us cells (st 9).progress.strips).1)
           (λ i h. let f = lanes-few in (blank-9 (123 + i * 6) (omega arith) (λ j g. (λ e. omega arith, λ e. omega arith)) (λ j g. (λ e. omega arith, λ e. omega arith)), blank-9 (123 + i * 6 + 1) (omega arith) (λ j g. (λ e. omega arith, λ e. omega arith)) (λ j g. (λ e. omega arith, λ e. omega arith))))
 
@@ -257,7 +254,7 @@ module _ (text : List ℕ) (l n u : ℕ) (state : ℕ → State) (reading : Read
         pub shape-parents : Parents Shape 1271 2 (λ i. i < length (lines_of text 10)) NoWord (lines_of text 11) (st 11).progress.strips (st 11).words profile_as
         shape-parents =
             record {
-              few = let f = few 11 (omega arith) in let e = limits-are.5 in omega arith;
+              few = let f = few 11 (omega arith) in let e = line_limits.shapes in omega arith;
               blank = λ i h. (blank-11 (1271 + i * 2) (omega arith), blank-11 (1271 + i * 2 + 1) (omega arith));
               room = λ i h. let f = profiles-few in let g = long 11 (omega arith) in omega arith;
               apart = λ i j g h. (λ e. omega arith, λ e. omega arith);

@@ -18,7 +18,7 @@ use Rattle.admission_order.specs.Order.{ordered}
 use Rattle.admission.specs.Limits.{limited}
 use Rattle.line_samples.specs.Samples.{most_samples, samples_needed}
 use Rattle.admission.specs.Admission.{admit_call}
-use Rattle.reader_schema.specs.Schema.{limits, limit_of}
+use Rattle.reader_schema.specs.Schema.{limit_of}
 use Rattle.reader_lines.specs.Columns.{cell_of, no_cells}
 use Rattle.reader_lines.specs.declared.columns.Cells.{Cells}
 use Rattle.std.specs.Prelude.{Some}
@@ -26,6 +26,7 @@ use Rattle.reader_store.specs.Layout.{code_of, count_place}
 use Rattle.reader_store.specs.declared.progress.Progress.{Progress}
 use Rattle.reader_calls.specs.Reading.{done}
 use Rattle.reader_laws.specs.Lines.{lines_of, cubic_in, height_in, geom_said}
+use Rattle.reader_laws.proofs.LineLimits.{line_limits}
 use Rattle.reader_laws.proofs.ReadTables.{Stored}
 use Rattle.reader_laws.proofs.TablesKept.{rows_few, numbers-length}
 use Rattle.reader_laws.proofs.CountsKept.{count_kept_lem}
@@ -56,10 +57,6 @@ range-says : {B : Type 0} (g : Cells → B) (p : Cells → Bool) (rows : List Ce
 range-says g p rows f c part least most limit few =
     let fits = part.fits in
     ap (λ (x : Bool). within least most c && x) (le-leb (f + c) limit (omega arith)) ∙ and-true (within least most c) ∙ ap (within least most) (sym (part_count g p rows f c part))
-
-limits-are : (limit_of 7 ≡ 192) × (limit_of 8 ≡ 512) × (limit_of 9 ≡ 512) × (limit_of 11 ≡ 256) × (limit_of 13 ≡ 160) × (limit_of 14 ≡ 256)
-unfolding limit_of limits
-limits-are = (refl, refl, refl, refl, refl, refl)
 
 -- ---- chains of tests
 
@@ -102,7 +99,7 @@ module _ (text : List ℕ) (l m n at count : ℕ) (progress : Progress) (ws : Li
   T t = lines_of text t
 
   few : (t : ℕ) → t < 16 → length (T t) ≤ limit_of t
-  few t h = rows_few text l m n at count progress ws ns vs read t h
+  few t h = rows_few text l m n at count progress ws ns vs read.form t h
 
   word_at : {p q : ℕ} → p ≡ q → get_or ws p 0 ≡ get_or ws q 0
   word_at e = ap (λ (k : ℕ). get_or ws k 0) e
@@ -113,7 +110,7 @@ module _ (text : List ℕ) (l m n at count : ℕ) (progress : Progress) (ws : Li
   unfolding lane_ok lane_counts lane_said
   lane-says j h =
       let c = lane-cells text j in
-      let e = limits-are in
+      let e = line_limits in
       let f = few 8 (omega arith) in
       let g = few 9 (omega arith) in
       lane-chain (ap (λ (v : ℕ). ltb v 2) (lane-extent text l m n at count progress ws ns vs read j h) ∙ code-small (cell_of (get_or (T 7) j no_cells) 2) 2 c.0 (omega arith))
@@ -150,7 +147,7 @@ module _ (text : List ℕ) (l m n at count : ℕ) (progress : Progress) (ws : Li
     marks-say : marks_ok ws i ≡ within 0 16 (length (map (mark_said T i) (those (under i) (T 14))))
     unfolding marks_ok
     marks-say =
-        let e = limits-are in
+        let e = line_limits in
         let f = few 14 (omega arith) in
         let p = mark-part text l m n at count progress ws ns vs read i h in
         let g = p.fits in
@@ -170,7 +167,7 @@ module _ (text : List ℕ) (l m n at count : ℕ) (progress : Progress) (ws : Li
     section-says : section_ok ws i && marks_ok ws i ≡ section_counts (section_said T i (get_or (T 6) i no_cells))
     unfolding section_counts section_said
     section-says =
-        let e = limits-are in
+        let e = line_limits in
         let f = few 7 (omega arith) in
         let r = rights.fits in
         ap (λ (x : Bool). x && marks_ok ws i) section_words_lem
@@ -187,7 +184,7 @@ module _ (text : List ℕ) (l m n at count : ℕ) (progress : Progress) (ws : Li
   profile-says : (i : ℕ) → i < length (T 10) → profile_ok ws i ≡ profile_counts (profile_said T i (get_or (T 10) i no_cells))
   unfolding profile_ok profile_counts profile_said
   profile-says i h =
-      let e = limits-are in
+      let e = line_limits in
       let f = few 11 (omega arith) in
       range-says (cubic_in 1) (under i) (T 11) (get_or ws (1271 + i * 2) 0) (get_or ws (1271 + i * 2 + 1) 0) (shape-part text l m n at count progress ws ns vs read i h) 1 16 256 (omega arith)
 
@@ -197,7 +194,7 @@ module _ (text : List ℕ) (l m n at count : ℕ) (progress : Progress) (ws : Li
     column-says : (c : ℕ) → c < 5 → column_ok ws (a * 2 + b) c ≡ term_counts (term_said T a b c)
     unfolding column_ok term_counts
     column-says c h =
-        let e = limits-are in
+        let e = line_limits in
         let f = few 13 (omega arith) in
         range-says (cubic_in 3) (of_term a b c) (T 13) (get_or ws (1303 + (a * 2 + b) * 11 + 1 + c * 2) 0) (get_or ws (1303 + (a * 2 + b) * 11 + 1 + c * 2 + 1) 0)
         (part_same (of_term a b c) (T 13) (word_at (omega arith)) (word_at (omega arith)) (column-part text l m n at count progress ws ns vs read a b side place c h)) 0 8 160 (omega arith)
@@ -234,14 +231,14 @@ module _ (text : List ℕ) (l m n at count : ℕ) (progress : Progress) (ws : Li
   counts-held = (held 1 0 (omega arith) refl, held 2 1 (omega arith) refl, held 3 2 (omega arith) refl, held 4 3 (omega arith) refl, held 5 4 (omega arith) refl, held 6 5 (omega arith) refl, held 10 6 (omega arith) refl)
     where
       held : (t p : ℕ) → t < 16 → count_place t ≡ Some p → get_or ws p 0 ≡ length (T t)
-      held = count_kept_lem text l m n at count progress ws ns vs read
+      held = count_kept_lem text l m n at count progress ws ns vs read.form
 
   kinds-say : kinds_ok ws ≡ true
   unfolding kinds_ok
   kinds-say =
       let c = counts-held.0 in
       all_pass (λ i. ltb (get_or ws (7 + i) 0) 3) (get_or ws 0 0)
-      (λ i h. ap (λ (v : ℕ). ltb v 3) (kind-kept text l m n at count progress ws ns vs read i (omega arith)) ∙ code-small (cell_of (get_or (T 1) i no_cells) 5) 3 (geom-cell text i) (omega arith))
+      (λ i h. ap (λ (v : ℕ). ltb v 3) (kind-kept text l m n at count progress ws ns vs read.form i (omega arith)) ∙ code-small (cell_of (get_or (T 1) i no_cells) 5) 3 (geom-cell text i) (omega arith))
 
   sections-say : all_below (section_ok ws) (get_or ws 5 0) && all_below (marks_ok ws) (get_or ws 5 0) ≡ every section_counts (numbered (section_said T) 0 (T 6))
   sections-say =
@@ -257,8 +254,8 @@ module _ (text : List ℕ) (l m n at count : ℕ) (progress : Progress) (ws : Li
       let c = counts-held in
       let along : (t : ℕ) → length (T t) ≡ length (map (cubic_in 0) (T t)) = λ t. sym (length-map (T t) (cubic_in 0)) in
       let sections : get_or ws 5 0 ≡ length (numbered (section_said T) 0 (T 6)) = c.5 ∙ sym (numbered-count (section_said T) 0 (T 6)) in
-      structured-chain (all_below (section_ok ws) (get_or ws 5 0)) (all_below (marks_ok ws) (get_or ws 5 0)) (le-leb 1891 (length ws) (let a = read.words_long in let e = words-kept text l m n at count progress ws ns vs read in omega arith))
-      (le-leb 8449 (length ns) (let a = read.numbers_long in let e = numbers-length text l m n at count progress ws ns vs read in omega arith)) kinds-say
+      structured-chain (all_below (section_ok ws) (get_or ws 5 0)) (all_below (marks_ok ws) (get_or ws 5 0)) (le-leb 1891 (length ws) (let a = read.form.words_long in let e = words-kept text l m n at count progress ws ns vs read in omega arith))
+      (le-leb 8449 (length ns) (let a = read.form.numbers_long in let e = numbers-length text l m n at count progress ws ns vs read.form in omega arith)) kinds-say
       (ap (within 1 64) (c.0 ∙ sym (length-map (T 1) geom_said))) (most-says 64 (get_or ws 1 0) ∙ ap (within 0 64) (c.1 ∙ along 2)) (most-says 64 (get_or ws 2 0) ∙ ap (within 0 64) (c.2 ∙ along 3)) (most-says 64 (get_or ws 3 0) ∙ ap (within 0 64) (c.3 ∙ along 4)) (most-says 64 (get_or ws 4 0) ∙ ap (within 0 64) (c.4 ∙ along 5))
       (ap (λ (k : ℕ). leb 1 k) sections) (ap (λ (k : ℕ). leb k 16) sections) (most-says 16 (get_or ws 6 0) ∙ ap (within 0 16) (c.6 ∙ sym (numbered-count (profile_said T) 0 (T 10)))) sections-say profiles-say strips-say
 

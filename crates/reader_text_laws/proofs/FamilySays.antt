@@ -13,14 +13,15 @@ use Rattle.std.proofs.lemmas.Option.{same_Some}
 use Rattle.reader_lines.specs.Columns.{cell_of, no_cells}
 use Rattle.reader_lines.specs.declared.columns.Cells.{Cells}
 use Rattle.reader_store.specs.Layout.{rule_of}
-use Rattle.reader_store.specs.Progress.{strip_line, start_progress}
+use Rattle.reader_store.specs.Progress.{strip_line}
 use Rattle.reader_store.specs.Parents.{index_at, counted}
 use Rattle.reader_store.specs.Keep.{strip_named, mark_put}
 use Rattle.reader_store.specs.declared.layout.Family.TheVariants as families
 use Rattle.reader_store.specs.declared.parents.Ranked.{Ranked}
 use Rattle.reader_store.specs.declared.progress.Progress.{Progress}
+use Rattle.reader_laws.proofs.ReadTables.{RightForm}
 use Rattle.reader_text_laws.proofs.ParentCases.{found, There, there, there_if, counted-in}
-use Rattle.reader_calls.specs.Reading.{done, tables_from, zeros, zero_numbers}
+use Rattle.reader_calls.specs.Reading.{done}
 use Rattle.reader_laws.specs.Lines.{lines_of}
 use Rattle.reader_text_laws.specs.Said.{of_lane}
 use Rattle.reader_text_laws.specs.Family.{line_at, Counted, Follow, of_pair, Family}
@@ -191,21 +192,21 @@ module _ (text : List ℕ) (l n : ℕ) (st : ℕ → State) (rd : Reading text l
 
 -- ---- a right family
 
-module _ (text : List ℕ) (l m n at count : ℕ) (progress : Progress) (ws : List ℕ) (ns : List Float) (vs : List ℕ) (form : tables_from 16 0 text 0 0 start_progress (zeros l) (zero_numbers m) (zeros n) ≡ done at count progress ws ns vs) (words_long : 1891 ≤ length (zeros l)) (numbers_long : 8449 ≤ length (zero_numbers m)) where
+module _ (text : List ℕ) (l m n at count : ℕ) (progress : Progress) (ws : List ℕ) (ns : List Float) (vs : List ℕ) (form : RightForm text l m n (done at count progress ws ns vs)) where
   abbrev T' : ℕ → List Cells
   T' t = lines_of text t
 
   abbrev st' : ℕ → State
-  st' t = state text l m n at count progress ws ns vs form words_long numbers_long t
+  st' t = state text l m n at count progress ws ns vs form t
 
   abbrev Sound : ℕ → Type 0
   Sound t = (track_after t 0 (T' t) (st' t).progress (st' t).words).sound ≡ true
 
   abbrev rd' : (u : ℕ) → ((t : ℕ) → t < u → Sound t) → Reading text l n u st'
-  rd' u f = reading text l m n at count progress ws ns vs form words_long numbers_long u f
+  rd' u f = reading text l m n at count progress ws ns vs form u f
 
   abbrev step' : (t : ℕ) → t < 16 → Step t (T' t) (st' t) (st' (suc t))
-  step' t h = state-step text l m n at count progress ws ns vs form words_long numbers_long t h
+  step' t h = state-step text l m n at count progress ws ns vs form t h
 
   last' : (t : ℕ) → t ≤ 16 → (st' t).progress.last ≡ 0
   last' t h = state-last text l n 0 st' (rd' 0 (λ t h. absurd (omega arith))) t h
@@ -358,7 +359,7 @@ module _ (text : List ℕ) (l m n at count : ℕ) (progress : Progress) (ws : Li
 
     -- the state after a sound table is sound
     begun : (t : ℕ) → t ≤ 16 → ((v : ℕ) → v < t → Sound v) → (st' t).progress.sound ≡ true
-    begun zero h f = ap (λ (s : State). s.progress.sound) (state-first text l m n at count progress ws ns vs form words_long numbers_long)
+    begun zero h f = ap (λ (s : State). s.progress.sound) (state-first text l m n at count progress ws ns vs form)
     begun (suc t) h f = go_on t (omega arith) (f t (omega arith))
 
     upto : (u : ℕ) → u ≤ 16 → (t : ℕ) → t < u → Sound t
@@ -366,12 +367,12 @@ module _ (text : List ℕ) (l m n at count : ℕ) (progress : Progress) (ws : Li
     upto (suc u) h t l = let f = upto u (omega arith) in extend u f (each u (omega arith) f (begun u (omega arith) f)) t l
 
     pub family-sound : progress.sound ≡ true
-    family-sound = ap (λ (s : State). s.progress.sound) (sym (state-end text l m n at count progress ws ns vs form words_long numbers_long)) ∙ begun 16 (omega arith) (upto 16 (omega arith))
+    family-sound = ap (λ (s : State). s.progress.sound) (sym (state-end text l m n at count progress ws ns vs form)) ∙ begun 16 (omega arith) (upto 16 (omega arith))
 
   pub sound-is-family : (progress.sound ≡ true → Family T') × (Family T' → progress.sound ≡ true)
   sound-is-family = (
     λ s.
-        let r = sound-reading text l m n at count progress ws ns vs form words_long numbers_long s in
+        let r = sound-reading text l m n at count progress ws ns vs form s in
         sound-family text l n st' r ((step' 0 (omega arith)).road_line refl (after-sound 1 0 (T' 1) (st' 1).progress (st' 1).words (r.sound 1 (omega arith)))),
     family-sound,
   )

@@ -22,7 +22,7 @@ use Rattle.reader_lines.specs.declared.names_line.Head.{Head}
 use Rattle.reader_lines.specs.declared.values_line.Values.{Values}
 use Rattle.reader_lines.specs.declared.columns.Order.{Order}
 use Rattle.reader_lines.specs.declared.columns.Cells.{Cells}
-use Rattle.reader_store.specs.Layout.{count_place, put_at, count_kept, rule_of, numbers_below, wants_kept}
+use Rattle.reader_store.specs.Layout.{count_place, put_at, count_kept, rule_of, numbers_kept, wants_kept}
 use Rattle.reader_store.specs.Progress.{start_progress, unsound_progress, ended_progress}
 use Rattle.reader_store.specs.Keep.{ruled_progress, kept_words, kept_progress}
 use Rattle.reader_store.specs.declared.progress.Progress.{Progress}
@@ -51,17 +51,17 @@ unfolding track_after
 after-sound t k [] progress ws e = e
 after-sound t k (r ∷ rs) progress ws e = kept-sound t k r progress ws (after-sound t (k + 1) rs (kept_progress t k r progress ws) (kept_words t k r progress ws) e)
 
--- what each line of a sound table keeps, the table keeps
-module _ (t : ℕ) (all : List Cells) (P : ℕ → Progress → List ℕ → Type 0)
-    (line : (k : ℕ) (progress : Progress) (ws : List ℕ) → k < length all → (kept_progress t k (get_or all k no_cells) progress ws).sound ≡ true → P k progress ws → P (k + 1) (kept_progress t k (get_or all k no_cells) progress ws) (kept_words t k (get_or all k no_cells) progress ws)) where
-  lines_from_lem : (rest : List Cells) (k : ℕ) (progress : Progress) (ws : List ℕ) → k + length rest ≡ length all → ((i : ℕ) → get_or rest i no_cells ≡ get_or all (k + i) no_cells) → (track_after t k rest progress ws).sound ≡ true → P k progress ws
-      → P (length all) (track_after t k rest progress ws) (words_after t k rest progress ws)
+-- what each line keeps of the lines to come, the table keeps
+module _ (t : ℕ) (all : List Cells) (R : ℕ → List Cells → Progress → List ℕ → Type 0)
+    (line : (k : ℕ) (rest : List Cells) (progress : Progress) (ws : List ℕ) → k < length all → R k (get_or all k no_cells ∷ rest) progress ws → R (k + 1) rest (kept_progress t k (get_or all k no_cells) progress ws) (kept_words t k (get_or all k no_cells) progress ws)) where
+  fold-from : (rest : List Cells) (k : ℕ) (progress : Progress) (ws : List ℕ) → k + length rest ≡ length all → ((i : ℕ) → get_or rest i no_cells ≡ get_or all (k + i) no_cells) → R k rest progress ws
+      → R (length all) [] (track_after t k rest progress ws) (words_after t k rest progress ws)
   unfolding track_after words_after
-  lines_from_lem [] k progress ws e same s p = subst (λ (n : ℕ). P n progress ws) (sym (add-zero k) ∙ e) p
-  lines_from_lem (r ∷ rs) k progress ws e same s p =
-      lines_from_lem rs (k + 1) (kept_progress t k r progress ws) (kept_words t k r progress ws) (omega arith) (λ i. same (suc i) ∙ ap (λ (n : ℕ). get_or all n no_cells) (next k i)) s
-      (subst (λ (cells : Cells). P (k + 1) (kept_progress t k cells progress ws) (kept_words t k cells progress ws)) (sym here)
-      (line k progress ws (omega arith) (subst (λ (cells : Cells). (kept_progress t k cells progress ws).sound ≡ true) here (after-sound t (k + 1) rs (kept_progress t k r progress ws) (kept_words t k r progress ws) s)) p))
+  fold-from [] k progress ws e same p = subst (λ (n : ℕ). R n [] progress ws) (sym (add-zero k) ∙ e) p
+  fold-from (r ∷ rs) k progress ws e same p =
+      fold-from rs (k + 1) (kept_progress t k r progress ws) (kept_words t k r progress ws) (omega arith) (λ i. same (suc i) ∙ ap (λ (n : ℕ). get_or all n no_cells) (next k i))
+      (subst (λ (cells : Cells). R (k + 1) rs (kept_progress t k cells progress ws) (kept_words t k cells progress ws)) (sym here)
+      (line k rs progress ws (omega arith) (subst (λ (cells : Cells). R k (cells ∷ rs) progress ws) here p)))
     where
       next : (k i : ℕ) → k + suc i ≡ k + 1 + i
       next k i = omega arith
@@ -69,28 +69,22 @@ module _ (t : ℕ) (all : List Cells) (P : ℕ → Progress → List ℕ → Typ
       here : r ≡ get_or all k no_cells
       here = same 0 ∙ ap (λ (n : ℕ). get_or all n no_cells) (add-zero k)
 
-  pub after-lines : (progress : Progress) (ws : List ℕ) → (track_after t 0 all progress ws).sound ≡ true → P 0 progress ws → P (length all) (track_after t 0 all progress ws) (words_after t 0 all progress ws)
-  after-lines progress ws = lines_from_lem all 0 progress ws (zero-add (length all)) (λ i. ap (λ (n : ℕ). get_or all n no_cells) (sym (zero-add i)))
+  lines-fold : (progress : Progress) (ws : List ℕ) → R 0 all progress ws → R (length all) [] (track_after t 0 all progress ws) (words_after t 0 all progress ws)
+  lines-fold progress ws = fold-from all 0 progress ws (zero-add (length all)) (λ i. ap (λ (n : ℕ). get_or all n no_cells) (sym (zero-add i)))
 
--- the same where each line, being right, is shown to be sound on the way
-module _ (t : ℕ) (all : List Cells) (P : ℕ → Progress → List ℕ → Type 0)
-    (line : (k : ℕ) (progress : Progress) (ws : List ℕ) → k < length all → P k progress ws → P (k + 1) (kept_progress t k (get_or all k no_cells) progress ws) (kept_words t k (get_or all k no_cells) progress ws)) where
-  right-from : (rest : List Cells) (k : ℕ) (progress : Progress) (ws : List ℕ) → k + length rest ≡ length all → ((i : ℕ) → get_or rest i no_cells ≡ get_or all (k + i) no_cells) → P k progress ws
-      → P (length all) (track_after t k rest progress ws) (words_after t k rest progress ws)
-  unfolding track_after words_after
-  right-from [] k progress ws e same p = subst (λ (n : ℕ). P n progress ws) (sym (add-zero k) ∙ e) p
-  right-from (r ∷ rs) k progress ws e same p =
-      right-from rs (k + 1) (kept_progress t k r progress ws) (kept_words t k r progress ws) (omega arith) (λ i. same (suc i) ∙ ap (λ (n : ℕ). get_or all n no_cells) (next k i))
-      (subst (λ (cells : Cells). P (k + 1) (kept_progress t k cells progress ws) (kept_words t k cells progress ws)) (sym here) (line k progress ws (omega arith) p))
-    where
-      next : (k i : ℕ) → k + suc i ≡ k + 1 + i
-      next k i = omega arith
+module _ (t : ℕ) (all : List Cells) (P : ℕ → Progress → List ℕ → Type 0) where
+  -- what each line of a sound table keeps, the table keeps
+  pub after-lines : ((k : ℕ) (progress : Progress) (ws : List ℕ) → k < length all → (kept_progress t k (get_or all k no_cells) progress ws).sound ≡ true → P k progress ws → P (k + 1) (kept_progress t k (get_or all k no_cells) progress ws) (kept_words t k (get_or all k no_cells) progress ws))
+      → (progress : Progress) (ws : List ℕ) → (track_after t 0 all progress ws).sound ≡ true → P 0 progress ws → P (length all) (track_after t 0 all progress ws) (words_after t 0 all progress ws)
+  unfolding track_after
+  after-lines line progress ws s p =
+      (lines-fold t all (λ k rest x us. ((track_after t k rest x us).sound ≡ true) × P k x us)
+      (λ k rest x us h q. (q.0, line k x us h (after-sound t (k + 1) rest (kept_progress t k (get_or all k no_cells) x us) (kept_words t k (get_or all k no_cells) x us) q.0) q.1)) progress ws (s, p)).1
 
-      here : r ≡ get_or all k no_cells
-      here = same 0 ∙ ap (λ (n : ℕ). get_or all n no_cells) (add-zero k)
-
-  pub right-lines : (progress : Progress) (ws : List ℕ) → P 0 progress ws → P (length all) (track_after t 0 all progress ws) (words_after t 0 all progress ws)
-  right-lines progress ws = right-from all 0 progress ws (zero-add (length all)) (λ i. ap (λ (n : ℕ). get_or all n no_cells) (sym (zero-add i)))
+  -- where each line, being right, is shown to be sound on the way, what each keeps the table keeps
+  pub right-lines : ((k : ℕ) (progress : Progress) (ws : List ℕ) → k < length all → P k progress ws → P (k + 1) (kept_progress t k (get_or all k no_cells) progress ws) (kept_words t k (get_or all k no_cells) progress ws))
+      → (progress : Progress) (ws : List ℕ) → P 0 progress ws → P (length all) (track_after t 0 all progress ws) (words_after t 0 all progress ws)
+  right-lines line = lines-fold t all (λ k rest x us. P k x us) (λ k rest x us h p. line k x us h p)
 
 -- a table that follows no rule leaves the progress alone
 module _ (t : ℕ) (none : rule_of t ≡ None) where
@@ -148,11 +142,11 @@ lines-by zero t order text at k progress ws ns vs = go (eqb (byte_at text at) 10
     go true x = (refl, omega arith, refl, refl, refl)
     go false (Some row) = tt
     go false None = tt
-lines-by (suc fuel) t order text at k progress ws ns vs = go (eqb (byte_at text at) 10) (values_at text at t order) (λ cells next. lines-by fuel t order text next (k + 1) (kept_progress t k cells progress ws) (kept_words t k cells progress ws) (numbers_below t k cells 8 ns) (wants_kept t k cells vs))
+lines-by (suc fuel) t order text at k progress ws ns vs = go (eqb (byte_at text at) 10) (values_at text at t order) (λ cells next. lines-by fuel t order text next (k + 1) (kept_progress t k cells progress ws) (kept_words t k cells progress ws) (numbers_kept t k cells ns) (wants_kept t k cells vs))
   where
     go : (a : Bool) (x : Option Values)
-        → ((cells : Cells) (next : ℕ) → LinesBy t (k + 1) (kept_progress t k cells progress ws) (kept_words t k cells progress ws) (wants_kept t k cells vs) (lines_at fuel t order text next) (lines_from fuel t order text next (k + 1) (kept_progress t k cells progress ws) (kept_words t k cells progress ws) (numbers_below t k cells 8 ns) (wants_kept t k cells vs)))
-        → LinesBy t k progress ws vs (cond a (lines [] (at + 1)) (by_row x (λ cells next. after cells (lines_at fuel t order text next)))) (cond a (done (at + 1) k (ended_progress progress) (count_kept t k ws) ns vs) (by_values x (λ cells next. lines_from fuel t order text next (k + 1) (kept_progress t k cells progress ws) (kept_words t k cells progress ws) (numbers_below t k cells 8 ns) (wants_kept t k cells vs))))
+        → ((cells : Cells) (next : ℕ) → LinesBy t (k + 1) (kept_progress t k cells progress ws) (kept_words t k cells progress ws) (wants_kept t k cells vs) (lines_at fuel t order text next) (lines_from fuel t order text next (k + 1) (kept_progress t k cells progress ws) (kept_words t k cells progress ws) (numbers_kept t k cells ns) (wants_kept t k cells vs)))
+        → LinesBy t k progress ws vs (cond a (lines [] (at + 1)) (by_row x (λ cells next. after cells (lines_at fuel t order text next)))) (cond a (done (at + 1) k (ended_progress progress) (count_kept t k ws) ns vs) (by_values x (λ cells next. lines_from fuel t order text next (k + 1) (kept_progress t k cells progress ws) (kept_words t k cells progress ws) (numbers_kept t k cells ns) (wants_kept t k cells vs))))
     go true x ih = (refl, omega arith, refl, refl, refl)
     go false (Some row) ih = lines_next t k row.cells progress ws vs (lines_at fuel t order text row.next) _ (ih row.cells row.next)
     go false None ih = tt

@@ -16,7 +16,7 @@ use Rattle.std.proofs.lemmas.Bool.{cases_eq}
 use Rattle.std.proofs.lemmas.Option.{option_and_then_some}
 use Rattle.reader_lines.specs.Columns.{cell_of, no_cells}
 use Rattle.reader_lines.specs.declared.columns.Cells.{Cells}
-use Rattle.reader_store.specs.Layout.{word_lines, one_more, code_of, word_row, word_place, word_put, words_below, rule_of}
+use Rattle.reader_store.specs.Layout.{word_lines, one_more, code_of, word_columns, cells_kept, codes_kept, rule_of}
 use Rattle.reader_store.specs.Parents.{index_at, section_at, side_of, side_word, lane_beside, lane_under, lane_turn}
 use Rattle.reader_store.specs.Keep.{added, under_words, under_progress, ruled_words, ruled_progress, kept_words, kept_progress}
 use Rattle.reader_store.specs.declared.parents.Ranked.{Ranked}
@@ -40,13 +40,13 @@ turn_there {P} ws section id parent e go = option_and_then_some (lane_under ws i
     at : (10000 ≤ section) × (section - 10000 < get_or ws 5 0) → lane_under ws id (index_at (section - 10000)) ≡ Some parent → P
     at h f = map_some (lane_beside ws (index_at (section - 10000))) (side_of (get_or ws (71 + 3 * (section - 10000) + 1) 0) (get_or ws (71 + 3 * (section - 10000) + 2) 0) id) parent f (λ side g i. go side h g i)
 
-lane_words_lem : (k : ℕ) (cells : Cells) (us : List ℕ) → words_below 7 k cells 8 us ≡ set (set us (119 + k * 6 + 0) (code_of (cell_of cells 2))) (119 + k * 6 + 1) (code_of (cell_of cells 3))
-unfolding words_below word_put word_place word_row word_lines
+lane_words_lem : (k : ℕ) (cells : Cells) (us : List ℕ) → codes_kept 7 k cells us ≡ set (set us (119 + k * 6) (code_of (cell_of cells 2))) (119 + k * 6 + 1) (code_of (cell_of cells 3))
+unfolding codes_kept cells_kept word_columns word_lines
 lane_words_lem k cells us = refl
 
 lane_line_lem : (k : ℕ) (cells : Cells) (progress : Progress) (us : List ℕ)
-    → (kept_words 7 k cells progress us ≡ under_words (words_below 7 k cells 8 us) k (lane_turn (words_below 7 k cells 8 us) (cell_of cells 0) (cell_of cells 1)) progress)
-    × (kept_progress 7 k cells progress us ≡ under_progress (lane_turn (words_below 7 k cells 8 us) (cell_of cells 0) (cell_of cells 1)) progress)
+    → (kept_words 7 k cells progress us ≡ under_words (codes_kept 7 k cells us) k (lane_turn (codes_kept 7 k cells us) (cell_of cells 0) (cell_of cells 1)) progress)
+    × (kept_progress 7 k cells progress us ≡ under_progress (lane_turn (codes_kept 7 k cells us) (cell_of cells 0) (cell_of cells 1)) progress)
 unfolding kept_words ruled_words kept_progress ruled_progress rule_of
 lane_line_lem k cells progress us = (refl, refl)
 
@@ -101,34 +101,30 @@ module _ (all : List Cells) (S : ℕ) (strips : List (Option ℕ)) (ws : List �
     s = section_in all k
 
     abbrev us1 : List ℕ
-    us1 = set (set us (119 + k * 6 + 0) (code_of (cell_of cells 2))) (119 + k * 6 + 1) (code_of (cell_of cells 3))
+    us1 = set (set us (119 + k * 6) (code_of (cell_of cells 2))) (119 + k * 6 + 1) (code_of (cell_of cells 3))
 
     one-other : (p : ℕ) → (p ≡ 119 + k * 6 → ⊥) → (p ≡ 119 + k * 6 + 1 → ⊥) → get_or us1 p 0 ≡ get_or us p 0
     one-other p a b =
-        get_or-set_other (set us (119 + k * 6 + 0) (code_of (cell_of cells 2))) (119 + k * 6 + 1) p (code_of (cell_of cells 3)) 0 b
-        ∙ get_or-set_other us (119 + k * 6 + 0) p (code_of (cell_of cells 2)) 0 (λ e. a (omega arith))
+        get_or-set_other (set us (119 + k * 6) (code_of (cell_of cells 2))) (119 + k * 6 + 1) p (code_of (cell_of cells 3)) 0 b
+        ∙ get_or-set_other us (119 + k * 6) p (code_of (cell_of cells 2)) 0 a
 
     one-low : (p : ℕ) → p < 119 → get_or us1 p 0 ≡ get_or us p 0
     one-low p h = one-other p (λ e. omega arith) (λ e. omega arith)
 
     one_size : length us1 ≡ length us
-    one_size = length-set (set us (119 + k * 6 + 0) (code_of (cell_of cells 2))) (119 + k * 6 + 1) (code_of (cell_of cells 3)) ∙ length-set us (119 + k * 6 + 0) (code_of (cell_of cells 2))
+    one_size = length-set (set us (119 + k * 6) (code_of (cell_of cells 2))) (119 + k * 6 + 1) (code_of (cell_of cells 3)) ∙ length-set us (119 + k * 6) (code_of (cell_of cells 2))
 
     one-extent : get_or us1 (119 + k * 6) 0 ≡ code_of (cell_of cells 2)
     one-extent =
         let z = inv.size in
-        get_or-set_other (set us (119 + k * 6 + 0) (code_of (cell_of cells 2))) (119 + k * 6 + 1) (119 + k * 6) (code_of (cell_of cells 3)) 0 (λ e. omega arith)
-        ∙ ap (λ (p : ℕ). get_or (set us (119 + k * 6 + 0) (code_of (cell_of cells 2))) p 0) (plain (119 + k * 6))
-        ∙ get_or-set_same us (119 + k * 6 + 0) (code_of (cell_of cells 2)) 0 (omega arith)
-      where
-        plain : (n : ℕ) → n ≡ n + 0
-        plain n = omega arith
+        get_or-set_other (set us (119 + k * 6) (code_of (cell_of cells 2))) (119 + k * 6 + 1) (119 + k * 6) (code_of (cell_of cells 3)) 0 (λ e. omega arith)
+        ∙ get_or-set_same us (119 + k * 6) (code_of (cell_of cells 2)) 0 (omega arith)
 
     one-level : get_or us1 (119 + k * 6 + 1) 0 ≡ code_of (cell_of cells 3)
     one-level =
         let z = inv.size in
-        let y = length-set us (119 + k * 6 + 0) (code_of (cell_of cells 2)) in
-        get_or-set_same (set us (119 + k * 6 + 0) (code_of (cell_of cells 2))) (119 + k * 6 + 1) (code_of (cell_of cells 3)) 0 (omega arith)
+        let y = length-set us (119 + k * 6) (code_of (cell_of cells 2)) in
+        get_or-set_same (set us (119 + k * 6) (code_of (cell_of cells 2))) (119 + k * 6 + 1) (code_of (cell_of cells 3)) 0 (omega arith)
 
     abbrev first : ℕ
     first = cond (eqb (get_or us1 (71 + 3 * s + 1) 0) 0 && eqb (get_or us1 (71 + 3 * s + 2) 0) 0) k (get_or us1 (71 + 3 * s) 0)
@@ -368,7 +364,7 @@ module _ (all : List Cells) (S : ℕ) (strips : List (Option ℕ)) (ws : List �
         s = section_in all k
 
         zs : List ℕ
-        zs = set (set us (119 + k * 6 + 0) (code_of (cell_of (get_or all k no_cells) 2))) (119 + k * 6 + 1) (code_of (cell_of (get_or all k no_cells) 3))
+        zs = set (set us (119 + k * 6) (code_of (cell_of (get_or all k no_cells) 2))) (119 + k * 6 + 1) (code_of (cell_of (get_or all k no_cells) 3))
 
         low : (q : ℕ) → q < 119 → get_or zs q 0 ≡ get_or us q 0
         low q g = one-low k progress us h p.0 q g

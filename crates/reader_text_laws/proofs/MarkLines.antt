@@ -12,16 +12,16 @@ use lib.Dec.{eqb, ltb}
 use borrow.Author.Tests.{eqb-true, eq-eqb, lt-ltb, le-ltb}
 use Rattle.std.specs.Prelude.{Option, Some, None, is_some, option_and_then}
 use Rattle.std.proofs.lemmas.Option.{cond_some, option_and_then_some}
-use Rattle.reader_schema.specs.Schema.{limits, limit_of}
 use Rattle.reader_lines.specs.Columns.{cell_of, no_cells}
 use Rattle.reader_lines.specs.declared.columns.Cells.{Cells}
-use Rattle.reader_store.specs.Layout.{code_of, word_row, word_place, word_put, words_below, rule_of, base_of, stride_of}
+use Rattle.reader_store.specs.Layout.{code_of, word_columns, cells_kept, codes_kept, rule_of, base_of, stride_of}
 use Rattle.reader_store.specs.Parents.{index_at, counted, lane_among, lane_within, lane_index, mark_lane_in, mark_lane, mark_within, mark_index, index_of, parent_of}
 use Rattle.reader_store.specs.Keep.{mark_kind, mark_place, mark_put, own_words, ruled_words, ruled_progress, kept_words, kept_progress}
 use Rattle.reader_store.specs.declared.layout.Family.TheVariants.{Mark}
 use Rattle.reader_store.specs.declared.parents.Ranked.{Ranked}
 use Rattle.reader_store.specs.declared.progress.Progress.{Progress}
 use Rattle.reader_laws.specs.Lines.{lines_of}
+use Rattle.reader_laws.proofs.LineLimits.{line_limits}
 use Rattle.reader_text_laws.specs.Said.{under, place_said}
 use Rattle.reader_text_laws.proofs.ParentCases.{found, There, there_if, counted-in, counted-there}
 use Rattle.reader_text_laws.proofs.Those.{Part, part_same}
@@ -92,7 +92,7 @@ code_same v h = ap (λ (b : Bool). cond b v 65535) (lt-ltb v 65536 h)
 -- ---- a table under the sections, with lanes
 
 pub mark-ranged : Ranged 14 Mark 1347 2 mark_put
-unfolding kept_words ruled_words own_words kept_progress ruled_progress rule_of words_below word_put word_place word_row parent_of base_of stride_of
+unfolding kept_words ruled_words own_words kept_progress ruled_progress rule_of codes_kept cells_kept word_columns parent_of base_of stride_of
 mark-ranged = record { words = λ k c t w. refl; progress = λ k c t w. refl }
 
 -- marks' own words
@@ -224,10 +224,6 @@ module _ (lanes : List Cells) (S : ℕ) (zs : List ℕ) (rows : LaneRows lanes S
 
 -- ---- a text
 
-limit-marks : limit_of 14 ≡ 256
-unfolding limit_of limits
-limit-marks = refl
-
 module _ (text : List ℕ) (l n u : ℕ) (state : ℕ → State) (reading : Reading text l n u state) (s13 : 13 < u) where
   abbrev st : ℕ → State
   st t = state t
@@ -242,7 +238,7 @@ module _ (text : List ℕ) (l n u : ℕ) (state : ℕ → State) (reading : Read
   few = profiles-few text l n u state reading
 
   pub marks-few : length (T 14) ≤ 256
-  marks-few = let f = reading.few 14 (omega arith) in let e = limit-marks in omega arith
+  marks-few = let f = reading.few 14 (omega arith) in let e = line_limits.marks in omega arith
 
   -- ---- words from before the table cubic
 

@@ -16,7 +16,7 @@ use borrow.Author.Tests.{leb-true, le-leb, eq-eqb, ne_eqb, lt-ltb}
 use Rattle.reader_lines.specs.Columns.{no_cells}
 use Rattle.reader_lines.specs.declared.columns.Cells.{Cells}
 use Rattle.std.specs.Prelude.{Option, Some, None, option_map}
-use Rattle.reader_store.specs.Layout.{one_more, put_at, word_row, word_place, word_put, words_below, rule_of, base_of, stride_of}
+use Rattle.reader_store.specs.Layout.{one_more, put_at, word_columns, cells_kept, codes_kept, rule_of, base_of, stride_of}
 use Rattle.reader_store.specs.Progress.{unsound_progress}
 use Rattle.reader_store.specs.Parents.{first_if, index_of, range_of, parent_of}
 use Rattle.reader_store.specs.Keep.{added, in_order, under_words, under_progress, own_words, ruled_words, ruled_progress, kept_words, kept_progress}
@@ -82,19 +82,19 @@ pub record Ranged (t : ℕ) (family : Family) (base stride : ℕ) (own : Own) : 
   pub progress : (k : ℕ) (cells : Cells) (progress : Progress) (ws : List ℕ) → kept_progress t k cells progress ws ≡ under_progress (option_map (range_of ws base stride) (index_of ws family cells progress.strips)) progress
 
 pub extent-ranged : Ranged 8 Extent 121 6 no_own
-unfolding kept_words ruled_words own_words kept_progress ruled_progress rule_of words_below word_put word_place word_row parent_of base_of stride_of
+unfolding kept_words ruled_words own_words kept_progress ruled_progress rule_of codes_kept cells_kept word_columns parent_of base_of stride_of
 extent-ranged = record { words = λ k c t w. refl; progress = λ k c t w. refl }
 
 pub height-ranged : Ranged 9 Height 123 6 no_own
-unfolding kept_words ruled_words own_words kept_progress ruled_progress rule_of words_below word_put word_place word_row parent_of base_of stride_of
+unfolding kept_words ruled_words own_words kept_progress ruled_progress rule_of codes_kept cells_kept word_columns parent_of base_of stride_of
 height-ranged = record { words = λ k c t w. refl; progress = λ k c t w. refl }
 
 pub shape-ranged : Ranged 11 Shape 1271 2 no_own
-unfolding kept_words ruled_words own_words kept_progress ruled_progress rule_of words_below word_put word_place word_row parent_of base_of stride_of
+unfolding kept_words ruled_words own_words kept_progress ruled_progress rule_of codes_kept cells_kept word_columns parent_of base_of stride_of
 shape-ranged = record { words = λ k c t w. refl; progress = λ k c t w. refl }
 
 pub cubic-ranged : Ranged 13 Cubic 1304 1 no_own
-unfolding kept_words ruled_words own_words kept_progress ruled_progress rule_of words_below word_put word_place word_row parent_of base_of stride_of
+unfolding kept_words ruled_words own_words kept_progress ruled_progress rule_of codes_kept cells_kept word_columns parent_of base_of stride_of
 cubic-ranged = record { words = λ k c t w. refl; progress = λ k c t w. refl }
 
 -- a word that belongs to no range

@@ -23,7 +23,8 @@ use Rattle.admission_structure.proofs.StructureLaws.{cubics-full}
 use Rattle.reader_lines.specs.Columns.{cell_of, no_cells}
 use Rattle.reader_lines.specs.declared.columns.Cells.{Cells}
 use Rattle.std.specs.Prelude.{Option, Some, None}
-use Rattle.reader_store.specs.Layout.{number_lines, word_lines, number_row, number_place, word_row, word_place, code_of, count_place, base_of, stride_of}
+use Rattle.reader_store.specs.Layout.{number_lines, word_lines, number_columns, word_columns, code_of, count_place, base_of, stride_of}
+use Rattle.reader_laws.proofs.ColumnPlaces.{number_place, word_place}
 use Rattle.reader_store.specs.Progress.{strip_line}
 use Rattle.reader_store.specs.Keep.{mark_kind}
 use Rattle.reader_store.specs.declared.progress.Progress.{Progress}
@@ -91,21 +92,21 @@ module _ (text : List ℕ) (l m n at count : ℕ) (progress : Progress) (ws : Li
   T t = lines_of text t
 
   abbrev st : ℕ → State
-  st t = state text l m n at count progress ws ns vs read.tables read.words_long read.numbers_long t
+  st t = state text l m n at count progress ws ns vs read.form t
 
   abbrev reading : Reading text l n 16 st
   reading =
       let a = read in
-      sound-reading text l m n at count progress ws ns vs a.tables a.words_long a.numbers_long a.sound
+      sound-reading text l m n at count progress ws ns vs a.form a.sound
 
   ended : (p : ℕ) → get_or ws p 0 ≡ get_or (st 16).words p 0
-  ended p = let a = read in ap (λ (s : State). get_or s.words p 0) (sym (state-end text l m n at count progress ws ns vs a.tables a.words_long a.numbers_long))
+  ended p = let a = read in ap (λ (s : State). get_or s.words p 0) (sym (state-end text l m n at count progress ws ns vs a.form))
 
   -- memory keeps its length
   pub words-kept : length ws ≡ length (zeros l)
   words-kept =
       let a = read in
-      ap (λ (s : State). length s.words) (sym (state-end text l m n at count progress ws ns vs a.tables a.words_long a.numbers_long)) ∙ state-size text l n 16 st reading 16 (omega arith)
+      ap (λ (s : State). length s.words) (sym (state-end text l m n at count progress ws ns vs a.form)) ∙ state-size text l n 16 st reading 16 (omega arith)
 
   few : length (T 10) ≤ 16
   few = profiles-few text l n 16 st reading
@@ -191,7 +192,7 @@ module _ (text : List ℕ) (l m n at count : ℕ) (progress : Progress) (ws : Li
     where
       full : length (cubics_in ws ns base first k) ≡ k
       full =
-          let r = rows_inside text l m n at count progress ws ns vs read t small in
+          let r = rows_inside text l m n at count progress ws ns vs read.form t small in
           let f = five.first in
           let s : (number_lines t).first + length (T t) * 5 ≤ length ns = subst (λ (q : ℕ). (number_lines t).first + length (T t) * q ≤ length ns) five.stride r in
           cubics-full ws ns base first k (omega arith)
@@ -213,14 +214,14 @@ module _ (text : List ℕ) (l m n at count : ℕ) (progress : Progress) (ws : Li
 
       full : length (heights_in ws ns first k) ≡ k
       full =
-          let r = rows_inside text l m n at count progress ws ns vs read 9 (omega arith) in
+          let r = rows_inside text l m n at count progress ws ns vs read.form 9 (omega arith) in
           let s : 4305 + length (T 9) * 3 ≤ length ns = subst (λ (q : ℕ). q + length (T 9) * 3 ≤ length ns) height-places.0 (subst (λ (q : ℕ). (number_lines 9).first + length (T 9) * q ≤ length ns) height-places.1 r) in
           height-count (span ns (4305 + first * 3) (k * 3)) ∙ thirds (length (span ns (4305 + first * 3) (k * 3))) k (part_length ns (4305 + first * 3) (k * 3) (omega arith))
 
   -- ---- lanes and sections
 
   pub lane-says : (j : ℕ) → j < length (T 7) → lane_in ws ns j ≡ lane_said T (get_or (T 7) j no_cells)
-  unfolding lane_said number_lines word_lines word_place word_row base_of stride_of
+  unfolding lane_said number_lines word_lines word_place word_columns base_of stride_of
   lane-says j h =
       lane-join ws ns j
       ∙ lane-same (ap (λ (p : ℕ). eqb (get_or ws p 0) 1) (plain (119 + j * 6)) ∙ ap (λ (v : ℕ). eqb v 1) (lane-extent j h) ∙ code_one (cell_of (get_or (T 7) j no_cells) 2))
@@ -232,7 +233,7 @@ module _ (text : List ℕ) (l m n at count : ℕ) (progress : Progress) (ws : Li
   lanes-say p first k part = (let f = part.fits in table-part (lane_in ws ns) (lane_said T) (T 7) first k f (λ j a b. lane-says j (omega arith))) ∙ ap (map (lane_said T)) (sym (those-part p (T 7) first k part))
 
   single : (number_place 6 0 ≡ 1) × (number_place 10 0 ≡ 1)
-  unfolding number_place number_row
+  unfolding number_place number_columns
   single = (refl, refl)
 
   counted : (count_place 6 ≡ Some 5) × (count_place 10 ≡ Some 6)
@@ -262,14 +263,14 @@ module _ (text : List ℕ) (l m n at count : ℕ) (progress : Progress) (ws : Li
   pub section-says : (i : ℕ) → i < length (T 6) → section_in ws ns i ≡ section_said T i (get_or (T 6) i no_cells)
   unfolding section_said base_of stride_of
   section-says i h =
-      section-same (section_start-join ws ns i ∙ number-kept text l m n at count progress ws ns vs read 6 i 0 (omega arith) h (let e = single.0 in omega arith))
+      section-same (section_start-join ws ns i ∙ number-kept text l m n at count progress ws ns vs read.form 6 i 0 (omega arith) h (let e = single.0 in omega arith))
       (left_join ws ns i ∙ lanes-say (left_under i) (first_at ws i) (lefts_at ws i) (left-part (T 7) (length (T 6)) ws lane_rows_lem i h))
       (right-join ws ns i ∙ lanes-say (right_under i) (first_at ws i + lefts_at ws i) (rights_at ws i) (right-part (T 7) (length (T 6)) ws lane_rows_lem i h))
       (marks-join ws ns i ∙ marks-say i h)
 
   pub sections-say : (road_of ws ns).sections ≡ numbered (section_said T) 0 (T 6)
   unfolding count_place
-  sections-say = sections-join ws ns ∙ ap (tabulate (section_in ws ns)) (count_kept_lem text l m n at count progress ws ns vs read 6 5 (omega arith) counted.0) ∙ table-numbered (section_in ws ns) (section_said T) (T 6) section-says
+  sections-say = sections-join ws ns ∙ ap (tabulate (section_in ws ns)) (count_kept_lem text l m n at count progress ws ns vs read.form 6 5 (omega arith) counted.0) ∙ table-numbered (section_in ws ns) (section_said T) (T 6) section-says
 
   -- ---- profiles
 
@@ -277,12 +278,12 @@ module _ (text : List ℕ) (l m n at count : ℕ) (progress : Progress) (ws : Li
   unfolding profile_said number_lines base_of stride_of
   profile-says i h =
       profile-join ws ns i
-      ∙ profile-same (number-kept text l m n at count progress ws ns vs read 10 i 0 (omega arith) h (let e = single.1 in omega arith))
+      ∙ profile-same (number-kept text l m n at count progress ws ns vs read.form 10 i 0 (omega arith) h (let e = single.1 in omega arith))
       (cubics-part 11 1 shape_base shape-five (omega arith) (get_or ws (1271 + i * 2) 0) (get_or ws (1271 + i * 2 + 1) 0) (shape-part i h).fits ∙ ap (map (cubic_in 1)) (sym (those-part (under i) (T 11) (get_or ws (1271 + i * 2) 0) (get_or ws (1271 + i * 2 + 1) 0) (shape-part i h))))
 
   pub profiles-say : (road_of ws ns).profiles ≡ numbered (profile_said T) 0 (T 10)
   unfolding count_place
-  profiles-say = profiles-join ws ns ∙ ap (tabulate (profile_in ws ns)) (count_kept_lem text l m n at count progress ws ns vs read 10 6 (omega arith) counted.1) ∙ table-numbered (profile_in ws ns) (profile_said T) (T 10) profile-says
+  profiles-say = profiles-join ws ns ∙ ap (tabulate (profile_in ws ns)) (count_kept_lem text l m n at count progress ws ns vs read.form 10 6 (omega arith) counted.1) ∙ table-numbered (profile_in ws ns) (profile_said T) (T 10) profile-says
 
   -- ---- strips
 

@@ -3,29 +3,24 @@ use Prim.Native.Nat.{ℕ, zero, suc, ◌+◌, ◌-◌, ◌*◌, ◌<◌, ◌≤�
 use native.Mathlib.Omega.{arith}
 use native.Mathlib.Nat.{zero-add}
 use mathlib.Core.Path.{◌≡◌, refl, sym, ◌∙◌, ap, subst}
-use mathlib.Core.Bool.{true, not, ◌||◌}
+use mathlib.Core.Bool.{true}
 use mathlib.Core.List.{List, [], ◌∷◌}
 use lib.ListN.{length, get_or, set, replicate}
 use lib.Seq.{get_or-set_other}
-use lib.Dec.{eqb, leb}
 use lib.Ieee.{Float}
-use borrow.Author.Tests.{lt-leb}
-use Rattle.std.proofs.lemmas.Bool.{both_ways, not-true}
-use Rattle.records_lent.specs.Lists.{all_below}
-use Rattle.records_lent.proofs.TestLaws.{all-at}
-use Rattle.reader_schema.specs.Schema.{limits, limit_of}
+use Rattle.reader_schema.specs.Schema.{limit_of}
 use Rattle.reader_lines.specs.Columns.{cell_of, no_cells}
 use Rattle.reader_lines.specs.declared.columns.Cells.{Cells}
-use Rattle.std.specs.Prelude.{Option, Some, None, unwrap_or}
-use Rattle.reader_store.specs.Layout.{word_lines, word_row, word_place, code_of, word_put, words_below, count_place, rule_of}
-use Rattle.reader_store.specs.Progress.{start_progress}
+use Rattle.std.specs.Prelude.{Some, None}
+use Rattle.reader_store.specs.Layout.{word_lines, word_columns, code_of, cells_kept, codes_kept, count_place, rule_of}
 use Rattle.reader_store.specs.Keep.{ruled_words, ruled_progress, kept_words, kept_progress}
 use Rattle.reader_store.specs.declared.progress.Progress.{Progress}
-use Rattle.reader_calls.specs.Reading.{Outcome, done, tables_from, zeros, zero_numbers}
+use Rattle.reader_calls.specs.Reading.{done, zeros}
 use Rattle.reader_laws.specs.Lines.{tables_lines, lines_of}
-use Rattle.reader_laws.proofs.LowWords.{or_else}
-use Rattle.reader_laws.proofs.CountsKept.{Counts, CountsBy, tables-counted, zeros-blank}
-use Rattle.reader_laws.proofs.TablesKept.{Holds, Kept, tables-kept}
+use Rattle.reader_laws.proofs.LineLimits.{line_limits}
+use Rattle.reader_laws.proofs.ReadTables.{RightForm}
+use Rattle.reader_laws.proofs.CountsKept.{count-owner, count_kept_lem, zeros-blank}
+use Rattle.reader_laws.proofs.TablesKept.{rows_few}
 use Rattle.reader_text_laws.proofs.Folds.{track_after, words_after, after-sound, after-lines, State, Step, Chain, start_state, chain}
 
 -- ---- a table whose lines keep no word and follow no rule
@@ -42,22 +37,13 @@ quiet-lines t q (r ∷ rs) k progress ws =
     (i.0 ∙ l.0, i.1 ∙ l.1)
 
 quiet : Quiet 0 × Quiet 2 × Quiet 3 × Quiet 4 × Quiet 5 × Quiet 6 × Quiet 10 × Quiet 15
-unfolding kept_words ruled_words kept_progress ruled_progress rule_of words_below word_put word_place word_row
+unfolding kept_words ruled_words kept_progress ruled_progress rule_of codes_kept cells_kept word_columns
 quiet = (λ k c t w. (refl, refl), λ k c t w. (refl, refl), λ k c t w. (refl, refl), λ k c t w. (refl, refl), λ k c t w. (refl, refl), λ k c t w. (refl, refl), λ k c t w. (refl, refl), λ k c t w. (refl, refl))
 
 -- geom keeps a kind for each line, and follows no rule
-geom-line : (k : ℕ) (cells : Cells) (progress : Progress) (ws : List ℕ) → (kept_words 1 k cells progress ws ≡ set ws (7 + k * 1 + 0) (code_of (cell_of cells 5))) × (kept_progress 1 k cells progress ws ≡ progress)
-unfolding kept_words ruled_words kept_progress ruled_progress rule_of words_below word_put word_place word_row word_lines
+geom-line : (k : ℕ) (cells : Cells) (progress : Progress) (ws : List ℕ) → (kept_words 1 k cells progress ws ≡ set ws (7 + k * 1) (code_of (cell_of cells 5))) × (kept_progress 1 k cells progress ws ≡ progress)
+unfolding kept_words ruled_words kept_progress ruled_progress rule_of codes_kept cells_kept word_columns word_lines
 geom-line k cells progress ws = (refl, refl)
-
-limit-geom : limit_of 1 ≡ 64
-unfolding limit_of limits
-limit-geom = refl
-
--- no other table has the counts' words of section and profile
-counts-test : (all_below (λ t. leb t 6 || not (eqb (unwrap_or (count_place t) 7) 5)) 16 ≡ true) × (all_below (λ t. leb t 10 || not (eqb (unwrap_or (count_place t) 7) 6)) 16 ≡ true) × (count_place 6 ≡ Some 5) × (count_place 10 ≡ Some 6)
-unfolding all_below count_place
-counts-test = (refl, refl, refl, refl)
 
 -- what is known of the states of a text of right form, the tables before u sound
 pub record Reading (text : List ℕ) (l n u : ℕ) (state : ℕ → State) : Type 0 where
@@ -71,9 +57,9 @@ pub record Reading (text : List ℕ) (l n u : ℕ) (state : ℕ → State) : Typ
 
 -- ---- a text of right form
 
-module _ (text : List ℕ) (l m n at count : ℕ) (progress : Progress) (ws : List ℕ) (ns : List Float) (vs : List ℕ) (form : tables_from 16 0 text 0 0 start_progress (zeros l) (zero_numbers m) (zeros n) ≡ done at count progress ws ns vs) (words_long : 1891 ≤ length (zeros l)) (numbers_long : 8449 ≤ length (zero_numbers m)) where
+module _ (text : List ℕ) (l m n at count : ℕ) (progress : Progress) (ws : List ℕ) (ns : List Float) (vs : List ℕ) (form : RightForm text l m n (done at count progress ws ns vs)) where
   abbrev all : Chain 16 0 (start_state l n) (tables_lines 16 0 text 0) (record { progress = progress; words = ws; wants = vs }) 0 count
-  all = chain text l m n at count progress ws ns vs form
+  all = chain text l m n at count progress ws ns vs form.tables
 
   pub state : ℕ → State
   state t = all.at t
@@ -90,43 +76,27 @@ module _ (text : List ℕ) (l m n at count : ℕ) (progress : Progress) (ws : Li
   unfolding state
   state-end = all.end
 
-  -- the counts of lines, as the words have them, and the limits of lines
-  all-counts : Counts 16 0 (zeros l) ws (tables_lines 16 0 text 0)
-  all-counts = subst (λ (o : Outcome). CountsBy 16 0 (zeros l) (tables_lines 16 0 text 0) o) form (tables-counted 16 0 text 0 0 start_progress (zeros l) (zero_numbers m) (zeros n) (omega arith) (omega arith) (λ u p h i e. zeros-blank l p))
-
-  count_word_lem : (t p : ℕ) → t < 16 → count_place t ≡ Some p → get_or ws p 0 ≡ length (lines_of text t)
-  unfolding lines_of
-  count_word_lem t p h = all-counts.count t t p (sym (zero-add t)) h
-
-  all-kept : Holds 16 0 (zero_numbers m) ns (tables_lines 16 0 text 0)
-  all-kept = subst (λ (o : Outcome). Kept 16 0 (zero_numbers m) (tables_lines 16 0 text 0) o) form (tables-kept 16 0 text 0 0 start_progress (zeros l) (zero_numbers m) (zeros n) (omega arith) numbers_long)
-
-  rows_few : (t : ℕ) → t < 16 → length (lines_of text t) ≤ limit_of t
-  unfolding lines_of
-  rows_few t h = all-kept.few t t (sym (zero-add t)) h
-
   low-from : (p q : ℕ) → p < 7 → ((t : ℕ) → q ≤ t → t < 16 → count_place t ≡ Some p → ⊥) → (d t : ℕ) → t + d ≡ 16 → q ≤ t → get_or (state t).words p 0 ≡ get_or ws p 0
   low-from p q h f zero t e g =
       let z : 16 ≡ t = omega arith in
       subst (λ (u : ℕ). get_or (state u).words p 0 ≡ get_or ws p 0) z (ap (λ (s : State). get_or s.words p 0) state-end)
   low-from p q h f (suc d) t e g = sym ((state-step t (omega arith)).low p h (f t g (omega arith))) ∙ low-from p q h f d (suc t) (omega arith) (omega arith)
 
+  -- no other table has the words of the counts of section and profile
   sections-word : (t : ℕ) → 7 ≤ t → t ≤ 16 → get_or (state t).words 5 0 ≡ length (lines_of text 6)
+  unfolding count_place
   sections-word t g h =
-      low-from 5 7 (omega arith)
-      (λ t a b e. both_ways (eqb (unwrap_or (count_place t) 7) 5) (not-true (eqb (unwrap_or (count_place t) 7) 5) (or_else (leb t 6) (not (eqb (unwrap_or (count_place t) 7) 5)) (all-at (λ t. leb t 6 || not (eqb (unwrap_or (count_place t) 7) 5)) 16 counts-test.0 t b) (lt-leb t 6 (omega arith)))) (ap (λ (o : Option ℕ). eqb (unwrap_or o 7) 5) e))
-      (16 - t) t (omega arith) g
-      ∙ count_word_lem 6 5 (omega arith) counts-test.2
+      low-from 5 7 (omega arith) (λ t a b e. let o : t ≡ 6 = count-owner t b 5 e in omega arith) (16 - t) t (omega arith) g
+      ∙ count_kept_lem text l m n at count progress ws ns vs form 6 5 (omega arith) refl
 
   profiles-word : (t : ℕ) → 11 ≤ t → t ≤ 16 → get_or (state t).words 6 0 ≡ length (lines_of text 10)
+  unfolding count_place
   profiles-word t g h =
-      low-from 6 11 (omega arith)
-      (λ t a b e. both_ways (eqb (unwrap_or (count_place t) 7) 6) (not-true (eqb (unwrap_or (count_place t) 7) 6) (or_else (leb t 10) (not (eqb (unwrap_or (count_place t) 7) 6)) (all-at (λ t. leb t 10 || not (eqb (unwrap_or (count_place t) 7) 6)) 16 counts-test.1 t b) (lt-leb t 10 (omega arith)))) (ap (λ (o : Option ℕ). eqb (unwrap_or o 7) 6) e))
-      (16 - t) t (omega arith) g
-      ∙ count_word_lem 10 6 (omega arith) counts-test.3
+      low-from 6 11 (omega arith) (λ t a b e. let o : t ≡ 10 = count-owner t b 6 e in omega arith) (16 - t) t (omega arith) g
+      ∙ count_kept_lem text l m n at count progress ws ns vs form 10 6 (omega arith) refl
 
   pub reading : (u : ℕ) → ((t : ℕ) → t < u → (track_after t 0 (lines_of text t) (state t).progress (state t).words).sound ≡ true) → Reading text l n u state
-  reading u s = record { first = state-first; step = state-step; long = words_long; few = rows_few; sections = sections-word; profiles = profiles-word; sound = s }
+  reading u s = record { first = state-first; step = state-step; long = form.words_long; few = rows_few text l m n at count progress ws ns vs form; sections = sections-word; profiles = profiles-word; sound = s }
 
   -- a text that ends sound was sound throughout
   sound-from : progress.sound ≡ true → (d t : ℕ) → t + d ≡ 16 → (state t).progress.sound ≡ true
@@ -170,8 +140,8 @@ module _ (text : List ℕ) (l n u : ℕ) (state : ℕ → State) (reading : Read
       line k x us h s p =
           let g = geom-line k (get_or (lines_of text 1) k no_cells) x us in
           let f = reading.few 1 (omega arith) in
-          let i = limit-geom in
-          (ap (λ (y : Progress). y.strips) g.1 ∙ p.0, λ q b. ap (λ (zs : List ℕ). get_or zs q 0) g.0 ∙ get_or-set_other us (7 + k * 1 + 0) q (code_of (cell_of (get_or (lines_of text 1) k no_cells) 5)) 0 (λ e. omega arith) ∙ p.1 q b)
+          let i = line_limits.geoms in
+          (ap (λ (y : Progress). y.strips) g.1 ∙ p.0, λ q b. ap (λ (zs : List ℕ). get_or zs q 0) g.0 ∙ get_or-set_other us (7 + k * 1) q (code_of (cell_of (get_or (lines_of text 1) k no_cells) 5)) 0 (λ e. omega arith) ∙ p.1 q b)
 
       kept : GeomStill (length (lines_of text 1)) (track_after 1 0 (lines_of text 1) (state 1).progress (state 1).words) (words_after 1 0 (lines_of text 1) (state 1).progress (state 1).words)
       kept = after-lines 1 (lines_of text 1) GeomStill line (state 1).progress (state 1).words (reading.sound 1 s1) (refl, λ p g. refl)

@@ -16,10 +16,9 @@ use Rattle.std.proofs.lemmas.Bool.{false≢true, and_parts, cases_eq}
 use Rattle.std.proofs.lemmas.Nat.{same_from_place}
 use Rattle.std.proofs.lemmas.Option.{none-some, same_Some}
 use Rattle.std.proofs.lemmas.List.{get_or-replicate}
-use Rattle.reader_schema.specs.Schema.{limits, limit_of}
 use Rattle.reader_lines.specs.Columns.{cell_of, no_cells}
 use Rattle.reader_lines.specs.declared.columns.Cells.{Cells}
-use Rattle.reader_store.specs.Layout.{word_row, word_place, word_put, words_below, rule_of}
+use Rattle.reader_store.specs.Layout.{word_columns, cells_kept, codes_kept, rule_of}
 use Rattle.reader_store.specs.Progress.{strip_line, listed_as, unsound_progress}
 use Rattle.reader_store.specs.Parents.{term_at, term_of, index_of}
 use Rattle.reader_store.specs.Keep.{strip_named, strips_kept, strip_progress, ruled_words, ruled_progress, kept_words, kept_progress}
@@ -27,6 +26,7 @@ use Rattle.reader_store.specs.declared.layout.Family.TheVariants.{Cubic}
 use Rattle.reader_store.specs.declared.parents.Ranked.{Ranked}
 use Rattle.reader_store.specs.declared.progress.Progress.{Progress}
 use Rattle.reader_laws.specs.Lines.{lines_of}
+use Rattle.reader_laws.proofs.LineLimits.{line_limits}
 use Rattle.reader_text_laws.specs.Said.{of_strip, of_term}
 use Rattle.reader_text_laws.proofs.ParentCases.{found, There, map_some}
 use Rattle.reader_text_laws.proofs.Those.{pair-tells, pair-holds, Part, part_same}
@@ -38,11 +38,14 @@ use Rattle.reader_text_laws.proofs.ChildLines.{kept-part, strips-12, frame-11, b
 
 -- ---- a strip's line noted
 
+strip-small : (a b : ℕ) → a % 2 * 2 + b % 2 < 4
+strip-small a b = omega arith
+
 no_lines : (i : ℕ) → i < 4 → ◌≡◌ {A = Option ℕ} (strip_line (replicate 4 None) i) None
 no_lines i h = get_or-replicate 4 i None None h
 
 strip_line_lem : (k : ℕ) (cells : Cells) (progress : Progress) (us : List ℕ) → (kept_words 12 k cells progress us ≡ strips_kept us cells progress) × (kept_progress 12 k cells progress us ≡ strip_progress k cells progress)
-unfolding kept_words ruled_words kept_progress ruled_progress rule_of words_below word_put word_place word_row
+unfolding kept_words ruled_words kept_progress ruled_progress rule_of codes_kept cells_kept word_columns
 strip_line_lem k cells progress us = (refl, refl)
 
 abbrev noted_by : ℕ → Cells → Progress → Progress
@@ -87,10 +90,7 @@ module _ (all : List Cells) (ws : List ℕ) (few : length all ≤ 4) (long : 189
       x = strip_named cells
 
       below : x < 4
-      below = small (cell_of cells 0) (cell_of cells 1)
-        where
-          small : (a b : ℕ) → a % 2 * 2 + b % 2 < 4
-          small a b = omega arith
+      below = strip-small (cell_of cells 0) (cell_of cells 1)
 
       us' : List ℕ
       us' = set us (1303 + strip_named cells * 11) (cell_of cells 2 % 2 + 1)
@@ -160,12 +160,9 @@ module _ (all : List Cells) (ws : List ℕ) (few : length all ≤ 4) (long : 189
     unfolding strip_progress
     sound-line k progress us h p = (strips-line k progress us h sound p.0, sound)
       where
-        small : (a b : ℕ) → a % 2 * 2 + b % 2 < 4
-        small a b = omega arith
-
         free : (o : Option ℕ) → strip_line progress.strips (strip_at all k) ≡ o → o ≡ None
         free None e = refl
-        free (Some j) e = let q = p.0.seen (strip_at all k) j (small (cell_of (get_or all k no_cells) 0) (cell_of (get_or all k no_cells) 1)) e in let l = q.0 in let z = distinct j k (omega arith) h q.1 in absurd (omega arith)
+        free (Some j) e = let q = p.0.seen (strip_at all k) j (strip-small (cell_of (get_or all k no_cells) 0) (cell_of (get_or all k no_cells) 1)) e in let l = q.0 in let z = distinct j k (omega arith) h q.1 in absurd (omega arith)
 
         sound : (kept_progress 12 k (get_or all k no_cells) progress us).sound ≡ true
         sound =
@@ -186,7 +183,7 @@ pub record Term (i : ℕ) : Type 0 where
   pub is : i ≡ strip * 11 + term * 2
 
 pub mods : (a b c : ℕ) → (a % 2 * 2 + b % 2 < 4) × (c % 5 < 5)
-mods a b c = (omega arith, omega arith)
+mods a b c = (strip-small a b, omega arith)
 
 index-term : (us : List ℕ) (cells : Cells) (strips : List (Option ℕ)) → index_of us Cubic cells strips ≡ term_of strips (cell_of cells 0) (cell_of cells 1) (cell_of cells 2)
 unfolding index_of
@@ -207,10 +204,6 @@ module _ (strips : List (Option ℕ)) (cells : Cells) where
   pub term-there : There term_as → (line : ℕ) × (strip_line strips (strip_named cells) ≡ Some line) × (found term_as ≡ term_by line)
   unfolding term_of
   term-there t = map_some term_by (strip_line strips (strip_named cells)) (found term_as) t (λ line e f. (line, e, sym f))
-
-limits-are : (limit_of 12 ≡ 4) × (limit_of 13 ≡ 160)
-unfolding limit_of limits
-limits-are = (refl, refl)
 
 same-term : (x y a b : ℕ) → a < 5 → b < 5 → x * 11 + a * 2 ≡ y * 11 + b * 2 → (x ≡ y) × (a ≡ b)
 same-term x y a b h g e = (omega arith, omega arith)
@@ -240,7 +233,7 @@ module _ (text : List ℕ) (l n u : ℕ) (state : ℕ → State) (reading : Read
   T t = lines_of text t
 
   pub strips-few : length (T 12) ≤ 4
-  strips-few = let f = reading.few 12 (omega arith) in let e = limits-are.0 in omega arith
+  strips-few = let f = reading.few 12 (omega arith) in let e = line_limits.strips in omega arith
 
   pub blank-12 : 11 < u → (p : ℕ) → 1303 ≤ p → length (T 10) ≤ 16 → get_or (st 12).words p 0 ≡ 0
   blank-12 s11 p h f = frame-11 text l n u state reading (omega arith) (omega arith) (omega arith) (omega arith) p (omega arith) (λ i g. (λ e. omega arith, λ e. omega arith)) ∙ blank-11 text l n u state reading (omega arith) (omega arith) (omega arith) p (omega arith)
@@ -321,7 +314,7 @@ module _ (text : List ℕ) (l n u : ℕ) (state : ℕ → State) (reading : Read
     pub cubic-parents : Parents Cubic 1304 1 Term NoWord (T 13) noted (st 13).words I
     cubic-parents =
         record {
-          few = let f = reading.few 13 (omega arith) in let e = limits-are.1 in omega arith;
+          few = let f = reading.few 13 (omega arith) in let e = line_limits.cubics in omega arith;
           blank = λ i g. (blank-13 (1304 + i * 1) (omega arith) (λ j h. (no-presence i j g.strip g.term g.term_small g.is).0), blank-13 (1304 + i * 1 + 1) (omega arith) (λ j h. (no-presence i j g.strip g.term g.term_small g.is).1));
           room = λ i g. let a = g.strip_small in let b = g.term_small in let c = g.is in let d = state-long text l n u state reading 13 (omega arith) in omega arith;
           apart = apart;

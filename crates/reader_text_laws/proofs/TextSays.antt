@@ -12,7 +12,7 @@ use Rattle.admission.specs.Admission.{admit_call}
 use Rattle.reader_store.specs.declared.progress.Progress.{Progress}
 use Rattle.reader_calls.specs.Reading.{Outcome, done, stop, admitted_as, judge, reading_by, reading_of, zeros, zero_numbers}
 use Rattle.reader_laws.specs.Lines.{lines_of}
-use Rattle.reader_laws.proofs.ReadTables.{Stored, stored}
+use Rattle.reader_laws.proofs.ReadTables.{RightForm, Stored, accepted}
 use Rattle.reader_text_laws.specs.Said.{road_said}
 use Rattle.reader_text_laws.specs.Family.{Family}
 use Rattle.reader_text_laws.specs.Counts.{said_rows}
@@ -42,6 +42,9 @@ module _ (text : List ℕ) (l m n at count : ℕ) (progress : Progress) (ws : Li
     unfolding zeros
     long-wants = let e = length-replicate {A = ℕ} n 0 in let h = f.wants_long in omega arith
 
+    form : RightForm text l m n end
+    form = record { words_long = long_words; numbers_long = long_numbers; wants_long = long-wants; tables = f.tables }
+
     judged : reading_of text l m n ≡ judge end
     unfolding reading_of reading_by
     judged =
@@ -52,12 +55,12 @@ module _ (text : List ℕ) (l m n at count : ℕ) (progress : Progress) (ws : Li
         rw (a, b, c, d, f.tables)
 
     sound-family : (progress.sound ≡ true → Family (lines_of text)) × (Family (lines_of text) → progress.sound ≡ true)
-    sound-family = sound-is-family text l m n at count progress ws ns vs f.tables long_words long_numbers
+    sound-family = sound-is-family text l m n at count progress ws ns vs form
 
     right : Family (lines_of text) → AsSaid text l m n at count progress ws ns vs × (reading_of text l m n ≡ admitted_as (checked (said_rows (road_said (lines_of text))) (value tt)) end stop)
     right family =
         let s = sound-family.1 family in
-        let read : Stored text l m n end = record { words_long = long_words; numbers_long = long_numbers; wants_long = long-wants; tables = f.tables; sound = s } in
+        let read : Stored text l m n end = record { form = form; sound = s } in
         (stored-says read, judged ∙ ap (λ (b : Bool). cond b (admitted_as (admit_call ws ns) end stop) (stop 3)) s ∙ ap (λ (a : Answer (Unit {0})). admitted_as a end stop) (admission-says text l m n at count progress ws ns vs read))
 
     wrong : (Family (lines_of text) → ⊥) → reading_of text l m n ≡ stop 3
@@ -71,4 +74,4 @@ pub text_says : TextSays
 text_says text l m n at count progress ws ns vs f = (right text l m n at count progress ws ns vs f, wrong text l m n at count progress ws ns vs f)
 
 pub read-says : ReadSays
-read-says text l m n at count progress ws ns vs read = stored-says text l m n at count progress ws ns vs (stored text l m n at count progress ws ns vs read)
+read-says text l m n at count progress ws ns vs read = stored-says text l m n at count progress ws ns vs (accepted text l m n at count progress ws ns vs read).stored

@@ -8,14 +8,13 @@ use lib.ListN.{length, set, length-append, length-replicate}
 use lib.Seq.{set-append_seam}
 use lib.Ieee.{Float}
 use borrow.Author.Tests.{ne_eqb}
-use Rattle.reader_schema.specs.Schema.{limits, limit_of}
 use Rattle.reader_lines.specs.Columns.{cell_of}
 use Rattle.reader_lines.specs.declared.columns.Cells.{Cells}
 use Rattle.reader_store.specs.Layout.{wants_kept}
-use Rattle.reader_store.specs.Progress.{start_progress}
 use Rattle.reader_store.specs.declared.progress.Progress.{Progress}
-use Rattle.reader_calls.specs.Reading.{done, tables_from, zeros, zero_numbers}
+use Rattle.reader_calls.specs.Reading.{done, zeros}
 use Rattle.reader_laws.specs.Lines.{lines_of}
+use Rattle.reader_laws.proofs.LineLimits.{line_limits}
 use Rattle.reader_laws.proofs.ReadTables.{Stored}
 use Rattle.reader_laws.proofs.TablesKept.{rows_few}
 use Rattle.reader_text_laws.specs.Said.{patterns, wants_said}
@@ -58,41 +57,28 @@ wants-from (r ∷ rs) k pre (suc (suc z)) e h =
     ∙ append_assoc pre (cell_of r 0 ∷ cell_of r 1 ∷ []) (wants_said rs z)
     ∙ ap (λ (q : ℕ). pre ++ (cell_of r 0 ∷ cell_of r 1 ∷ (patterns rs ++ zeros q))) (less_two z (length (patterns rs)))
 
-limit-want : limit_of 15 ≡ 16
-unfolding limit_of limits
-limit-want = refl
-
 zeros-length : (n : ℕ) → length (zeros n) ≡ n
 unfolding zeros
 zeros-length n = length-replicate n 0
 
 module _ (text : List ℕ) (l m n at count : ℕ) (progress : Progress) (ws : List ℕ) (ns : List Float) (vs : List ℕ) (read : Stored text l m n (done at count progress ws ns vs)) where
-  abbrev form : tables_from 16 0 text 0 0 start_progress (zeros l) (zero_numbers m) (zeros n) ≡ done at count progress ws ns vs
-  form = read.tables
-
-  abbrev words_long : 1891 ≤ length (zeros l)
-  words_long = read.words_long
-
-  abbrev numbers_long : 8449 ≤ length (zero_numbers m)
-  numbers_long = read.numbers_long
-
-  before : (t : ℕ) → t ≤ 15 → (state text l m n at count progress ws ns vs form words_long numbers_long t).wants ≡ zeros n
-  before zero h = ap (λ (s : State). s.wants) (state-first text l m n at count progress ws ns vs form words_long numbers_long)
+  before : (t : ℕ) → t ≤ 15 → (state text l m n at count progress ws ns vs read.form t).wants ≡ zeros n
+  before zero h = ap (λ (s : State). s.wants) (state-first text l m n at count progress ws ns vs read.form)
   before (suc t) h =
-      (state-step text l m n at count progress ws ns vs form words_long numbers_long t (omega arith)).wants
-      ∙ none_kept t (λ e. omega arith) (lines_of text t) 0 (state text l m n at count progress ws ns vs form words_long numbers_long t).wants ∙ before t (omega arith)
+      (state-step text l m n at count progress ws ns vs read.form t (omega arith)).wants
+      ∙ none_kept t (λ e. omega arith) (lines_of text t) 0 (state text l m n at count progress ws ns vs read.form t).wants ∙ before t (omega arith)
 
   pub wants-say : vs ≡ wants_said (lines_of text 15) n
   wants-say =
-      let f = rows_few text l m n at count progress ws ns vs read 15 (omega arith) in
-      let g = limit-want in
-      let w = read.wants_long in
+      let f = rows_few text l m n at count progress ws ns vs read.form 15 (omega arith) in
+      let g = line_limits.wants in
+      let w = read.form.wants_long in
       let z = zeros-length n in
-      ap (λ (s : State). s.wants) (sym (state-end text l m n at count progress ws ns vs form words_long numbers_long))
-      ∙ (state-step text l m n at count progress ws ns vs form words_long numbers_long 15 (omega arith)).wants
+      ap (λ (s : State). s.wants) (sym (state-end text l m n at count progress ws ns vs read.form))
+      ∙ (state-step text l m n at count progress ws ns vs read.form 15 (omega arith)).wants
       ∙ ap (λ (us : List ℕ). wants_after 15 0 (lines_of text 15) us) (before 15 (omega arith))
       ∙ wants-from (lines_of text 15) 0 [] n refl (omega arith)
 
   pub count-says : count ≡ length (lines_of text 15)
   unfolding lines_of
-  count-says = (chain text l m n at count progress ws ns vs form).count 15 refl
+  count-says = (chain text l m n at count progress ws ns vs read.form.tables).count 15 refl

@@ -26,9 +26,9 @@ unfoldable pub section_counts : Section → Bool
 unfolding every lane_counts
 section_counts section =
     within 0 6 (length section.left)  -- "Per section ids 1,2.. left then -1,-2.. right, at most 6 a side"
-    && within 0 6 (length section.right)  -- the same, right
-    && every lane_counts section.left  -- "a lane" is one of either side
-    && every lane_counts section.right  -- the same, right
+    && within 0 6 (length section.right)  -- "at most 6 a side", right
+    && every lane_counts section.left  -- "a lane" is one of either side: left
+    && every lane_counts section.right  -- "a lane", right
     && within 0 16 (length section.marks)  -- document 02, point 2: "mark, .. at most 16 a section"
 
 unfoldable pub profile_counts : Profile → Bool
@@ -46,15 +46,15 @@ unfoldable pub counts_said : Road → Bool
 unfolding every section_counts profile_counts term_counts
 counts_said road =
     within 1 64 (length road.geoms)  -- "geom: .. (1..64)"
-    && within 0 64 (length road.elevations)  -- "elev, bank, offset, tshift: .. (0..64 each)"
-    && within 0 64 (length road.superelevations)  -- the same, bank
-    && within 0 64 (length road.offsets)  -- the same, offset
-    && within 0 64 (length road.tshifts)  -- the same, tshift
+    && within 0 64 (length road.elevations)  -- elev of "elev, bank, offset, tshift: .. (0..64 each)"
+    && within 0 64 (length road.superelevations)  -- bank, "0..64 each"
+    && within 0 64 (length road.offsets)  -- offset, "0..64 each"
+    && within 0 64 (length road.tshifts)  -- tshift, "0..64 each"
     && within 1 16 (length road.sections)  -- "section: start (1..16)"
-    && every section_counts road.sections  -- lane, extent, height and mark, as above
+    && every section_counts road.sections  -- each section's lanes, their extents and heights, its marks
     && within 0 16 (length road.profiles)  -- "profile: s (0..16)"
-    && every profile_counts road.profiles  -- shape, as above
-    && every strip_counts road.strips  -- cubic, as above
+    && every profile_counts road.profiles  -- each profile's shapes
+    && every strip_counts road.strips  -- each strip's cubics
 
 -- rows 3, 4 and 5 of a road: those that a lent road is judged by (admission specs/Admission.antt `road_rows`), with the lengths of its lists in place of the tests on words
 abbrev pub said_rows : Road → List Row

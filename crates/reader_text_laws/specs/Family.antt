@@ -18,7 +18,7 @@ Counted n rows =
     ((j : ℕ) → j < length rows → (whole_bias ≤ cell_of (line_at rows j) 0) × (cell_of (line_at rows j) 0 < whole_bias + n))
     × ((i j : ℕ) → i ≤ j → j < length rows → cell_of (line_at rows i) 0 ≤ cell_of (line_at rows j) 0)
 
--- the same where a parent is a line that has the same names: each line has such a parent, and its parent is none before that of a line before it
+-- the parents are lines themselves: each line has a parent that has the same names, and its parent is none before that of a line before it
 abbrev pub Follow : List Cells → List Cells → (Cells → Cells → Bool) → Type 0
 Follow parents rows names =
     ((j : ℕ) → j < length rows → (k : ℕ) × (k < length parents) × (names (line_at parents k) (line_at rows j) ≡ true))

@@ -34,7 +34,7 @@ TextSays =
     → (Family (lines_of text) → AsSaid text l m n at count progress ws ns vs × (reading_of text l m n ≡ admitted_as (checked (said_rows (road_said (lines_of text))) (value tt)) (done at count progress ws ns vs) stop))
     × ((Family (lines_of text) → ⊥) → reading_of text l m n ≡ stop 3)
 
--- and so of every text that is accepted
+-- of every text that is accepted, what is held is what the text says
 abbrev pub ReadSays : Type 0
 ReadSays =
     (text : List ℕ) (l m n at count : ℕ) (progress : Progress) (ws : List ℕ) (ns : List Float) (vs : List ℕ) → reading_of text l m n ≡ done at count progress ws ns vs → AsSaid text l m n at count progress ws ns vs

@@ -1,6 +1,5 @@
 -- That no lane's id is 0.
-use Prim.Native.Nat.{ℕ, suc}
-use native.Mathlib.Omega.{arith}
+use Prim.Native.Nat.{ℕ}
 use mathlib.Core.Path.{◌≡◌, refl}
 use mathlib.Core.Bool.{true, false}
 use lib.IntN.{pos}
@@ -12,8 +11,8 @@ use Rattle.lanes_naming.specs.Naming.{named_on, name_by, lane_named}
 use Rattle.riftkettle.specs.Exports.{id_returned}
 
 unnamed-by : (left right : Option ℕ) → id_returned (name_by left right) ≡ pos 0 → name_by left right ≡ None
-unnamed-by left (Some k) e = let z : ◌≡◌ {A = ℕ} 0 1 = cc in absurd (omega arith)
-unnamed-by (Some k) None e = let z : suc k ≡ 0 = cc in absurd (omega arith)
+unnamed-by left (Some k) e = absurd cc
+unnamed-by (Some k) None e = absurd cc
 unnamed-by None None e = refl
 
 -- an id of 0 says that no lane is named

@@ -1,5 +1,6 @@
 -- Document 01, "What a call gives back", as a C function gives it: 0 and the values behind its pointers, or the number of the refusal, and what is behind them stays.
-use Rattle.std.specs.Prelude.{ℕ, Bool, true, false, List, [], ◌∷◌, ℤ, pos, Float, Option, Some, None}
+use Rattle.std.specs.Prelude.{ℕ, List, [], ◌∷◌, ℤ, pos, Float, Option, Some, None}
+use Rattle.std.specs.Int.{from_bool}
 use Rattle.refusals.specs.Answer.{Answer, value, refused}
 use Rattle.records.specs.declared.points.RefPoint.{RefPoint}
 use Rattle.surface_station.specs.declared.axis.Axes.{Axes}
@@ -45,9 +46,5 @@ pair_list p = p.s ∷ p.t ∷ []
 abbrev pub moves_of : Position → ℕ
 moves_of p = p.moves
 
-abbrev pub bit_of : Bool → ℕ
-bit_of true = 1
-bit_of false = 0
-
 abbrev pub met_of : Position → ℕ
-met_of p = bit_of p.converged
+met_of p = from_bool p.converged

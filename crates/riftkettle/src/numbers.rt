@@ -34,16 +34,14 @@ pub extern "C" fn riftkettle_hypot(a: f64, b: f64) -> f64
 pub extern "C" fn riftkettle_sin(h: f64) -> f64
     ensures { result ≡ sine_of h }
 {
-    let pair = arithmetic_sine::sin_cos(h);
-    pair.sin
+    arithmetic_sine::sin_cos(h).sin
 }
 
 #[unsafe(no_mangle)]
 pub extern "C" fn riftkettle_cos(h: f64) -> f64
     ensures { result ≡ cosine_of h }
 {
-    let pair = arithmetic_sine::sin_cos(h);
-    pair.cos
+    arithmetic_sine::sin_cos(h).cos
 }
 
 #[unsafe(no_mangle)]

@@ -3,7 +3,7 @@
 ghost use Rattle.std.specs.Prelude.{◌≡◌};
 ghost use Rattle.surface_calls.specs.SurfaceCalls.{station_call, axes_call, surface_call, lane_surface_call};
 ghost use Rattle.surface_calls.specs.LocateCall.{locate_call};
-ghost use Rattle.riftkettle.specs.Exports.{returned, left_by, station_list, axes_list, point_list, heading_of, pair_list, moves_of, bit_of, met_of};
+ghost use Rattle.riftkettle.specs.Exports.{returned, left_by, station_list, axes_list, point_list, heading_of, pair_list, moves_of, met_of};
 
 use crate::answers::leave;
 use records::RefPoint;
@@ -114,14 +114,7 @@ fn pair_list(p: Position) -> [f64; 2]
     [p.s, p.t]
 }
 
-// A mark as a number: 1 for met, 0 for astray.
-fn bit(met: bool) -> u32
-    ensures { result ≡ bit_of met }
-{
-    if met { 1 } else { 0 }
-}
-
-// Refuses 3, 4, 5, 6, 7, 9.
+// Refuses 3, 4, 5, 6, 7, 9. Met is 1, astray 0.
 #[unsafe(no_mangle)]
 pub extern "C" fn riftkettle_locate(
     words: &[u16],
@@ -140,7 +133,7 @@ pub extern "C" fn riftkettle_locate(
     ensures met_after { met.new ≡ left_by met_of (locate_call words.now numbers.now samples.now x y guess) met.old }
 {
     let found = surface_calls::locate(words, numbers, samples, x, y, guess);
-    leave(found.map(|p| bit(p.converged)), met);
+    leave(found.map(|p| u32::from(p.converged)), met);
     leave(found.map(|p| p.moves), moves);
     leave(found.map(pair_list), pair)
 }

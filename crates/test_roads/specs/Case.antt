@@ -1,5 +1,5 @@
--- What a line of the list asks, as numbers: each is an answer of the crates by its own definition. Read `answer_part` and `filled_of` first.
-use Rattle.std.specs.Prelude.{ℕ, ◌+◌, ◌/◌, ◌%◌, ◌^◌, cond, List, ◌==◌, from_bits, slice_index_or, to_bits, ℤ, Float, Option, Some, None}
+-- What a line of the list asks, as numbers: each is an answer of the crates by its own definition. Read `answer_numbers` and `filled_of` first.
+use Rattle.std.specs.Prelude.{ℕ, ◌/◌, ◌%◌, cond, List, [], ◌∷◌, ◌==◌, from_bits, to_bits, ℤ, Float, Option, Some, None}
 use Rattle.std.specs.Float.Ieee.{binary64, of_int, eq, neg}
 use Rattle.std.specs.Float.{nan}
 use Rattle.float_laws.specs.Binary64.{f64, zero64}
@@ -14,7 +14,7 @@ use Rattle.lanes.specs.Lateral.{height_toward}
 use Rattle.lanes_heights.specs.Heights.{across_at}
 use Rattle.lanes_heights.specs.declared.across.Across.{Across}
 use Rattle.test_roads.specs.declared.answers.Question.{Question}
-use Rattle.test_roads.specs.declared.answers.Question.TheVariants.{LinePose, LaneAcross, HeightToward, LaneName, LentNumber}
+use Rattle.test_roads.specs.declared.answers.Question.TheVariants.{LinePose, LaneAcross, HeightToward, LaneName}
 use Rattle.test_roads.specs.declared.answers.Fill.{Fill}
 use Rattle.test_roads.specs.declared.answers.Fill.TheVariants.{Borders, Samples}
 use Rattle.lanes_calls.specs.LaneCalls.{borders_call, borders_list, lane_named_call}
@@ -24,20 +24,21 @@ unfoldable pub pattern_of : Float → ℕ
 pattern_of x = cond (eq x zero64) 0 (to_bits binary64 x)
 
 -- x, y, heading
-abbrev pub pose_part : Pose → ℕ → Float
-pose_part p part = cond (part == 0) p.x (cond (part == 1) p.y p.heading)
+abbrev pub pose_numbers : Pose → List Float
+pose_numbers p = p.x ∷ p.y ∷ p.heading ∷ zero64 ∷ []
 
 -- the borders, then the height at each
-abbrev pub across_part : Across → ℕ → Float
-across_part a part = cond (part == 0) a.inner_t (cond (part == 1) a.outer_t (cond (part == 2) a.inner_height a.outer_height))
+abbrev pub across_numbers : Across → List Float
+across_numbers a = a.inner_t ∷ a.outer_t ∷ a.inner_height ∷ a.outer_height ∷ []
 
 -- a lane at s as 2 k for the k-th of the left, 2 k + 1 for the k-th of the right; level lanes by the bank at s
 unfoldable pub lane_across : Road → Float → ℕ → Across
 lane_across road s lane = across_at road (section_index road s) s (tan_of (value_in road.superelevations s)) (lane % 2 == 1) (lane / 2)
 
--- left, then right
-abbrev pub toward_of : ℕ → Float
-toward_of part = cond (part == 0) (f64 0x3ff0_0000_0000_0000) (neg (f64 0x3ff0_0000_0000_0000))
+-- the heights at t to the left, then to the right
+abbrev pub toward_numbers : Road → Float → Float → List Float
+toward_numbers road s t =
+    height_toward road s t (f64 0x3ff0_0000_0000_0000) ∷ height_toward road s t (neg (f64 0x3ff0_0000_0000_0000)) ∷ zero64 ∷ zero64 ∷ []
 
 -- a lane's id, 0 for none, NaN for a refusal
 abbrev pub name_number : Answer (Option ℤ) → Float
@@ -49,16 +50,15 @@ name_number (refused number) = nan
 unfoldable pub question_of : ℕ → Option Question
 question_of letter =
     cond (letter == 112) (Some LinePose)
-    (cond (letter == 104) (Some LaneAcross) (cond (letter == 116) (Some HeightToward) (cond (letter == 108) (Some LaneName) (cond (letter == 101) (Some LentNumber) None))))
+    (cond (letter == 104) (Some LaneAcross) (cond (letter == 116) (Some HeightToward) (cond (letter == 108) (Some LaneName) None)))
 
--- the number at a place of an answer; a and b are a geometry and s, s and a lane, or s and t, and a is a place of the lent slice
-abbrev pub answer_part : Question → ℕ → ℕ → ℕ → List ℕ → List Float → List Float → Float
-answer_part LinePose a b part words numbers lent = pose_part (pose_of (road_of words numbers) lent a (from_bits binary64 b)) part
-answer_part LaneAcross a b part words numbers lent = across_part (lane_across (road_of words numbers) (from_bits binary64 a) b) part
-answer_part HeightToward a b part words numbers lent =
-    height_toward (road_of words numbers) (from_bits binary64 a) (from_bits binary64 b) (toward_of part)
-answer_part LaneName a b part words numbers lent = name_number (lane_named_call words numbers (from_bits binary64 a) (from_bits binary64 b))
-answer_part LentNumber a b part words numbers lent = slice_index_or lent ((a + part) % 2 ^ 64) nan
+-- the four numbers of an answer; a and b are a geometry and s, s and a lane, or s and t
+abbrev pub answer_numbers : Question → ℕ → ℕ → List ℕ → List Float → List Float → List Float
+answer_numbers LinePose a b words numbers lent = pose_numbers (pose_of (road_of words numbers) lent a (from_bits binary64 b))
+answer_numbers LaneAcross a b words numbers lent = across_numbers (lane_across (road_of words numbers) (from_bits binary64 a) b)
+answer_numbers HeightToward a b words numbers lent = toward_numbers (road_of words numbers) (from_bits binary64 a) (from_bits binary64 b)
+answer_numbers LaneName a b words numbers lent =
+    name_number (lane_named_call words numbers (from_bits binary64 a) (from_bits binary64 b)) ∷ zero64 ∷ zero64 ∷ zero64 ∷ []
 
 -- ---- calls that write into the lent slice
 

@@ -1,34 +1,28 @@
-// What the crates answer, number by number: a line may ask for any count of the lent slice's numbers, so that an answer has no greatest
-// length, and no array holds each. A part is the place of a number in an answer; what makes it is called anew for each part.
+// What the crates answer of a road, as a row of four numbers: the answer's own, then zeros. Calls that write into the lent slice.
 //
 // Calls take the two lent slices and no road: whether one lies there is what they test.
 ghost use Rattle.std.specs.Prelude.{◌≡◌, length};
-ghost use Rattle.line_pose.specs.Poses.{pose_of};
 ghost use Rattle.lanes_calls.specs.LaneCalls.{lane_named_call};
 ghost use Rattle.test_support.specs.Answers.{count_word};
-ghost use Rattle.test_roads.specs.Case.{pose_part, across_part, lane_across, toward_of, name_number, question_of, answer_part, fill_of, filled_of, filled_list};
+ghost use Rattle.test_roads.specs.Case.{pose_numbers, lane_across, across_numbers, toward_numbers, name_number, question_of, answer_numbers, fill_of, filled_of, filled_list};
 
-use line_samples::SampledRoad;
+use lanes_heights::Across;
+use line_samples::{Pose, SampledRoad};
 use reader_hex::of_bits;
 use records::{LanePlace, LentRoad};
 use test_support::{Line, count_word};
 
 // x, y and heading of a pose.
-fn pose_part(lent: &SampledRoad, geometry: u64, s: f64, part: u64) -> f64
-    ensures { result ≡ pose_part (pose_of lent.now.road lent.now.samples.now geometry s) part }
+fn pose_numbers(p: Pose) -> [f64; 4]
+    ensures { result ≡ pose_numbers p }
 {
-    let p = line_pose::pose(lent, geometry as usize, s);
-    match part {
-        0 => p.x,
-        1 => p.y,
-        _ => p.heading,
-    }
+    [p.x, p.y, p.heading, 0.0]
 }
 
-// The two borders of a lane and its height at each.
+// A lane at s: its two borders and its height at each.
 #[tactic(auto, unfolding(crate::specs::Case::lane_across))]
-fn across_part(road: &LentRoad, s: f64, lane: u64, part: u64) -> f64
-    ensures { result ≡ across_part (lane_across road.now s lane) part }
+fn lane_across(road: &LentRoad, s: f64, lane: u64) -> Across
+    ensures { result ≡ lane_across road.now s lane }
 {
     let bank = records_active::value(&road.superelevations(), s);
     let place = LanePlace {
@@ -36,20 +30,22 @@ fn across_part(road: &LentRoad, s: f64, lane: u64, part: u64) -> f64
         right: lane % 2 == 1,
         k: (lane / 2) as usize,
     };
-    let a = lanes_heights::lane_across(road, place, s, arithmetic_sine::tan(bank));
-    match part {
-        0 => a.inner_t,
-        1 => a.outer_t,
-        2 => a.inner_height,
-        _ => a.outer_height,
-    }
+    lanes_heights::lane_across(road, place, s, arithmetic_sine::tan(bank))
 }
 
-// The side that a part asks for: left, then right.
-fn toward(part: u64) -> f64
-    ensures { result ≡ toward_of part }
+fn across_numbers(a: Across) -> [f64; 4]
+    ensures { result ≡ across_numbers a }
 {
-    if part == 0 { 1.0 } else { -1.0 }
+    [a.inner_t, a.outer_t, a.inner_height, a.outer_height]
+}
+
+// The heights of a road's shape at t, to the left and to the right.
+fn toward_numbers(road: &LentRoad, s: f64, t: f64) -> [f64; 4]
+    ensures { result ≡ toward_numbers road.now s t }
+{
+    let left = lanes_shape::height_toward(road, s, t, 1.0);
+    let right = lanes_shape::height_toward(road, s, t, -1.0);
+    [left, right, 0.0, 0.0]
 }
 
 // The id of the lane at t, 0 for none.
@@ -70,7 +66,6 @@ pub(crate) enum Question {
     LaneAcross,
     HeightToward,
     LaneName,
-    LentNumber,
 }
 
 impl Question {
@@ -84,52 +79,38 @@ impl Question {
             b'h' => Some(Question::LaneAcross),
             b't' => Some(Question::HeightToward),
             b'l' => Some(Question::LaneName),
-            b'e' => Some(Question::LentNumber),
             _ => None,
         }
     }
 
-    // How many numbers its answer has.
-    pub(crate) fn count(self, line: Line) -> u64 {
+    // How many numbers of its row are its answer.
+    pub(crate) fn count(self) -> usize {
         match self {
             Question::LinePose => 3,
             Question::LaneAcross => 4,
             Question::HeightToward => 2,
             Question::LaneName => 1,
-            Question::LentNumber => line.b,
         }
     }
 
-    // The number at a place of the answer; lent holds the samples, or what was last written into it.
-    pub(crate) fn answer(
-        self,
-        line: Line,
-        part: u64,
-        words: &[u16],
-        numbers: &[f64],
-        lent: &[f64],
-    ) -> f64
-        ensures { result ≡ answer_part self line.a line.b part words.now numbers.now lent.now }
+    // The row of its answer; lent holds the samples.
+    pub(crate) fn row(self, line: Line, words: &[u16], numbers: &[f64], lent: &[f64]) -> [f64; 4]
+        ensures { result ≡ answer_numbers self line.a line.b words.now numbers.now lent.now }
     {
         let road = LentRoad::new(words, numbers);
         let x = of_bits(line.a);
         let y = of_bits(line.b);
         match self {
             Question::LinePose => {
-                pose_part(
-                    &SampledRoad {
-                        road,
-                        samples: lent,
-                    },
-                    line.a,
-                    y,
-                    part,
-                )
+                let lent = SampledRoad {
+                    road,
+                    samples: lent,
+                };
+                pose_numbers(line_pose::pose(&lent, line.a as usize, y))
             }
-            Question::LaneAcross => across_part(&road, x, line.b, part),
-            Question::HeightToward => lanes_shape::height_toward(&road, x, y, toward(part)),
-            Question::LaneName => name(words, numbers, x, y),
-            Question::LentNumber => records_lent::number(lent, line.a.wrapping_add(part) as usize),
+            Question::LaneAcross => across_numbers(lane_across(&road, x, line.b)),
+            Question::HeightToward => toward_numbers(&road, x, y),
+            Question::LaneName => [name(words, numbers, x, y), 0.0, 0.0, 0.0],
         }
     }
 }

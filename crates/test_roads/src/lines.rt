@@ -37,29 +37,27 @@ impl Replay {
         }
     }
 
-    // False where no number is asked for.
-    fn show_answer(&self, rt: &impl Print, question: Question, line: Line) -> io::Result<bool> {
-        let n = question.count(line);
-        for part in 0..n {
-            show_number(
-                rt,
-                question.answer(line, part, &self.words, &self.numbers, &self.lent),
-            )?;
+    fn show_answer(&self, rt: &impl Print, question: Question, line: Line) -> io::Result<()> {
+        let row = question.row(line, &self.words, &self.numbers, &self.lent);
+        for x in row.iter().take(question.count()) {
+            show_number(rt, *x)?;
         }
-        if n != 0 {
-            println!(rt; "")?;
-        }
-        Ok(n != 0)
+        println!(rt; "")
     }
 
-    // How many samples or lanes were written, and the slice's first numbers, as many as the line asks for.
+    // The slice's numbers from a place on, as many as the line asks for.
+    fn show_lent(&self, rt: &impl Print, from: u64, count: u64) -> io::Result<()> {
+        for part in 0..count {
+            show_number(rt, number(&self.lent, from.wrapping_add(part) as usize))?;
+        }
+        println!(rt; "")
+    }
+
+    // How many samples or lanes were written, and the slice's first numbers.
     fn show_filled(&mut self, rt: &impl Print, fill: Fill, line: Line) -> io::Result<()> {
         let filled = fill.write(line.a, &self.words, &self.numbers, &mut self.lent);
         print!(rt; "{filled:016x} ")?;
-        for part in 0..line.b {
-            show_number(rt, number(&self.lent, part as usize))?;
-        }
-        println!(rt; "")
+        self.show_lent(rt, 0, line.b)
     }
 
     fn show_call(&self, rt: &impl Print, call: Call, line: Line) -> io::Result<()> {
@@ -71,8 +69,7 @@ impl Replay {
         println!(rt; "")
     }
 
-    // A change; false where the letter, a place or a value is unknown. A letter is matched here and nowhere else, so no enum of changes
-    // stands between it and what it does.
+    // A change; false where the letter, a place or a value is unknown. No enum of changes stands between a letter and what it does: each is matched once.
     fn changed(&mut self, line: Line) -> bool {
         match line.letter {
             b'w' => match u16::try_from(line.b) {
@@ -90,10 +87,11 @@ impl Replay {
         }
     }
 
-    // A question or a change; false where it is unknown.
+    // A question, the slice's numbers (some must be asked for) or a change; false where it is unknown.
     fn apply(&mut self, rt: &impl Print, line: Line) -> io::Result<bool> {
         if let Some(question) = Question::named(line.letter) {
-            return self.show_answer(rt, question, line);
+            self.show_answer(rt, question, line)?;
+            return Ok(true);
         }
         if let Some(fill) = Fill::named(line.letter) {
             self.show_filled(rt, fill, line)?;
@@ -101,6 +99,10 @@ impl Replay {
         }
         if let Some(call) = Call::named(line.letter) {
             self.show_call(rt, call, line)?;
+            return Ok(true);
+        }
+        if (line.letter == b'e') & (line.b != 0) {
+            self.show_lent(rt, line.a, line.b)?;
             return Ok(true);
         }
         Ok(self.changed(line))

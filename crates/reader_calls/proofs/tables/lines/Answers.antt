@@ -1,20 +1,8 @@
-use mathlib.Core.Path.{refl, ◌∙◌}
-use native.Mathlib.Omega.{arith}
+use mathlib.Core.Path.{◌∙◌}
 use Rattle.refusals.specs.declared.refusals.Refusal.TheVariants.{Form, Capacity}
-use Rattle.reader_cells.proofs.Inside.{inside}
-use Rattle.reader_calls.proofs.TakingCases.{agree-done, agree-stop, lines_start, lines_end, lines_cut, lines-over, lines_next}
+use Rattle.reader_calls.proofs.TakingCases.{agree-done, agree-stop, lines_end, lines_cut, lines-over, lines_next}
 use borrow.Author.Rules.{rules}
 use Rattle.reader_calls.proofs.tables.lines.Goals as goal
-
-pub loop-order-init : goal.loop-order-init
-loop-order-init c =
-    let a = c.args in
-    (search rules, refl, refl, refl, lines_start a.table a.order a.text.now a.from _ a.words.now a.numbers.now a.wants.now c.limit_of-limit.ensures)
-
-pub overflow_add-result : goal.overflow_add-result
-overflow_add-result c =
-    let h = inside c.args.text.now c.loop-order.at c.byte_at.ensures (omega arith) in
-    record { fits = omega (arith, h) }
 
 pub returns-then-byte_at-eq10 : goal.returns-then-byte_at-eq10
 returns-then-byte_at-eq10 c =

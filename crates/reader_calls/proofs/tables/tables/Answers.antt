@@ -1,13 +1,8 @@
-use mathlib.Core.Path.{refl, ◌∙◌}
+use mathlib.Core.Path.{◌∙◌}
 use borrow.Author.Rules.{rules}
 use Rattle.refusals.specs.declared.refusals.Refusal.TheVariants.{Form}
-use Rattle.reader_calls.proofs.TakingCases.{agree-done, agree-stop, agree_same, agree_err, tables_start, tables-next, tables-stop, tables-rest, tables-done}
+use Rattle.reader_calls.proofs.TakingCases.{agree-done, agree-stop, agree_same, agree_err, tables-next, tables-stop, tables-rest, tables-done}
 use Rattle.reader_calls.proofs.tables.tables.Goals as goal
-
-pub loop-table-init : goal.loop-table-init
-loop-table-init c =
-    let a = c.args in
-    (refl, refl, refl, tables_start a.text.now a.words.now a.numbers.now a.wants.now c.start_progress-progress.ensures)
 
 pub returns-in_err-taken : goal.returns-in_err-taken
 returns-in_err-taken c =

@@ -1,12 +1,9 @@
 -- The first word of the list that is the one sought.
 use Rattle.std.proofs.Common.{◌≡◌, ◌+◌, arith, rules, tests}
-use Rattle.std.proofs.lemmas.Iterator.{first_from_Range, serves_from_Range}
+use Rattle.std.proofs.lemmas.Iterator.{first_from_Range}
 use Rattle.reader_schema.specs.Schema.{word_of}
 use Rattle.reader_schema.proofs.Places.{first_listed}
 use Rattle.reader_schema.proofs.schema.place_of.Goals as goal
-
-pub find-requires : goal.find-requires
-find-requires c = record { can = tt; finite = tt; callable = serves_from_Range (λ x q k. search (rules, tests)) (λ x low high. search rules) }
 
 pub returns : goal.returns
 returns c =

@@ -1,11 +1,11 @@
--- The invariant: the cells of the columns passed are kept.
-use Prim.Native.Nat.{ℕ}
+-- The invariant: what the columns to come keep, kept, gives what all keep.
+use Prim.Native.Nat.{ℕ, ◌+◌}
 use mathlib.Core.Path.{◌≡◌}
-use lib.ListN.{length}
-use Rattle.reader_store.specs.Layout.{cells_below}
+use lib.ListN.{length, drop}
+use Rattle.reader_store.specs.Layout.{cells_kept}
 use Rattle.reader_store.proofs.columns.put_cells.Given as goal
 
-abbrev pub invariant-loop-column : goal.invariant-loop-column
-invariant-loop-column g l =
+abbrev pub invariant-loop-i : goal.invariant-loop-i
+invariant-loop-i g l =
     (length l.list ≡ length l.initial.list)
-    × ((f : ℕ → _) → ((x : ℕ) (y : _) → goal.F-post g l.kept_as x y → y ≡ f x) → l.list ≡ cells_below f l.line l.places l.cells l.column l.initial.list)
+    × ((f : ℕ → _) → ((x : ℕ) (y : _) → goal.F-post g l.kept_as x y → y ≡ f x) → cells_kept f l.cells (drop l.i l.columns) (l.first + l.i) l.list ≡ cells_kept f l.cells l.columns l.first l.initial.list)
