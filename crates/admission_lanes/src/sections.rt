@@ -1,14 +1,14 @@
 // Row 4 of sections and lanes.
-ghost use Rattle.std.specs.Prelude.{◌≡◌, cond, ℕ, length};
+ghost use Rattle.std.specs.Prelude.{◌≡◌, cond, ℕ, length, get_or};
 ghost use Rattle.records_lent.specs.Lists.{all_below};
-ghost use Rattle.records.specs.Roads.{lane_of, section_of};
+ghost use Rattle.records.specs.Roads.{no_lane};
 ghost use Rattle.admission.specs.Limits.{greatest_width, greatest_border, section_extent, height_limited, heights_limited, lane_limited, section_limited};
 
 use admission_bounds::cubics_within;
 use arithmetic_ranges::{LARGEST, in_range, sized};
-use records::{HeightDef, Heights, LanePlace, LentRoad};
-use records_lanes::lane;
-use records_sections::{lane_count, section_count, section_start};
+use records::{HeightDef, Heights, LentRoad};
+use records_lanes::{LentLane, LentSide};
+use records_sections::{section_count, section_start};
 
 const GREATEST_LANE_HEIGHT: f64 = 2.0;
 
@@ -56,20 +56,18 @@ fn lane_limit(border: bool) -> f64
     }
 }
 
-fn lane_limited(road: &LentRoad, extent: f64, place: LanePlace) -> bool
-    ensures { result ≡ lane_limited extent (lane_of road.now place.section place.right place.k) }
+fn lane_limited(lane: &LentLane, extent: f64) -> bool
+    ensures { result ≡ lane_limited extent lane.now }
 {
-    let lane = lane(road, place);
     let limit = lane_limit(lane.border);
     cubics_within(&lane.extents, -LARGEST, LARGEST, extent, limit) && heights_limited(&lane.heights)
 }
 
 // Row 4 of each lane of a side.
-fn side_limited(road: &LentRoad, extent: f64, section: usize, right: bool) -> bool
-    ensures { result ≡ all_below (λ (k : ℕ). lane_limited extent (lane_of road.now section right k)) (length (cond right (section_of road.now section).right (section_of road.now section).left)) }
+fn side_limited(side: &LentSide, extent: f64) -> bool
+    ensures { result ≡ all_below (λ (k : ℕ). lane_limited extent (get_or side.now k no_lane)) (length side.now) }
 {
-    let n = lane_count(road, section, right);
-    (0..n).all(|k| lane_limited(road, extent, LanePlace { section, right, k }))
+    (0..side.len()).all(|k| lane_limited(&side.get(k), extent))
 }
 
 #[tactic(auto, unfolding(admission::specs::Limits::section_limited))]
@@ -77,9 +75,11 @@ fn section_limited(road: &LentRoad, i: usize) -> bool
     ensures { result ≡ section_limited road.now i }
 {
     let extent = section_extent(road, i);
+    let left = LentSide::new(road, i, false);
+    let right = LentSide::new(road, i, true);
     in_range(0.0, road.length(), section_start(road, i))
-        && side_limited(road, extent, i, false)
-        && side_limited(road, extent, i, true)
+        && side_limited(&left, extent)
+        && side_limited(&right, extent)
 }
 
 pub fn sections_limited(road: &LentRoad) -> bool

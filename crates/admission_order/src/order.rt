@@ -1,17 +1,17 @@
 // The order of starts. Every test is a comparison that passes, so a NaN that is compared fails it.
-ghost use Rattle.std.specs.Prelude.{◌≡◌, ◌&&◌, cond, length};
+ghost use Rattle.std.specs.Prelude.{◌≡◌, ◌&&◌, length, get_or};
 ghost use Rattle.std.specs.Float.Ieee.{eq};
 ghost use Rattle.float_laws.specs.Binary64.{zero64};
 ghost use Rattle.records_lent.specs.Lists.{all_below};
-ghost use Rattle.records.specs.Roads.{height_def_at, geom_at, section_of, lane_of, profile_at, strip_at};
+ghost use Rattle.records.specs.Roads.{height_def_at, geom_at, section_of, no_lane, profile_at, strip_at};
 ghost use Rattle.admission_order.specs.Order.{never_fall, rise_strictly, apart, cubics_in_order, lane_in_order, section_in_order, strip_in_order, ordered};
 
 use crate::marks::marks_in_order;
-use records::{Heights, LanePlace, LentRoad};
+use records::{Heights, LentRoad};
 use records_cubic::Cubics;
 use records_geometry::geom;
-use records_lanes::lane;
-use records_sections::{lane_count, section_count, section_start};
+use records_lanes::{LentLane, LentSide};
+use records_sections::{section_count, section_start};
 use records_shapes::{profile_count, profile_start, shapes, strip_column};
 
 // Profiles, and heights of a lane, are at least so far apart.
@@ -47,26 +47,26 @@ fn sections_rise(road: &LentRoad) -> bool
     (0..n).all(|i| section_start(road, i) < section_start(road, i + 1))
 }
 
-fn lane_in_order(road: &LentRoad, place: LanePlace) -> bool
-    ensures { result ≡ lane_in_order (lane_of road.now place.section place.right place.k) }
+fn lane_in_order(lane: &LentLane) -> bool
+    ensures { result ≡ lane_in_order lane.now }
 {
-    let lane = lane(road, place);
     cubics_in_order(&lane.extents) && heights_apart(&lane.heights)
 }
 
 // Whether the lists of each lane of a side are in order.
-fn side_in_order(road: &LentRoad, section: usize, right: bool) -> bool
-    ensures { result ≡ all_below (λ k. lane_in_order (lane_of road.now section right k)) (length (cond right (section_of road.now section).right (section_of road.now section).left)) }
+fn side_in_order(side: &LentSide) -> bool
+    ensures { result ≡ all_below (λ k. lane_in_order (get_or side.now k no_lane)) (length side.now) }
 {
-    let n = lane_count(road, section, right);
-    (0..n).all(|k| lane_in_order(road, LanePlace { section, right, k }))
+    (0..side.len()).all(|k| lane_in_order(&side.get(k)))
 }
 
 #[tactic(auto, unfolding(crate::specs::Order::section_in_order))]
 fn section_in_order(road: &LentRoad, i: usize) -> bool
     ensures { result ≡ section_in_order road.now i }
 {
-    side_in_order(road, i, false) && side_in_order(road, i, true)
+    let left = LentSide::new(road, i, false);
+    let right = LentSide::new(road, i, true);
+    side_in_order(&left) && side_in_order(&right)
 }
 
 fn sections_in_order(road: &LentRoad) -> bool
