@@ -1,7 +1,6 @@
 // Row 4 of mark spans.
-ghost use Rattle.std.specs.Prelude.{◌≡◌, ℕ, length};
+ghost use Rattle.std.specs.Prelude.{◌≡◌, length};
 ghost use Rattle.records_lent.specs.Lists.{all_below};
-ghost use Rattle.records.specs.Roads.{mark_at};
 ghost use Rattle.admission.specs.Limits.{mark_limited, marks_limited};
 
 use admission_lanes::section_extent;

@@ -1,6 +1,6 @@
 // A section's borders into a lent list.
 ghost use Rattle.std.specs.Prelude.{◌≡◌, true, false, ◌*◌, ◌/◌, leb, length};
-ghost use Rattle.lanes_borders.specs.Borders.{sign_of, borders_at, side_lanes, lanes_of, side_list, border_list};
+ghost use Rattle.lanes_borders.specs.Borders.{sign_of, borders_at, lanes_of, side_list};
 ghost use Rattle.lanes_border_list.specs.BorderList.{listed_by};
 
 use lanes_borders::{base_at, border_from, sign_of};

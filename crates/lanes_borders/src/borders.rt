@@ -2,7 +2,7 @@
 ghost use Rattle.std.specs.Prelude.{◌≡◌};
 ghost use Rattle.records.specs.Active.{active_in};
 ghost use Rattle.records.specs.Roads.{lane_of};
-ghost use Rattle.lanes_borders.specs.Borders.{sign_of, border_width, width_of, outer_after, borders_from, base_at, side_lanes, lanes_of, borders_of};
+ghost use Rattle.lanes_borders.specs.Borders.{sign_of, border_width, width_of, outer_after, borders_from, base_at, lanes_of, borders_of};
 
 use crate::across::LaneBorders;
 use arithmetic_ranges::not_below_zero;

@@ -20,7 +20,7 @@ use Rattle.admission_structure.proofs.StructureLaws.{structured-is}
 use Rattle.admission.specs.Limits.{greatest_length, limited}
 use Rattle.admission_laws.proofs.Fitting.{Fitting, RoadFits, road-fits}
 use Rattle.admission_laws.proofs.ActiveRecord.{Active, index-active}
-use Rattle.admission_laws.proofs.CubicBounds.{far, up_to-real, up_to-grows}
+use Rattle.admission_laws.proofs.CubicBounds.{far, up_to-grows}
 use Rattle.admission_laws.proofs.RoadBounds.{OnRoad, InSection, Across, station-within, section_start-in, section_start-within, extent-within, into-section}
 use Rattle.admission.specs.Admission.{admitted}
 use Rattle.admission.proofs.AdmissionLaws.{admitted-structured, admitted-ordered, admitted-limited}

@@ -1,6 +1,5 @@
 -- A text from a place on: what stands there is one equation, `drop at text ≡ bytes`. The byte there, what stands after a piece, and a word that is read there as it is read at the start of `drop at text`.
 use Prim.Native.Nat.{ℕ, zero, suc, ◌+◌, ◌*◌}
-use native.Mathlib.Omega.{arith}
 use native.Mathlib.Nat.{add-zero, add_assoc}
 use mathlib.Core.Path.{◌≡◌, refl, sym, ◌∙◌, ap}
 use mathlib.Core.Bool.{Bool, true, false, cond}

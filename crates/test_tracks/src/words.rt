@@ -1,7 +1,6 @@
 // The words of a line: after its letter each is a space and eight hexadecimal digits in lower case.
 ghost use Rattle.std.specs.Prelude.{◌≡◌, ◌+◌, ◌*◌, ◌≤◌, length, IfOk};
 ghost use Rattle.std.specs.Option.{option_map};
-ghost use Rattle.std.specs.Vec.{vec_items};
 ghost use Rattle.test_tracks.specs.Words.{word_in, words_in, numbers_in};
 
 use reader_hex::eight_at;

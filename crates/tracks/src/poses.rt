@@ -4,7 +4,7 @@ ghost use Rattle.float_laws.specs.Binary32.{clamp_of};
 ghost use Rattle.coordinates.specs.Points.{point_at};
 ghost use Rattle.tracks.specs.Lines.{count_of};
 ghost use Rattle.tracks.specs.Lengths.{length_to};
-ghost use Rattle.tracks.specs.Poses.{segment_of, fraction_along, spot_of, position_at, heading_at, track_pose_of};
+ghost use Rattle.tracks.specs.Poses.{segment_of, fraction_along, spot_of, heading_at, track_pose_of};
 
 use crate::lines::Track;
 use coordinates::{Vector, vector_between};
