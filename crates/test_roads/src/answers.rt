@@ -116,7 +116,15 @@ impl Question {
         let y = of_bits(line.b);
         match self {
             Question::LinePose => {
-                pose_part(&SampledRoad { road, samples: lent }, line.a, y, part)
+                pose_part(
+                    &SampledRoad {
+                        road,
+                        samples: lent,
+                    },
+                    line.a,
+                    y,
+                    part,
+                )
             }
             Question::LaneAcross => across_part(&road, x, line.b, part),
             Question::HeightToward => lanes_shape::height_toward(&road, x, y, toward(part)),
