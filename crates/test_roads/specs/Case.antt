@@ -1,5 +1,5 @@
 -- What a line of the list asks, as numbers: each is an answer of the crates by its own definition. Read `answer_numbers` and `filled_of` first.
-use Rattle.std.specs.Prelude.{ℕ, ◌/◌, ◌%◌, cond, List, [], ◌∷◌, ◌==◌, from_bits, to_bits, ℤ, Float, Option, Some, None}
+use Rattle.std.specs.Prelude.{ℕ, ◌+◌, ◌/◌, ◌%◌, ◌^◌, cond, List, [], ◌∷◌, get_or, ◌==◌, from_bits, to_bits, ℤ, Float, Option, Some, None}
 use Rattle.std.specs.Float.Ieee.{binary64, of_int, eq, neg}
 use Rattle.std.specs.Float.{nan}
 use Rattle.float_laws.specs.Binary64.{f64, zero64}
@@ -59,6 +59,10 @@ answer_numbers LaneAcross a b words numbers lent = across_numbers (lane_across (
 answer_numbers HeightToward a b words numbers lent = toward_numbers (road_of words numbers) (from_bits binary64 a) (from_bits binary64 b)
 answer_numbers LaneName a b words numbers lent =
     name_number (lane_named_call words numbers (from_bits binary64 a) (from_bits binary64 b)) ∷ zero64 ∷ zero64 ∷ zero64 ∷ []
+
+-- the number of the lent slice so many places past one, NaN where the slice has none
+unfoldable pub lent_number : List Float → ℕ → ℕ → Float
+lent_number lent from part = get_or lent ((from + part) % 2 ^ 64) nan
 
 -- ---- calls that write into the lent slice
 

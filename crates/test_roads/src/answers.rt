@@ -4,7 +4,7 @@
 ghost use Rattle.std.specs.Prelude.{◌≡◌, length};
 ghost use Rattle.lanes_calls.specs.LaneCalls.{lane_named_call};
 ghost use Rattle.test_support.specs.Answers.{count_word};
-ghost use Rattle.test_roads.specs.Case.{pose_numbers, lane_across, across_numbers, toward_numbers, name_number, question_of, answer_numbers, fill_of, filled_of, filled_list};
+ghost use Rattle.test_roads.specs.Case.{pose_numbers, lane_across, across_numbers, toward_numbers, name_number, question_of, answer_numbers, lent_number, fill_of, filled_of, filled_list};
 
 use lanes_heights::Across;
 use line_samples::{Pose, SampledRoad};
@@ -113,6 +113,14 @@ impl Question {
             Question::LaneName => [name(words, numbers, x, y), 0.0, 0.0, 0.0],
         }
     }
+}
+
+// The number of the lent slice so many places past one, NaN where the slice has none.
+#[tactic(auto, unfolding(crate::specs::Case::lent_number))]
+pub(crate) fn lent_number(lent: &[f64], from: u64, part: u64) -> f64
+    ensures { result ≡ lent_number lent.now from part }
+{
+    records_lent::number(lent, from.wrapping_add(part) as usize)
 }
 
 // What a line has written into the lent slice.

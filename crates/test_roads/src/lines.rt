@@ -1,12 +1,11 @@
 // Lines of the list, in turn: each puts a word or a number into memory, sets what calls share, or asks.
 //
 // tools/lists/src/bin/roads/main.rs says what each letter means.
-use crate::answers::{Fill, Question};
+use crate::answers::{Fill, Question, lent_number};
 use crate::calls::Call;
 use crate::patterns::pattern;
 use reader_hex::of_bits;
 use records::layout::{NUMBERS_NEEDED, WORDS_NEEDED};
-use records_lent::number;
 use std::io;
 use std::io::Read;
 use test_support::{LINE_LENGTH, Line, line_of, put};
@@ -48,7 +47,7 @@ impl Replay {
     // The slice's numbers from a place on, as many as the line asks for.
     fn show_lent(&self, rt: &impl Print, from: u64, count: u64) -> io::Result<()> {
         for part in 0..count {
-            show_number(rt, number(&self.lent, from.wrapping_add(part) as usize))?;
+            show_number(rt, lent_number(&self.lent, from, part))?;
         }
         println!(rt; "")
     }
