@@ -22,7 +22,7 @@ LOOKS = [
     ("4 copies", "a struct copied to a variable so as to set a field", r"let mut r = \w+;"),
     ("5 road", "the two slices of a road as two parameters", r"words: &(?:mut )?\[u16\],\s*numbers: &(?:'a )?(?:mut )?\[f64\]"),
     ("5 lane", "section, side and place as three parameters", r"section: usize,(?:\s*(?:s|t|tangent): f64,)*\s*right: bool,\s*k: usize"),
-    ("5 parts", "a slice that means a list of records, its length divided", r"\.len\(\) / (?:3|4|5|HEIGHT_STRIDE|CUBIC_STRIDE)\b"),
+    ("5 parts", "a slice that means a list of records, its length divided", r"\blen(?:\(\))? / (?:3|4|5|HEIGHT_STRIDE|CUBIC_STRIDE|SAMPLE_STRIDE)\b"),
     ("6 tables", "an array over tables, rules or lists beside others like it", r"^(?:pub(?:\(crate\))? )?const \w+: \[\w+; (?:TABLE_COUNT|LIST_COUNT|RANGES|COLUMNS_MOST)\]"),
     ("6 buffers", "a slice with how much of it is held beside it", r"text: &(?:mut )?\[u8\],\s*held: usize|out: &mut \[u8\],\s*(?:at|from): usize"),
     ("7 steps", "a match or a chain of tests on a letter, a rule, a part or a kind by number", r"match (?:letter|part|kind|rule|table) \{|if (?:letter|rule|kind) == "),
