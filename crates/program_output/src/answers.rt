@@ -1,7 +1,7 @@
 // A job text answered: read, its road's samples made, and a line for each want.
 //
 // Functions take the two lent slices and no road: the calls that they make take the slices.
-ghost use Rattle.std.specs.Prelude.{◌+◌, ◌*◌, ◌≤◌, ◌≡◌, ◌++◌, true, length};
+ghost use Rattle.std.specs.Prelude.{◌+◌, ◌*◌, ◌/◌, ◌≤◌, ◌≡◌, ◌++◌, true, length};
 ghost use Rattle.refusals.specs.Refusal.{number_of};
 ghost use Rattle.records.specs.Layout.{want_stride, wants_needed};
 ghost use Rattle.records.specs.Roads.{road_of};
@@ -13,6 +13,7 @@ ghost use Rattle.program_output.specs.Output.{want_lines, wants_text, output_of,
 
 use crate::lines::push_want;
 use crate::text::{OUTPUT_NEEDED, Text, push_number};
+use line_samples::SAMPLE_STRIDE;
 use records::layout::{NUMBERS_NEEDED, WANT_STRIDE, WANTS_NEEDED, WORDS_NEEDED};
 use refusals::Refusal;
 
@@ -26,22 +27,14 @@ fn refused(r: Refusal) -> Text
     text
 }
 
-// The lines of n wants: of an admitted road with its own samples, so that every point is finite.
-fn push_wants(
-    text: &mut Text,
-    words: &[u16],
-    numbers: &[f64],
-    samples: &[f64],
-    wants: &[u64],
-    n: usize,
-)
-    requires room { length text.old + 61 * n ≤ OUTPUT_NEEDED }
-    requires want_stride_in_bounds { n * want_stride ≤ length wants.now }
+// The lines of the wants: of an admitted road with its own samples, so that every point is finite.
+fn push_wants(text: &mut Text, words: &[u16], numbers: &[f64], samples: &[f64], wants: &[u64])
+    requires room { length text.old + 61 * (length wants.now / want_stride) ≤ OUTPUT_NEEDED }
     requires numbers_value { admitted words.now numbers.now ≡ true }
     requires samples_value { samples.now ≡ samples_of (road_of words.now numbers.now) }
-    ensures { text.new ≡ text.old ++ want_lines words.now numbers.now samples.now wants.now n }
+    ensures { text.new ≡ text.old ++ want_lines words.now numbers.now samples.now wants.now (length wants.now / want_stride) }
 {
-    for k in 0..n {
+    for k in 0..wants.len() / WANT_STRIDE {
         let s = wants[k * WANT_STRIDE];
         let t = wants[k * WANT_STRIDE + 1];
         let answer = surface_calls::surface(
@@ -56,18 +49,23 @@ fn push_wants(
 }
 
 // The text of an admitted road's wants. Its samples are made here: 2,000 is the most that an admitted road needs.
-fn wants_text(words: &[u16], numbers: &[f64], wants: &[u64], n: usize) -> Text
+fn wants_text(words: &[u16], numbers: &[f64], wants: &[u64]) -> Text
     requires numbers_value { admitted words.now numbers.now ≡ true }
-    requires n_bound { n ≤ 16 }
-    requires wants_needed_in_bounds { wants_needed ≤ length wants.now }
-    ensures { result ≡ wants_text words.now numbers.now wants.now n }
+    requires wants_bound { length wants.now ≤ wants_needed }
+    ensures { result ≡ wants_text words.now numbers.now wants.now (length wants.now / want_stride) }
 {
     let mut samples = [0.0; 8000];
     let mut text = Text::new();
     match line_calls::samples(words, numbers, &mut samples) {
         Ok(count) => {
             text.append(b"s t x y z\n");
-            push_wants(&mut text, words, numbers, &samples[..count * 4], wants, n);
+            push_wants(
+                &mut text,
+                words,
+                numbers,
+                &samples[..count * SAMPLE_STRIDE],
+                wants,
+            );
         }
         // an admitted road has no more samples than there is room for
         Err(_) => (),
@@ -82,13 +80,13 @@ fn output_of(job: &[u8]) -> Text
     let mut numbers = [0.0; NUMBERS_NEEDED];
     let mut wants = [0; WANTS_NEEDED];
     match reader_calls::read(job, &mut words, &mut numbers, &mut wants) {
-        Ok(n) => wants_text(&words, &numbers, &wants, n),
+        Ok(n) => wants_text(&words, &numbers, &wants[..n * WANT_STRIDE]),
         Err(r) => refused(r),
     }
 }
 
 // The text that the program writes for a job text, put at the start of out, and its length. Nothing is written and the answer is 0 where out has
-// fewer bytes than the longest takes.
+// fewer bytes than the longest takes: no text is empty, so a caller tells the two apart, and the promise is the one that callers have.
 pub fn answer(text: &[u8], out: &mut [u8]) -> usize
     ensures in_bounds { result ≤ length out.new }
     ensures value { result ≡ bytes_written text.now out.old }

@@ -13,6 +13,8 @@ pub const OUTPUT_NEEDED: usize = 986;
 
 pub(crate) type Text = fixed_text::Text<OUTPUT_NEEDED>;
 
+// What is put behind a text needs room there, each its own number of bytes, so a `requires` says it and no type.
+
 // The byte of a hexadecimal digit.
 fn glyph(d: u8) -> u8
     requires { d < 16 }

@@ -10,7 +10,7 @@ use crate::answers::{leave, number};
 use records::Point;
 use tracks::{Projection, TrackPose};
 
-fn pose_list(p: TrackPose) -> [f32; 6]
+fn track_pose_list(p: TrackPose) -> [f32; 6]
     ensures { result ≡ track_pose_list p }
 {
     let at = p.position;
@@ -40,7 +40,7 @@ pub extern "C" fn riftkettle_track_pose(points: &[f32], s: f32, pose: &mut [f32;
     ensures value { result ≡ returned (track_pose_call points.now s) }
     ensures pose_after { pose.new ≡ left_by track_pose_list (track_pose_call points.now s) pose.old }
 {
-    leave(tracks_calls::pose_at(points, s).map(pose_list), pose)
+    leave(tracks_calls::pose_at(points, s).map(track_pose_list), pose)
 }
 
 // Refuses 13, 14.

@@ -57,7 +57,8 @@ impl Replay {
         println!(rt; "{number} {} {} {:016x}", seen.answer, seen.wants, case.sum)
     }
 
-    // A letter is matched here and nowhere else, so no enum of steps stands between it and what it does.
+    // No enum of steps stands between a letter and what it does. The three that add to the text are matched again in `extend`, which takes
+    // the line as it is: another letter adds nothing there.
     fn apply(&mut self, rt: &impl Print, line: Option<Line>) -> io::Result<()> {
         match line {
             Some(

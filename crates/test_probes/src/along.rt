@@ -19,5 +19,6 @@ pub extern "C" fn probe_pose(
 {
     let road = LentRoad::new(words, numbers);
     let p = line_pose::pose(&SampledRoad { road, samples }, geometry, s);
+    // riftkettle has this as a function, for the C interface and not public: one for both would be a new public one of line_pose
     *pose = [p.x, p.y, p.heading];
 }

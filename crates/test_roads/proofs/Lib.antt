@@ -1,1 +1,2 @@
 pub mod IdNumbers
+pub mod Marks

@@ -102,11 +102,11 @@ impl Question {
         let y = of_bits(line.b);
         match self {
             Question::LinePose => {
-                let lent = SampledRoad {
+                let sampled = SampledRoad {
                     road,
                     samples: lent,
                 };
-                pose_numbers(line_pose::pose(&lent, line.a as usize, y))
+                pose_numbers(line_pose::pose(&sampled, line.a as usize, y))
             }
             Question::LaneAcross => across_numbers(lane_across(&road, x, line.b)),
             Question::HeightToward => toward_numbers(&road, x, y),

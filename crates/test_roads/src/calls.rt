@@ -3,7 +3,7 @@
 // Calls take the two lent slices and no road: whether one lies there is what they test.
 ghost use Rattle.std.specs.Prelude.{◌≡◌};
 ghost use Rattle.refusals.specs.Answer.{answered};
-ghost use Rattle.test_roads.specs.CallNumbers.{row_of, station_numbers, axes_numbers, point_numbers, mark_of, position_numbers, id_number, call_of, call_numbers};
+ghost use Rattle.test_roads.specs.CallNumbers.{row_of, station_numbers, axes_numbers, point_numbers, position_numbers, id_number, call_of, call_numbers};
 
 use reader_hex::of_bits;
 use records::RefPoint;
@@ -42,6 +42,8 @@ fn station_numbers(p: RefPoint) -> [f64; 9]
     ]
 }
 
+// riftkettle writes these out too, for the C interface and not public: one function of both would be a new public one of surface_station,
+// for nine fields in their order.
 fn axes_numbers(a: Axes) -> [f64; 9]
     ensures { result ≡ axes_numbers a }
 {
@@ -62,18 +64,12 @@ fn point_numbers(p: SurfacePoint32) -> [f64; 9]
     [x, y, z, p.heading, 0.0, 0.0, 0.0, 0.0, 0.0]
 }
 
-// 1 for met, 0 for astray.
-fn mark(met: bool) -> f64
-    ensures { result ≡ mark_of met }
-{
-    if met { 1.0 } else { 0.0 }
-}
-
+// Met is 1, astray 0.
 fn position_numbers(p: Position) -> [f64; 9]
     ensures { result ≡ position_numbers p }
 {
     let moves = f64::from(p.moves);
-    let met = mark(p.converged);
+    let met = f64::from(p.converged);
     [p.s, p.t, moves, met, 0.0, 0.0, 0.0, 0.0, 0.0]
 }
 

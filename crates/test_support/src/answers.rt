@@ -15,8 +15,8 @@ pub fn number_of<T>(answer: &Result<T, Refusal>) -> u32
     }
 }
 
-// A count as n + 2^63, a refusal as its number. test_vectors has it of an i64 and test_tracks in 32 bits: the sums that keep these apart
-// from refusals are others, and only the match would be left to share.
+// A count as n + 2^63, a refusal as its number. test_vectors adds 2^63 too, to an i64 that may be below 0, and test_tracks 2^31 in 32 bits:
+// in a function of all three the caller would name the number, and only the match would be left.
 pub fn count_word(answer: Result<usize, Refusal>) -> u64
     ensures { result ≡ count_word (answered answer) }
 {

@@ -21,7 +21,11 @@ impl Answer<'_> {
         ensures { result ≡ agrees_of self.now.number self.now.numbers.now row.now }
     {
         let Answer { number, numbers } = *self;
-        (row[0] == number) & (0..numbers.len()).all(|i| pattern(numbers[i]) == row[i + 1])
+        (row[0] == number)
+            & numbers
+                .iter()
+                .zip(&row[1..])
+                .all(|(x, word)| pattern(*x) == *word)
     }
 
     // Writes the answer, then the line that it differs from.

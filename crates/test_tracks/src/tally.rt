@@ -1,7 +1,7 @@
 // How many lines made each call.
 use crate::calls::{Call, Verdict};
 
-// Those that agree with the answer given here, and those that differ.
+// Lines whose answer is the one given here, and lines whose answer differs.
 #[derive(Clone, Copy, Default)]
 pub(crate) struct Counts {
     pub(crate) same: u64,

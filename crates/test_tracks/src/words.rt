@@ -10,7 +10,8 @@ use std::num::f32_from_bits_with_nan;
 // How many words a line has at most.
 const MOST_WORDS: usize = 1600;
 
-// The i-th word; none where it is broken.
+// The i-th word; none where it is broken. By its place in the line, as the definition says it, and not of a chunk of nine bytes: a chunk's word
+// would need a definition of its own, and a law that the two agree.
 #[tactic(auto, using(crate::proofs::WordSteps::eight_fit))]
 fn word_at(line: &[u8], i: usize) -> Option<u32>
     requires { i * 9 + 10 ≤ length line.now }

@@ -46,6 +46,15 @@ impl Tally {
     }
 }
 
+// A line for each function.
+fn report(rt: &impl Print, tallies: &[Tally; 5]) -> io::Result<()> {
+    for function in Function::ALL {
+        let tally = tallies[function as usize];
+        println!(rt; "{function} {} lines, {} differ", tally.lines, tally.differ)?;
+    }
+    Ok(())
+}
+
 // Bytes after the last whole line are a line that breaks the form.
 // test_support/src/lines.rt says why the list is read and split here.
 pub(crate) fn run(rt: &(impl Input + Print + Alloc)) -> io::Result<()> {
@@ -67,9 +76,6 @@ pub(crate) fn run(rt: &(impl Input + Print + Alloc)) -> io::Result<()> {
             }
         }
     }
-    for function in Function::ALL {
-        let tally = tallies[function as usize];
-        println!(rt; "{function} {} lines, {} differ", tally.lines, tally.differ)?;
-    }
+    report(rt, &tallies)?;
     println!(rt; "broken {broken} lines")
 }

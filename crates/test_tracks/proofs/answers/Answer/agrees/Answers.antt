@@ -1,10 +1,14 @@
--- The number, and each of the list.
-use Rattle.std.proofs.Common.{rules}
-use Rattle.records_lent.proofs.RangeLaws.{all_range}
-use Rattle.test_tracks.proofs.Agreement.{alike, agrees-by}
+-- The number, and each of the list beside its word.
+use Rattle.std.proofs.Common.{◌∙◌, eqb, rules, tests}
+use Rattle.std.proofs.lemmas.Iterator.{YieldsList-from_slice, YieldsList-from_zip}
+use Rattle.std.proofs.lemmas.Iterator.Search.{all_from_yields_List}
+use Rattle.test_tracks.specs.Patterns.{pattern_of}
+use Rattle.test_tracks.proofs.Agreement.{rest-alike, agrees-by}
 use Rattle.test_tracks.proofs.answers.Answer.agrees.Goals as goal
 
 pub returns : goal.returns
 returns c =
-    let s = c.args.self.now in let row = c.args.row.now in
-    agrees-by s.number s.numbers.now row (all_range (alike s.numbers.now row) _ c.all.ensures.ran (λ x b q k. search rules))
+    let s = c.args.self.now in
+    let row = c.args.row.now in
+    let ran = all_from_yields_List (λ p. eqb (pattern_of p.0) p.1) c.all.new.self _ _ c.all.ensures.ran (YieldsList-from_zip (YieldsList-from_slice s.numbers.now cc) (YieldsList-from_slice _ cc)) (λ x b q k. search (rules, tests)) in
+    agrees-by s.number s.numbers.now row (ran ∙ rest-alike s.numbers.now row c.requires)
