@@ -48,9 +48,7 @@ fn lines(
                 progress: ended,
             });
         }
-        let Some(row) = reader_lines::values_at(text, at, table, order) else {
-            return Err(Refusal::Form);
-        };
+        let row = reader_lines::values_at(text, at, table, order).ok_or(Refusal::Form)?;
         if limit <= k {
             return Err(Refusal::Capacity);
         }
@@ -85,9 +83,7 @@ fn table_at(
             progress,
         });
     }
-    let Some(head) = reader_lines::head_at(text, name.next, table) else {
-        return Err(Refusal::Form);
-    };
+    let head = reader_lines::head_at(text, name.next, table).ok_or(Refusal::Form)?;
     lines(
         text, head.next, table, head.order, words, numbers, wants, progress,
     )

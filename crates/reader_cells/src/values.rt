@@ -107,13 +107,8 @@ pub fn cell_by_number(text: &[u8], at: usize, number: usize) -> Option<Span>
 }
 
 // The cell at a place, by what its column holds.
-#[tactic(auto, unfolding(crate::specs::Cells::cell_at))]
 pub fn cell_at(text: &[u8], at: usize, kind: Kind) -> Option<Span>
     ensures { result ≡ cell_at text.now at (kind_by kind) }
 {
-    match kind {
-        Kind::Number => hex_at(text, at),
-        Kind::Whole => whole_at(text, at),
-        words => listed_at(text, at, usize::from(words)),
-    }
+    cell_by_number(text, at, usize::from(kind))
 }

@@ -10,8 +10,9 @@ use native.Mathlib.Nat.{pow-suc, pow-le-pow_right, le_of_suc-le-suc, eq-or-lt_of
 use native.Mathlib.Omega.{arith}
 use lib.Dec.{ltb, eqb}
 use lib.ListN.{length, get_or-eq_default}
-use borrow.Author.Tests.{lt-ltb, le-ltb, eq-eqb, ne_eqb, ltb-true, ltb-false}
-use Rattle.std.specs.Prelude.{Some, None}
+use borrow.Author.Tests.{lt-ltb, le-ltb, ltb-true, ltb-false}
+use Rattle.std.specs.Bool.{then_some}
+use Rattle.std.specs.Prelude.{Option, Some, None}
 use Rattle.std.proofs.lemmas.Option.{none-some, cond_some}
 use Rattle.reader_hex.specs.Hex.{digit_of, byte_at, digits_ok, digits_value, digits_at, word_within, hex_word_at}
 
@@ -108,10 +109,11 @@ module _ (text : List ℕ) (at stop : ℕ) where
     unfolding digits_at
     all = cond_some (digits_ok text at 16) (digits_value text at 16) v e
 
-    pub word-ends : b ≡ stop → Some v ≡ hex_word_at text at stop
+    -- the byte after them is tested
+    pub word-closed : {r : Option ℕ} → r ≡ then_some (eqb b stop) v → r ≡ hex_word_at text at stop
     unfolding hex_word_at word_within
-    word-ends r = rw (lt-ltb (at + 16) (length text) h, all.0, ← f, eq-eqb b stop r, all.1)
-
-    pub word-breaks : (b ≡ stop → ⊥) → None ≡ hex_word_at text at stop
-    unfolding hex_word_at word_within
-    word-breaks r = rw (lt-ltb (at + 16) (length text) h, all.0, ← f, ne_eqb b stop r)
+    word-closed g = rw (lt-ltb (at + 16) (length text) h, all.0, ← f, all.1) (g ∙ some (eqb b stop))
+      where
+        some : (c : Bool) → then_some c v ≡ cond c (Some v) None
+        some true = refl
+        some false = refl

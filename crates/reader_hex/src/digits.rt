@@ -26,8 +26,8 @@ fn digits_at<const N: usize>(text: &[u8], at: usize) -> Option<u64>
     }
     let values = values_at::<N>(text, at);
     let mut number: u64 = 0;
-    for i in 0..N {
-        let d = values[i] as u64;
+    for &value in &values {
+        let d = value as u64;
         if 16 <= d {
             return None;
         }
@@ -56,5 +56,5 @@ pub fn word_at(text: &[u8], at: usize, stop: u8) -> Option<u64>
 {
     let number = sixteen_at(text, at)?;
     let after = *text.get(at + 16)?;
-    if after == stop { Some(number) } else { None }
+    (after == stop).then_some(number)
 }

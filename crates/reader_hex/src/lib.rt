@@ -1,4 +1,5 @@
 // Bytes of a text and hexadecimal digits in lower case, numbers written as sixteen of them, and an f64 by such a pattern.
+// A text and a place in it are two parameters; why, reader_cells says.
 #![tactic(auto)]
 
 mod bytes;

@@ -1,4 +1,4 @@
-// An f64 and its pattern, NaNs included: the library's, under the definitions' names.
+// An f64 and its pattern, NaNs included. Both functions are the library's; here they have short names, those of the definitions that they are equal to.
 ghost use Rattle.std.specs.Prelude.{◌≡◌};
 ghost use Rattle.std.specs.Float.{binary64};
 ghost use Rattle.std.specs.Float.Ieee.{of_bits, to_bits};

@@ -1,4 +1,5 @@
 // The lines of a table: its line of names, and a line of its values.
+// A text and a place in it are two parameters; why, reader_cells says.
 #![tactic(auto)]
 
 mod columns;

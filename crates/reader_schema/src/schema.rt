@@ -268,9 +268,10 @@ const LANE: [Kind; COLUMNS_MOST] = [
     Whole, Whole, ExtentKind, Bit, Number, Number, Number, Number,
 ];
 
-const EXTENT: [Kind; COLUMNS_MOST] = [Whole, Whole, Number, Number, Number, Number, Number, Number];
-
-const HEIGHT: [Kind; COLUMNS_MOST] = [Whole, Whole, Number, Number, Number, Number, Number, Number];
+// Extents and heights alike: a section, a lane's id, and numbers.
+const UNDER_LANE: [Kind; COLUMNS_MOST] = [
+    Whole, Whole, Number, Number, Number, Number, Number, Number,
+];
 
 const SHAPE: [Kind; COLUMNS_MOST] = [
     Whole, Number, Number, Number, Number, Number, Number, Number,
@@ -340,6 +341,7 @@ pub fn count_of(list: usize) -> u8
 }
 
 // What a column of a table holds: past the last column, or the last table, an f64. A match and no array of all tables' kinds, as `TABLES` says.
+// Extents and heights have an arm each: of `EXTENT_TABLE | HEIGHT_TABLE` no name tells the proof which number it is.
 pub fn kind_of(table: usize, column: usize) -> Kind
     ensures { kind_by result ≡ column_kind table column }
 {
@@ -349,8 +351,8 @@ pub fn kind_of(table: usize, column: usize) -> Kind
     match table {
         GEOM_TABLE => GEOM[column],
         LANE_TABLE => LANE[column],
-        EXTENT_TABLE => EXTENT[column],
-        HEIGHT_TABLE => HEIGHT[column],
+        EXTENT_TABLE => UNDER_LANE[column],
+        HEIGHT_TABLE => UNDER_LANE[column],
         SHAPE_TABLE => SHAPE[column],
         STRIP_TABLE => STRIP[column],
         CUBIC_TABLE => CUBIC[column],

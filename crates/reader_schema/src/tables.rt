@@ -1,6 +1,6 @@
 // The tables of a job text by number, in their order, the most columns that one of them has, and what a column holds.
-// A table is its number, not a variant of an enum: the public functions take any number, and an enum would ask more of their callers; and the reader
-// counts through the tables in their order.
+// A table is its number, not a variant of an enum: the public functions take any number and must stay as wide, and an enum would narrow their parameter;
+// and the reader counts through the tables in their order.
 ghost use Rattle.std.specs.Prelude.{◌≡◌};
 ghost use Rattle.reader_schema.specs.Schema.{kind_by};
 
@@ -40,8 +40,8 @@ pub const TABLE_COUNT: usize = 16;
 
 pub const COLUMNS_MOST: usize = 8;
 
-// The lists of words by number: lists 0 to 15 are the columns of that table, the words of keyword columns follow. A list is a number for the same reasons:
-// a table's is its list, and `place_of` and `count_of` take any.
+// The lists of words by number: lists 0 to 15 are the columns of that table, the words of keyword columns follow. A list is a number and no variant of an
+// enum: a table's number is its list's, and `place_of` and `count_of` take any number and must stay as wide.
 pub const SHAPE_KINDS: usize = TABLE_COUNT;
 
 pub const EXTENT_KINDS: usize = SHAPE_KINDS + 1;

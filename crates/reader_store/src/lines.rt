@@ -71,7 +71,7 @@ fn mark_kind(cell: u64) -> u16
 fn put_mark(words: &mut [u16], line: TableLine)
     ensures { words.new ≡ mark_put words.old line.k line.cells }
 {
-    let lane = mark_lane(words, line.cells.at(0), line.cells.at(1)).unwrap_or(ranked_at(0));
+    let lane = mark_lane(words, line.cells).unwrap_or(ranked_at(0));
     let i = MARK_WORDS + line.k as usize * MARK_STRIDE;
     put(words, i, code(lane.index as u64));
     put(words, i + 1, mark_kind(line.cells.at(4)));
@@ -98,7 +98,7 @@ fn keep_ruled(words: &mut [u16], line: TableLine, progress: Progress) -> Progres
         None => progress,
         Some(Rule::Strip) => keep_strip(words, line, progress),
         Some(Rule::Lane) => {
-            let parent = lane_turn(words, cells.at(0), cells.at(1));
+            let parent = lane_turn(words, cells);
             keep_under(words, k, parent, progress)
         }
         Some(Rule::Child(family)) => {

@@ -1,5 +1,6 @@
 // The parent of a line: a lane's or a mark's section, an extent's or a height's lane, a shape's profile, a cubic's strip and term.
 ghost use Rattle.std.specs.Prelude.{◌≡◌, ◌<◌};
+ghost use Rattle.reader_lines.specs.Columns.{cell_of};
 ghost use Rattle.reader_store.specs.Parents.{index_at, counted, section_at, section_word, section_record, side_of, lane_turn, lane_among, lane_index, mark_lane, mark_index, term_of, index_of, range_of, parent_of};
 
 use crate::layout::{Family, Lines};
@@ -47,13 +48,10 @@ pub(crate) fn ranked_at(i: u32) -> Ranked
 
 // A whole number, kept with its bias, as one of n parents counted from 0.
 #[tactic(auto, unfolding(crate::specs::Parents::counted))]
-fn counted_of(number: u64, n: u16) -> Option<Ranked>
+fn ranked_among(number: u64, n: u16) -> Option<Ranked>
     ensures { result ≡ counted number n }
 {
-    if number < WHOLE_BIAS {
-        return None;
-    }
-    let i = number - WHOLE_BIAS;
+    let i = number.checked_sub(WHOLE_BIAS)?;
     if n as u64 <= i {
         return None;
     }
@@ -64,7 +62,7 @@ fn counted_of(number: u64, n: u16) -> Option<Ranked>
 fn section_of(words: &[u16], section: u64) -> Option<Ranked>
     ensures { result ≡ section_at words.now section }
 {
-    counted_of(section, word(words, SECTION_COUNT_AT))
+    ranked_among(section, word(words, SECTION_COUNT_AT))
 }
 
 // A section's record among the words: its first lane, how many left, how many right.
@@ -120,17 +118,17 @@ fn side_of(left: u16, right: u16, id: u64) -> Option<Side>
 
 // A lane under its section.
 #[tactic(auto, unfolding(crate::specs::Parents::lane_turn))]
-pub(crate) fn lane_turn(words: &[u16], section: u64, id: u64) -> Option<Counted>
-    ensures { result ≡ lane_turn words.now section id }
+pub(crate) fn lane_turn(words: &[u16], cells: Cells) -> Option<Counted>
+    ensures { result ≡ lane_turn words.now (cell_of cells 0) (cell_of cells 1) }
 {
-    let s = section_of(words, section)?;
+    let s = section_of(words, cells.at(0))?;
     let at = section_word(s.index);
-    let section = section_record(words, s.index);
-    let count = match side_of(section.left, section.right, id)? {
+    let record = section_record(words, s.index);
+    let count = match side_of(record.left, record.right, cells.at(1))? {
         Side::Left => at + 1,
         Side::Right => at + 2,
     };
-    let fresh = (section.left == 0) & (section.right == 0);
+    let fresh = (record.left == 0) & (record.right == 0);
     Some(Counted {
         rank: s.rank,
         first: fresh.then_some(at),
@@ -161,33 +159,33 @@ fn lane_by(section: SectionRecord, id: u64) -> Option<Ranked>
 
 // The lane with an id, of the section that a line names.
 #[tactic(auto, unfolding(crate::specs::Parents::lane_index))]
-fn lane_of(words: &[u16], section: u64, id: u64) -> Option<Ranked>
-    ensures { result ≡ lane_index words.now section id }
+fn lane_of(words: &[u16], cells: Cells) -> Option<Ranked>
+    ensures { result ≡ lane_index words.now (cell_of cells 0) (cell_of cells 1) }
 {
-    let s = section_of(words, section)?;
-    lane_by(section_record(words, s.index), id)
+    let s = section_of(words, cells.at(0))?;
+    lane_by(section_record(words, s.index), cells.at(1))
 }
 
 // The place of a mark's lane in its section, counted from 0, left ones first. Where the section is not there section 0 stands in for it.
 #[tactic(auto, unfolding(crate::specs::Parents::mark_lane))]
-pub(crate) fn mark_lane(words: &[u16], section: u64, id: u64) -> Option<Ranked>
-    ensures { result ≡ mark_lane words.now section id }
+pub(crate) fn mark_lane(words: &[u16], cells: Cells) -> Option<Ranked>
+    ensures { result ≡ mark_lane words.now (cell_of cells 0) (cell_of cells 1) }
 {
-    let s = section_of(words, section).unwrap_or(ranked_at(0));
-    let section = SectionRecord {
+    let s = section_of(words, cells.at(0)).unwrap_or(ranked_at(0));
+    let record = SectionRecord {
         first: 0,
         ..section_record(words, s.index)
     };
-    lane_by(section, id)
+    lane_by(record, cells.at(1))
 }
 
 // A mark under its section, which must have the mark's lane.
 #[tactic(auto, unfolding(crate::specs::Parents::mark_index, crate::specs::Parents::mark_lane))]
-fn mark_index(words: &[u16], section: u64, id: u64) -> Option<Ranked>
-    ensures { result ≡ mark_index words.now section id }
+fn mark_index(words: &[u16], cells: Cells) -> Option<Ranked>
+    ensures { result ≡ mark_index words.now (cell_of cells 0) (cell_of cells 1) }
 {
-    let s = section_of(words, section)?;
-    mark_lane(words, section, id)?;
+    let s = section_of(words, cells.at(0))?;
+    mark_lane(words, cells)?;
     Some(s)
 }
 
@@ -210,13 +208,11 @@ fn term_of(strips: Strips, side: u64, place: u64, term: u64) -> Option<Ranked>
 fn index_of(words: &[u16], family: Family, cells: Cells, strips: Strips) -> Option<Ranked>
     ensures { result ≡ index_of words.now family cells strips }
 {
-    let a = cells.at(0);
-    let b = cells.at(1);
     match family {
-        Family::Cubic => term_of(strips, a, b, cells.at(2)),
-        Family::Shape => counted_of(a, word(words, PROFILE_COUNT_AT)),
-        Family::Mark => mark_index(words, a, b),
-        Family::Extent | Family::Height => lane_of(words, a, b),
+        Family::Cubic => term_of(strips, cells.at(0), cells.at(1), cells.at(2)),
+        Family::Shape => ranked_among(cells.at(0), word(words, PROFILE_COUNT_AT)),
+        Family::Mark => mark_index(words, cells),
+        Family::Extent | Family::Height => lane_of(words, cells),
     }
 }
 

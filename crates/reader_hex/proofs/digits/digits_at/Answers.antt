@@ -7,35 +7,35 @@ use Rattle.reader_hex.proofs.digits.digits_at.Goals as goal
 pub returns-then-saturating_sub : goal.returns-then-saturating_sub
 returns-then-saturating_sub g c = digits-short c.args.text.now c.args.at g.row.N c.requires.0 (omega (arith, c.if-saturating_sub.true, c.saturating_sub.ensures))
 
-pub loop-i-init : goal.loop-i-init
-loop-i-init g c = (search rules, digits-none _ _, value_none _ _)
+pub loop-value-init : goal.loop-value-init
+loop-value-init g c = (search rules, digits-none _ _, value_none _ _)
 
 pub returns-then-d-ge16 : goal.returns-then-d-ge16
 returns-then-d-ge16 g c =
-    let here = c.loop-i in
-    digits-broken c.args.text.now c.args.at here.i g.row.N (c.values_at-values.ensures here.i c.loop-i-test.true) c.loop-i-test.true c.if-d-ge16.true
+    let here = c.loop-value in
+    digits-broken c.args.text.now c.args.at here.value-index g.row.N (c.values_at-values.ensures here.value-index c.loop-value-test.true) c.loop-value-test.true c.if-d-ge16.true
 
 pub overflow_mul-number : goal.overflow_mul-number
 overflow_mul-number g c =
-    let here = c.loop-i in
-    record { fits = omega (arith, more-fits here.i here.number 0 (omega arith) here.invariant.0 (omega arith)) }
+    let here = c.loop-value in
+    record { fits = omega (arith, more-fits here.value-index here.number 0 (omega arith) here.invariant.0 (omega arith)) }
 
 pub overflow_add-number : goal.overflow_add-number
 overflow_add-number g c =
-    let here = c.loop-i in
-    record { fits = more-fits here.i here.number _ (omega arith) here.invariant.0 c.if-d-ge16.false }
+    let here = c.loop-value in
+    record { fits = more-fits here.value-index here.number _ (omega arith) here.invariant.0 c.if-d-ge16.false }
 
-pub loop-i-preserved : goal.loop-i-preserved
-loop-i-preserved g c =
-    let here = c.loop-i in
-    let f = c.values_at-values.ensures here.i c.loop-i-test.true in (
-      more-below here.i here.number _ here.invariant.0 c.if-d-ge16.false,
-      digits_more c.args.text.now c.args.at here.i f here.invariant.1 c.if-d-ge16.false,
-      value-more c.args.text.now c.args.at here.i f here.invariant.2,
+pub loop-value-preserved : goal.loop-value-preserved
+loop-value-preserved g c =
+    let here = c.loop-value in
+    let f = c.values_at-values.ensures here.value-index c.loop-value-test.true in (
+      more-below here.value-index here.number _ here.invariant.0 c.if-d-ge16.false,
+      digits_more c.args.text.now c.args.at here.value-index f here.invariant.1 c.if-d-ge16.false,
+      value-more c.args.text.now c.args.at here.value-index f here.invariant.2,
     )
 
 pub returns : goal.returns
 returns g c =
-    let here = c.loop-i in
-    let e = le_antisymm here.auto.i-end c.loop-i-test.false in
+    let here = c.loop-value in
+    let e = le_antisymm here.auto.value-index-end c.loop-value-test.false in
     digits-all c.args.text.now c.args.at g.row.N (rw e at here.invariant.1) (rw e at here.invariant.2)

@@ -2,7 +2,7 @@
 use mathlib.Core.Path.{sym, ◌∙◌}
 use native.Mathlib.Omega.{arith}
 use borrow.Author.Rules.{rules}
-use Rattle.reader_hex.proofs.HexDigits.{digits-inside, word-none, word-outside, word-ends, word-breaks}
+use Rattle.reader_hex.proofs.HexDigits.{digits-inside, word-none, word-outside, word-closed}
 use Rattle.reader_hex.proofs.digits.word_at.Goals as goal
 
 pub returns-in_err-number : goal.returns-in_err-number
@@ -22,14 +22,8 @@ returns-in_err-after c =
     let h = c.in_err-after.ensures in
     c.from_residual-in_err-after.ensures ∙ word-outside a.text.now a.at a.stop (search rules)
 
-pub returns-then-after-stop : goal.returns-then-after-stop
-returns-then-after-stop c =
+pub returns : goal.returns
+returns c =
     let a = c.args in
     let r = c.in_ok-after.ensures.lookup.3 in
-    word-ends a.text.now a.at a.stop (sym c.sixteen_at.ensures ∙ c.in_ok-number.was) r.0 (r.1 0) c.if-after-stop.true
-
-pub returns-else-after-stop : goal.returns-else-after-stop
-returns-else-after-stop c =
-    let a = c.args in
-    let r = c.in_ok-after.ensures.lookup.3 in
-    word-breaks a.text.now a.at a.stop (sym c.sixteen_at.ensures ∙ c.in_ok-number.was) r.0 (r.1 0) c.if-after-stop.false
+    word-closed a.text.now a.at a.stop (sym c.sixteen_at.ensures ∙ c.in_ok-number.was) r.0 (r.1 0) c.then_some.ensures
