@@ -18,8 +18,7 @@ use Rattle.reader_cells.specs.declared.names.Span.{Span}
 use Rattle.reader_lines.specs.NamesLine.{head_at}
 use Rattle.reader_lines.specs.ValuesLine.{values_at}
 use Rattle.reader_lines.specs.declared.columns.Order.{Order}
-use Rattle.reader_lines.specs.declared.names_line.Head.{Head}
-use Rattle.reader_lines.specs.declared.values_line.Values.{Values}
+use Rattle.reader_lines.specs.declared.columns.Cells.{Cells}
 use Rattle.reader_store.specs.Layout.{numbers_kept, wants_kept, count_kept}
 use Rattle.reader_store.specs.Progress.{ended_progress}
 use Rattle.reader_store.specs.Keep.{kept_words, kept_progress}
@@ -81,7 +80,7 @@ module _ (table : ℕ) (order : Order) (text : List ℕ) (at k : ℕ) (progress 
   lines_end zero h p q = rw (← e, eq-eqb b 10 h, p, q)
   lines_end (suc fuel) h p q = rw (← e, eq-eqb b 10 h, p, q)
 
-  module _ {found : Option Values} (h : b ≡ 10 → ⊥) (f : found ≡ values_at text at table order) where
+  module _ {found : Option (Span Cells)} (h : b ≡ 10 → ⊥) (f : found ≡ values_at text at table order) where
     -- a broken line, whatever is left of the limit
     pub lines_cut : (fuel : ℕ) → found ≡ None → lines_from fuel table order text at k progress ws ns vs ≡ stop 1
     unfolding lines_from
@@ -89,35 +88,35 @@ module _ (table : ℕ) (order : Order) (text : List ℕ) (at k : ℕ) (progress 
     lines_cut (suc fuel) g = rw (← e, ne_eqb b 10 h, ← f, g)
 
     -- a line past the limit
-    pub lines-over : (limit : ℕ) {row : Values} → limit ≤ k → found ≡ Some row → lines_from (limit - k) table order text at k progress ws ns vs ≡ stop 2
+    pub lines-over : (limit : ℕ) {row : Span Cells} → limit ≤ k → found ≡ Some row → lines_from (limit - k) table order text at k progress ws ns vs ≡ stop 2
     unfolding lines_from
     lines-over limit l g = let z : limit - k ≡ 0 = omega arith in rw (z, ← e, ne_eqb b 10 h, ← f, g)
 
     -- a line that is kept
     pub lines_next :
-        (limit : ℕ) {row : Values} {t : Progress} {us : List ℕ} {xs : List Float} {ys : List ℕ} → k < limit → found ≡ Some row
-        → t ≡ kept_progress table k row.cells progress ws → us ≡ kept_words table k row.cells progress ws → xs ≡ numbers_kept table k row.cells ns
-        → ys ≡ wants_kept table k row.cells vs
+        (limit : ℕ) {row : Span Cells} {t : Progress} {us : List ℕ} {xs : List Float} {ys : List ℕ} → k < limit → found ≡ Some row
+        → t ≡ kept_progress table k row.value progress ws → us ≡ kept_words table k row.value progress ws → xs ≡ numbers_kept table k row.value ns
+        → ys ≡ wants_kept table k row.value vs
         → lines_from (limit - k) table order text at k progress ws ns vs ≡ lines_from (limit - (k + 1)) table order text row.next (k + 1) t us xs ys
     unfolding lines_from
     lines_next limit q g p r s w =
         let z : limit - k ≡ suc (limit - (k + 1)) = omega arith in
         rw (z, ← e, ne_eqb b 10 h, ← f, g, p, r, s, w)
 
-module _ (table : ℕ) (text : List ℕ) (at : ℕ) (progress : Progress) (ws : List ℕ) (ns : List Float) (vs : List ℕ) {name : Span} {w : ℕ}
+module _ (table : ℕ) (text : List ℕ) (at : ℕ) (progress : Progress) (ws : List ℕ) (ns : List Float) (vs : List ℕ) {name : Span ℕ} {w : ℕ}
     (e : name ≡ name_span text at) (f : w ≡ name_of table) where
   -- a table by its name and its line of names
   pub table-missing : (name.value ≡ w → ⊥) → table_at table text at progress ws ns vs ≡ done at 0 progress ws ns vs
   unfolding table_at
   table-missing h = rw (← e, ← f, ne_eqb name.value w h)
 
-  module _ {found : Option Head} (h : name.value ≡ w) (g : found ≡ head_at text name.next table) where
+  module _ {found : Option (Span Order)} (h : name.value ≡ w) (g : found ≡ head_at text name.next table) where
     pub table-broken : found ≡ None → table_at table text at progress ws ns vs ≡ stop 1
     unfolding table_at
     table-broken k = rw (← e, ← f, eq-eqb name.value w h, ← g, k)
 
-    pub table_lines_lem : {head : Head} → found ≡ Some head
-        → table_at table text at progress ws ns vs ≡ lines_from (limit_of table) table head.order text head.next 0 progress ws ns vs
+    pub table_lines_lem : {head : Span Order} → found ≡ Some head
+        → table_at table text at progress ws ns vs ≡ lines_from (limit_of table) table head.value text head.next 0 progress ws ns vs
     unfolding table_at
     table_lines_lem k = rw (← e, ← f, eq-eqb name.value w h, ← g, k)
 

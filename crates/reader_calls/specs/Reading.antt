@@ -13,8 +13,7 @@ use Rattle.reader_lines.specs.NamesLine.{head_at}
 use Rattle.reader_lines.specs.ValuesLine.{values_at}
 use Rattle.reader_lines.specs.declared.columns.Order.{Order}
 use Rattle.reader_lines.specs.declared.columns.Cells.{Cells}
-use Rattle.reader_lines.specs.declared.names_line.Head.{Head}
-use Rattle.reader_lines.specs.declared.values_line.Values.{Values}
+use Rattle.reader_cells.specs.declared.names.Span.{Span}
 use Rattle.reader_store.specs.Layout.{numbers_kept, wants_kept, count_kept}
 use Rattle.reader_store.specs.Progress.{start_progress, unsound_progress, ended_progress}
 use Rattle.reader_store.specs.Keep.{kept_words, kept_progress}
@@ -27,8 +26,8 @@ pub data Outcome : Type 0 where
   stop : (number : ℕ) → Outcome
 
 -- by a line of values: what its cells and the place after it lead to, or a broken form
-abbrev pub by_values : Option Values → (Cells → ℕ → Outcome) → Outcome
-by_values (Some row) f = f row.cells row.next
+abbrev pub by_values : Option (Span Cells) → (Cells → ℕ → Outcome) → Outcome
+by_values (Some row) f = f row.value row.next
 by_values None f = stop 1
 
 -- Lines up to an empty one, at most `fuel` more, the k-th at hand. "a line is tested for 1 before 2".
@@ -43,8 +42,8 @@ lines_from (suc fuel) table order text at k progress ws ns vs =
     lines_from fuel table order text next (k + 1) (kept_progress table k cells progress ws) (kept_words table k cells progress ws) (numbers_kept table k cells ns) (wants_kept table k cells vs)))
 
 -- by a line of names: what the order of its columns and the place after it lead to, or a broken form
-abbrev pub by_head : Option Head → (Order → ℕ → Outcome) → Outcome
-by_head (Some head) f = f head.order head.next
+abbrev pub by_head : Option (Span Order) → (Order → ℕ → Outcome) → Outcome
+by_head (Some head) f = f head.value head.next
 by_head None f = stop 1
 
 -- "A table is a line of names .., lines of values .., one empty line." Where its name does not stand, the table is missing and nothing is read.

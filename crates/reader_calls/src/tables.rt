@@ -55,7 +55,7 @@ fn lines(
         let line = TableLine {
             table,
             k,
-            cells: row.cells,
+            cells: row.value,
         };
         progress = reader_store::keep_line(words, numbers, wants, line, progress);
         at = row.next;
@@ -85,7 +85,7 @@ fn table_at(
     }
     let head = reader_lines::head_at(text, name.next, table).ok_or(Refusal::Form)?;
     lines(
-        text, head.next, table, head.order, words, numbers, wants, progress,
+        text, head.next, table, head.value, words, numbers, wants, progress,
     )
 }
 

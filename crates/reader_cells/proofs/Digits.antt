@@ -87,7 +87,7 @@ power-front : (p v d x : ℕ) → (v * 16 + d) * p + x ≡ v * (p * 16) + (d * p
 power-front p v d x = grind arith
 
 -- a digit, then what the others lead to
-by-digit : (d : ℕ) (o : Bool) (x : Option Span) {w : Option Span} → w ≡ cond o x None → cond (leb 16 d) None w ≡ cond (ltb d 16 && o) x None
+by-digit : (d : ℕ) (o : Bool) (x : Option (Span ℕ)) {w : Option (Span ℕ)} → w ≡ cond o x None → cond (leb 16 d) None w ≡ cond (ltb d 16 && o) x None
 by-digit d o x {w} e = go (ltb d 16) refl
   where
     go : (t : Bool) → ltb d 16 ≡ t → cond (leb 16 d) None w ≡ cond (t && o) x None
@@ -109,7 +109,7 @@ module _ (text : List ℕ) where
       let q : at + suc n ≡ at + 1 + n = omega arith in
       rw (value-front n at, q, pow-suc) (power-more (16 ^ n) (digit_of (byte_at text at)) (digits_value text (at + 1) n) (digit_of (byte_at text (at + 1 + n))))
 
-  abbrev read : ℕ → ℕ → ℕ → Option Span
+  abbrev read : ℕ → ℕ → ℕ → Option (Span ℕ)
   read n at v = Some (span_of (v * 16 ^ n + digits_value text at n) (at + n))
 
   hex-none : (at v : ℕ) → hex_from 0 text at v ≡ cond (digits_ok text at 0) (read 0 at v) None
@@ -129,7 +129,7 @@ module _ (text : List ℕ) where
   hex-digits zero at v = hex-none at v
   hex-digits (suc n) at v =
       rw (ok-front n at)
-      (by-digit (digit_of (byte_at text at)) (digits_ok text (at + 1) n) (read (suc n) at v) (hex-digits n (at + 1) (v * 16 + digit_of (byte_at text at)) ∙ ap (λ (x : Option Span). cond (digits_ok text (at + 1) n) x None) (read-next n at v)))
+      (by-digit (digit_of (byte_at text at)) (digits_ok text (at + 1) n) (read (suc n) at v) (hex-digits n (at + 1) (v * 16 + digit_of (byte_at text at)) ∙ ap (λ (x : Option (Span ℕ)). cond (digits_ok text (at + 1) n) x None) (read-next n at v)))
 
 -- an f64, by the number of its sixteen digits
 module _ (text : List ℕ) (at : ℕ) where
@@ -137,7 +137,7 @@ module _ (text : List ℕ) (at : ℕ) where
   unfolding digits_at hex_at
   hex-broken e = rw (hex-digits text 16 at 0) (go (digits_ok text at 16) (digits_value text at 16) _ e)
     where
-      go : (b : Bool) (v : ℕ) (x : Option Span) → cond b (Some v) None ≡ None → None ≡ cond b x None
+      go : (b : Bool) (v : ℕ) (x : Option (Span ℕ)) → cond b (Some v) None ≡ None → None ≡ cond b x None
       go true v x f = absurd (none-some v (sym f))
       go false v x f = refl
 

@@ -4,10 +4,10 @@ ghost use Rattle.reader_cells.specs.Cells.{name_span};
 
 use reader_hex::byte_at;
 
-// A number that was read, and the place after it.
+// What was read, and the place after it.
 #[derive(Clone, Copy, Debug, PartialEq, Eq)]
-pub struct Span {
-    pub value: u64,
+pub struct Span<T> {
+    pub value: T,
     pub next: usize,
 }
 
@@ -15,7 +15,7 @@ pub struct Span {
 const WORD_MOST: usize = 8;
 
 // The word at a place: its bytes up to one that is at most a space, or the end, at most eight. What stands after it is the caller's to test.
-pub fn name_at(text: &[u8], at: usize) -> Span
+pub fn name_at(text: &[u8], at: usize) -> Span<u64>
     ensures { result ≡ name_span text.now at }
 {
     let mut value: u64 = 0;

@@ -17,7 +17,7 @@ const WHOLE_DIGITS: usize = 4;
 const PATTERN_DIGITS: usize = 16;
 
 // The decimal number at a place, up to four digits; a 0 stands alone. None where no digit stands there.
-fn natural_at(text: &[u8], at: usize) -> Option<Span>
+fn natural_at(text: &[u8], at: usize) -> Option<Span<u64>>
     ensures value { result ≡ natural_at text.now at }
     ensures below { IfSome result (λ n. n.value < 10000) }
 {
@@ -49,7 +49,7 @@ fn natural_at(text: &[u8], at: usize) -> Option<Span>
 }
 
 // Sixteen hexadecimal digits.
-fn hex_at(text: &[u8], at: usize) -> Option<Span>
+fn hex_at(text: &[u8], at: usize) -> Option<Span<u64>>
     ensures { result ≡ hex_at text.now at }
 {
     let value = sixteen_at(text, at)?;
@@ -61,7 +61,7 @@ fn hex_at(text: &[u8], at: usize) -> Option<Span>
 
 // A whole number, with its bias.
 #[tactic(auto, unfolding(crate::specs::Cells::whole_at))]
-fn whole_at(text: &[u8], at: usize) -> Option<Span>
+fn whole_at(text: &[u8], at: usize) -> Option<Span<u64>>
     ensures { result ≡ whole_at text.now at }
 {
     if byte_at(text, at) == b'-' {
@@ -83,7 +83,7 @@ fn whole_at(text: &[u8], at: usize) -> Option<Span>
 
 // A word of a list, as its place there.
 #[tactic(auto, unfolding(crate::specs::Cells::listed_at, reader_schema::specs::Schema::listed_place))]
-fn listed_at(text: &[u8], at: usize, list: usize) -> Option<Span>
+fn listed_at(text: &[u8], at: usize, list: usize) -> Option<Span<u64>>
     ensures { result ≡ listed_at text.now at list }
 {
     let word = name_at(text, at);
@@ -96,7 +96,7 @@ fn listed_at(text: &[u8], at: usize, list: usize) -> Option<Span>
 
 // The cell at a place, by the number of what its column holds: any list's. What stands after it is the caller's to test.
 #[tactic(auto, unfolding(crate::specs::Cells::cell_at))]
-pub fn cell_by_number(text: &[u8], at: usize, number: usize) -> Option<Span>
+pub fn cell_by_number(text: &[u8], at: usize, number: usize) -> Option<Span<u64>>
     ensures { result ≡ cell_at text.now at number }
 {
     match number {
@@ -107,7 +107,7 @@ pub fn cell_by_number(text: &[u8], at: usize, number: usize) -> Option<Span>
 }
 
 // The cell at a place, by what its column holds.
-pub fn cell_at(text: &[u8], at: usize, kind: Kind) -> Option<Span>
+pub fn cell_at(text: &[u8], at: usize, kind: Kind) -> Option<Span<u64>>
     ensures { result ≡ cell_at text.now at (kind_by kind) }
 {
     cell_by_number(text, at, usize::from(kind))

@@ -5,6 +5,8 @@ ghost use Rattle.reader_hex.specs.Hex.{byte_at, digit_of, digits_at, hex_word_at
 use crate::bytes::digit;
 
 // The values of N bytes as digits, good or not: with no way out between them, they are worked out together.
+// By index: no contract of an adapter over `iter_mut` tells what was written, and by `from_fn` the proof would have to carry from call to call what the
+// closure holds.
 fn values_at<const N: usize>(text: &[u8], at: usize) -> [u8; N]
     requires { at + N ≤ length text.now }
     ensures { (i : ℕ) → i < N → get_or result i 0 ≡ digit_of (byte_at text.now (at + i)) }

@@ -18,8 +18,7 @@ use Rattle.reader_lines.specs.NamesLine.{head_at}
 use Rattle.reader_lines.specs.ValuesLine.{values_at}
 use Rattle.std.specs.Prelude.{Option, Some, None}
 use Rattle.std.proofs.lemmas.Option.{none-some, same_Some}
-use Rattle.reader_lines.specs.declared.names_line.Head.{Head}
-use Rattle.reader_lines.specs.declared.values_line.Values.{Values}
+use Rattle.reader_cells.specs.declared.names.Span.{Span}
 use Rattle.reader_lines.specs.declared.columns.Order.{Order}
 use Rattle.reader_lines.specs.declared.columns.Cells.{Cells}
 use Rattle.reader_store.specs.Layout.{word_lines, word_columns, count_place, put_at, count_kept, numbers_kept, wants_kept}
@@ -101,7 +100,7 @@ module _ (t : ℕ) (small : t < 16) where
   unfolding lines_from
   lines-tallied zero order text at k progress ws ns vs from h = go (eqb (byte_at text at) 10) (values_at text at t order)
     where
-      go : (a : Bool) (x : Option Values) → TalliedBy t from (cond a (done (at + 1) k (ended_progress progress) (count_kept t k ws) ns vs) (by_values x (λ cells next. stop 2)))
+      go : (a : Bool) (x : Option (Span Cells)) → TalliedBy t from (cond a (done (at + 1) k (ended_progress progress) (count_kept t k ws) ns vs) (by_values x (λ cells next. stop 2)))
       go true x = count-tallied k ws from h
       go false (Some row) = tt
       go false None = tt
@@ -111,9 +110,9 @@ module _ (t : ℕ) (small : t < 16) where
       lines-tallied fuel order text next (k + 1) (kept_progress t k cells progress ws) (kept_words t k cells progress ws) (numbers_kept t k cells ns) (wants_kept t k cells vs) from
       (low-then 7 (kept_words t k cells progress ws) ws from (kept_low 7 (omega arith) t (word-past t small) k cells progress ws) h))
     where
-      go : (a : Bool) (x : Option Values) → ((cells : Cells) (next : ℕ) → TalliedBy t from (lines_from fuel t order text next (k + 1) (kept_progress t k cells progress ws) (kept_words t k cells progress ws) (numbers_kept t k cells ns) (wants_kept t k cells vs))) → TalliedBy t from (cond a (done (at + 1) k (ended_progress progress) (count_kept t k ws) ns vs) (by_values x (λ cells next. lines_from fuel t order text next (k + 1) (kept_progress t k cells progress ws) (kept_words t k cells progress ws) (numbers_kept t k cells ns) (wants_kept t k cells vs))))
+      go : (a : Bool) (x : Option (Span Cells)) → ((cells : Cells) (next : ℕ) → TalliedBy t from (lines_from fuel t order text next (k + 1) (kept_progress t k cells progress ws) (kept_words t k cells progress ws) (numbers_kept t k cells ns) (wants_kept t k cells vs))) → TalliedBy t from (cond a (done (at + 1) k (ended_progress progress) (count_kept t k ws) ns vs) (by_values x (λ cells next. lines_from fuel t order text next (k + 1) (kept_progress t k cells progress ws) (kept_words t k cells progress ws) (numbers_kept t k cells ns) (wants_kept t k cells vs))))
       go true x ih = count-tallied k ws from h
-      go false (Some row) ih = ih row.cells row.next
+      go false (Some row) ih = ih row.value row.next
       go false None ih = tt
 
   table-tallied : (text : List ℕ) (at : ℕ) (progress : Progress) (ws : List ℕ) (ns : List Float) (vs : List ℕ) → ((p : ℕ) → count_place t ≡ Some p → get_or ws p 0 ≡ 0) → TalliedBy t ws (table_at t text at progress ws ns vs)
@@ -121,9 +120,9 @@ module _ (t : ℕ) (small : t < 16) where
   table-tallied text at progress ws ns vs blank =
       go (eqb (name_span text at).value (name_of t)) (head_at text (name_span text at).next t) (λ order next. lines-tallied (limit_of t) order text next 0 progress ws ns vs ws (low_same 7 ws))
     where
-      go : (a : Bool) (x : Option Head) → ((order : Order) (next : ℕ) → TalliedBy t ws (lines_from (limit_of t) t order text next 0 progress ws ns vs))
+      go : (a : Bool) (x : Option (Span Order)) → ((order : Order) (next : ℕ) → TalliedBy t ws (lines_from (limit_of t) t order text next 0 progress ws ns vs))
           → TalliedBy t ws (cond a (by_head x (λ order next. lines_from (limit_of t) t order text next 0 progress ws ns vs)) (done at 0 progress ws ns vs))
-      go true (Some head) ih = ih head.order head.next
+      go true (Some head) ih = ih head.value head.next
       go true None ih = tt
       go false x ih = record { same = refl; other = λ i s q. refl; count = λ p e long. blank p e }
 

@@ -17,8 +17,7 @@ use Rattle.reader_cells.specs.Cells.{byte_at, name_span}
 use Rattle.reader_lines.specs.NamesLine.{head_at}
 use Rattle.reader_lines.specs.ValuesLine.{values_at}
 use Rattle.std.specs.Prelude.{Option, Some, None}
-use Rattle.reader_lines.specs.declared.names_line.Head.{Head}
-use Rattle.reader_lines.specs.declared.values_line.Values.{Values}
+use Rattle.reader_cells.specs.declared.names.Span.{Span}
 use Rattle.reader_lines.specs.declared.columns.Order.{Order}
 use Rattle.reader_lines.specs.Columns.{cell_of, no_cells}
 use Rattle.reader_lines.specs.declared.columns.Cells.{Cells}
@@ -90,16 +89,16 @@ kinds-lines : (fuel : ℕ) (order : Order) (text : List ℕ) (at k : ℕ) (progr
 unfolding lines_at lines_from kinds_put
 kinds-lines zero order text at k progress ws ns vs = go (eqb (byte_at text at) 10) (values_at text at 1 order)
   where
-    go : (a : Bool) (x : Option Values) → KindsBy k ws (cond a (lines [] (at + 1)) broken) (cond a (done (at + 1) k (ended_progress progress) (count_kept 1 k ws) ns vs) (by_values x (λ cells next. stop 2)))
+    go : (a : Bool) (x : Option (Span Cells)) → KindsBy k ws (cond a (lines [] (at + 1)) broken) (cond a (done (at + 1) k (ended_progress progress) (count_kept 1 k ws) ns vs) (by_values x (λ cells next. stop 2)))
     go true x = count_past 1 (omega arith) k ws
     go false (Some row) = tt
     go false None = tt
 kinds-lines (suc fuel) order text at k progress ws ns vs = go (eqb (byte_at text at) 10) (values_at text at 1 order) (λ cells next. kinds-lines fuel order text next (k + 1) (kept_progress 1 k cells progress ws) (kept_words 1 k cells progress ws) (numbers_kept 1 k cells ns) (wants_kept 1 k cells vs))
   where
-    go : (a : Bool) (x : Option Values) → ((cells : Cells) (next : ℕ) → KindsBy (k + 1) (kept_words 1 k cells progress ws) (lines_at fuel 1 order text next) (lines_from fuel 1 order text next (k + 1) (kept_progress 1 k cells progress ws) (kept_words 1 k cells progress ws) (numbers_kept 1 k cells ns) (wants_kept 1 k cells vs)))
+    go : (a : Bool) (x : Option (Span Cells)) → ((cells : Cells) (next : ℕ) → KindsBy (k + 1) (kept_words 1 k cells progress ws) (lines_at fuel 1 order text next) (lines_from fuel 1 order text next (k + 1) (kept_progress 1 k cells progress ws) (kept_words 1 k cells progress ws) (numbers_kept 1 k cells ns) (wants_kept 1 k cells vs)))
         → KindsBy k ws (cond a (lines [] (at + 1)) (by_row x (λ cells next. after cells (lines_at fuel 1 order text next)))) (cond a (done (at + 1) k (ended_progress progress) (count_kept 1 k ws) ns vs) (by_values x (λ cells next. lines_from fuel 1 order text next (k + 1) (kept_progress 1 k cells progress ws) (kept_words 1 k cells progress ws) (numbers_kept 1 k cells ns) (wants_kept 1 k cells vs))))
     go true x ih = count_past 1 (omega arith) k ws
-    go false (Some row) ih = kinds-after k row.cells progress ws (lines_at fuel 1 order text row.next) _ (ih row.cells row.next)
+    go false (Some row) ih = kinds-after k row.value progress ws (lines_at fuel 1 order text row.next) _ (ih row.value row.next)
     go false None ih = tt
 
 kinds-table : (text : List ℕ) (at : ℕ) (progress : Progress) (ws : List ℕ) (ns : List Float) (vs : List ℕ) → KindsBy 0 ws (table_lines 1 text at) (table_at 1 text at progress ws ns vs)
@@ -107,9 +106,9 @@ unfolding table_lines table_at kinds_put
 kinds-table text at progress ws ns vs =
     go (eqb (name_span text at).value (name_of 1)) (head_at text (name_span text at).next 1) (λ order next. kinds-lines (limit_of 1) order text next 0 progress ws ns vs)
   where
-    go : (a : Bool) (x : Option Head) → ((order : Order) (next : ℕ) → KindsBy 0 ws (lines_at (limit_of 1) 1 order text next) (lines_from (limit_of 1) 1 order text next 0 progress ws ns vs))
+    go : (a : Bool) (x : Option (Span Order)) → ((order : Order) (next : ℕ) → KindsBy 0 ws (lines_at (limit_of 1) 1 order text next) (lines_from (limit_of 1) 1 order text next 0 progress ws ns vs))
         → KindsBy 0 ws (cond a (by_names x (λ order next. lines_at (limit_of 1) 1 order text next)) (lines [] at)) (cond a (by_head x (λ order next. lines_from (limit_of 1) 1 order text next 0 progress ws ns vs)) (done at 0 progress ws ns vs))
-    go true (Some head) ih = ih head.order head.next
+    go true (Some head) ih = ih head.value head.next
     go true None ih = tt
     go false x ih = λ j h. refl
 
@@ -147,7 +146,7 @@ module _ (t : ℕ) (small : t < 16) (unlike : t ≡ 1 → ⊥) where
   unfolding lines_from
   others-lines zero order text at k progress ws ns vs from h = go (eqb (byte_at text at) 10) (values_at text at t order)
     where
-      go : (a : Bool) (x : Option Values) → OthersBy from (cond a (done (at + 1) k (ended_progress progress) (count_kept t k ws) ns vs) (by_values x (λ cells next. stop 2)))
+      go : (a : Bool) (x : Option (Span Cells)) → OthersBy from (cond a (done (at + 1) k (ended_progress progress) (count_kept t k ws) ns vs) (by_values x (λ cells next. stop 2)))
       go true x = ended k ws from h
       go false (Some row) = tt
       go false None = tt
@@ -157,9 +156,9 @@ module _ (t : ℕ) (small : t < 16) (unlike : t ≡ 1 → ⊥) where
       others-lines fuel order text next (k + 1) (kept_progress t k cells progress ws) (kept_words t k cells progress ws) (numbers_kept t k cells ns) (wants_kept t k cells vs) from
       (low-then 71 (kept_words t k cells progress ws) ws from (kept_low 71 (omega arith) t word-past k cells progress ws) h))
     where
-      go : (a : Bool) (x : Option Values) → ((cells : Cells) (next : ℕ) → OthersBy from (lines_from fuel t order text next (k + 1) (kept_progress t k cells progress ws) (kept_words t k cells progress ws) (numbers_kept t k cells ns) (wants_kept t k cells vs))) → OthersBy from (cond a (done (at + 1) k (ended_progress progress) (count_kept t k ws) ns vs) (by_values x (λ cells next. lines_from fuel t order text next (k + 1) (kept_progress t k cells progress ws) (kept_words t k cells progress ws) (numbers_kept t k cells ns) (wants_kept t k cells vs))))
+      go : (a : Bool) (x : Option (Span Cells)) → ((cells : Cells) (next : ℕ) → OthersBy from (lines_from fuel t order text next (k + 1) (kept_progress t k cells progress ws) (kept_words t k cells progress ws) (numbers_kept t k cells ns) (wants_kept t k cells vs))) → OthersBy from (cond a (done (at + 1) k (ended_progress progress) (count_kept t k ws) ns vs) (by_values x (λ cells next. lines_from fuel t order text next (k + 1) (kept_progress t k cells progress ws) (kept_words t k cells progress ws) (numbers_kept t k cells ns) (wants_kept t k cells vs))))
       go true x ih = ended k ws from h
-      go false (Some row) ih = ih row.cells row.next
+      go false (Some row) ih = ih row.value row.next
       go false None ih = tt
 
   others-table : (text : List ℕ) (at : ℕ) (progress : Progress) (ws : List ℕ) (ns : List Float) (vs : List ℕ) → OthersBy ws (table_at t text at progress ws ns vs)
@@ -167,9 +166,9 @@ module _ (t : ℕ) (small : t < 16) (unlike : t ≡ 1 → ⊥) where
   others-table text at progress ws ns vs =
       go (eqb (name_span text at).value (name_of t)) (head_at text (name_span text at).next t) (λ order next. others-lines (limit_of t) order text next 0 progress ws ns vs ws (low_same 71 ws))
     where
-      go : (a : Bool) (x : Option Head) → ((order : Order) (next : ℕ) → OthersBy ws (lines_from (limit_of t) t order text next 0 progress ws ns vs))
+      go : (a : Bool) (x : Option (Span Order)) → ((order : Order) (next : ℕ) → OthersBy ws (lines_from (limit_of t) t order text next 0 progress ws ns vs))
           → OthersBy ws (cond a (by_head x (λ order next. lines_from (limit_of t) t order text next 0 progress ws ns vs)) (done at 0 progress ws ns vs))
-      go true (Some head) ih = ih head.order head.next
+      go true (Some head) ih = ih head.value head.next
       go true None ih = tt
       go false x ih = (refl, λ j p q. refl)
 

@@ -12,8 +12,7 @@ use Rattle.reader_cells.specs.Cells.{byte_at, name_span}
 use Rattle.reader_lines.specs.NamesLine.{head_at}
 use Rattle.reader_lines.specs.ValuesLine.{values_at}
 use Rattle.std.specs.Prelude.{Option, Some, None}
-use Rattle.reader_lines.specs.declared.names_line.Head.{Head}
-use Rattle.reader_lines.specs.declared.values_line.Values.{Values}
+use Rattle.reader_cells.specs.declared.names.Span.{Span}
 use Rattle.reader_lines.specs.declared.columns.Order.{Order}
 use Rattle.reader_lines.specs.declared.columns.Cells.{Cells}
 use Rattle.reader_store.specs.Layout.{numbers_kept, wants_kept, count_kept}
@@ -41,17 +40,17 @@ pub lines-agree : (fuel t : ℕ) (order : Order) (text : List ℕ) (at k : ℕ) 
 unfolding lines_at lines_from rows_put
 lines-agree zero t order text at k progress ws ns vs = go (eqb (byte_at text at) 10) (values_at text at t order)
   where
-    go : (a : Bool) (x : Option Values) → Agree t 0 k ns (cond a (lines [] (at + 1)) broken) (cond a (done (at + 1) k (ended_progress progress) (count_kept t k ws) ns vs) (by_values x (λ cells next. stop 2)))
+    go : (a : Bool) (x : Option (Span Cells)) → Agree t 0 k ns (cond a (lines [] (at + 1)) broken) (cond a (done (at + 1) k (ended_progress progress) (count_kept t k ws) ns vs) (by_values x (λ cells next. stop 2)))
     go true x = (refl, omega arith, omega arith, refl)
     go false (Some row) = tt
     go false None = tt
 lines-agree (suc fuel) t order text at k progress ws ns vs = go (eqb (byte_at text at) 10) (values_at text at t order) (λ cells next. lines-agree fuel t order text next (k + 1) (kept_progress t k cells progress ws) (kept_words t k cells progress ws) (numbers_kept t k cells ns) (wants_kept t k cells vs))
   where
-    go : (a : Bool) (x : Option Values)
+    go : (a : Bool) (x : Option (Span Cells))
         → ((cells : Cells) (next : ℕ) → Agree t fuel (k + 1) (numbers_kept t k cells ns) (lines_at fuel t order text next) (lines_from fuel t order text next (k + 1) (kept_progress t k cells progress ws) (kept_words t k cells progress ws) (numbers_kept t k cells ns) (wants_kept t k cells vs)))
         → Agree t (suc fuel) k ns (cond a (lines [] (at + 1)) (by_row x (λ cells next. after cells (lines_at fuel t order text next)))) (cond a (done (at + 1) k (ended_progress progress) (count_kept t k ws) ns vs) (by_values x (λ cells next. lines_from fuel t order text next (k + 1) (kept_progress t k cells progress ws) (kept_words t k cells progress ws) (numbers_kept t k cells ns) (wants_kept t k cells vs))))
     go true x ih = (refl, omega arith, omega arith, refl)
-    go false (Some row) ih = agree_after t fuel k row.cells ns (lines_at fuel t order text row.next) _ (ih row.cells row.next)
+    go false (Some row) ih = agree_after t fuel k row.value ns (lines_at fuel t order text row.next) _ (ih row.value row.next)
     go false None ih = tt
 
 pub table-agree : (t : ℕ) (text : List ℕ) (at : ℕ) (progress : Progress) (ws : List ℕ) (ns : List Float) (vs : List ℕ) → Agree t (limit_of t) 0 ns (table_lines t text at) (table_at t text at progress ws ns vs)
@@ -59,8 +58,8 @@ unfolding table_lines table_at rows_put
 table-agree t text at progress ws ns vs =
     go (eqb (name_span text at).value (name_of t)) (head_at text (name_span text at).next t) (λ order next. lines-agree (limit_of t) t order text next 0 progress ws ns vs)
   where
-    go : (a : Bool) (x : Option Head) → ((order : Order) (next : ℕ) → Agree t (limit_of t) 0 ns (lines_at (limit_of t) t order text next) (lines_from (limit_of t) t order text next 0 progress ws ns vs))
+    go : (a : Bool) (x : Option (Span Order)) → ((order : Order) (next : ℕ) → Agree t (limit_of t) 0 ns (lines_at (limit_of t) t order text next) (lines_from (limit_of t) t order text next 0 progress ws ns vs))
         → Agree t (limit_of t) 0 ns (cond a (by_names x (λ order next. lines_at (limit_of t) t order text next)) (lines [] at)) (cond a (by_head x (λ order next. lines_from (limit_of t) t order text next 0 progress ws ns vs)) (done at 0 progress ws ns vs))
-    go true (Some head) ih = ih head.order head.next
+    go true (Some head) ih = ih head.value head.next
     go true None ih = tt
     go false x ih = (refl, refl, omega arith, refl)

@@ -13,8 +13,7 @@ use Rattle.reader_lines.specs.NamesLine.{head_at}
 use Rattle.reader_lines.specs.ValuesLine.{values_at}
 use Rattle.std.specs.Prelude.{Option, Some, None, is_some}
 use Rattle.reader_lines.specs.Columns.{cell_of}
-use Rattle.reader_lines.specs.declared.names_line.Head.{Head}
-use Rattle.reader_lines.specs.declared.values_line.Values.{Values}
+use Rattle.reader_cells.specs.declared.names.Span.{Span}
 use Rattle.reader_lines.specs.declared.columns.Order.{Order}
 use Rattle.reader_lines.specs.declared.columns.Cells.{Cells}
 use Rattle.reader_store.specs.Layout.{codes_kept, rule_of, numbers_kept, wants_kept, count_kept}
@@ -68,16 +67,16 @@ lines-sound : (fuel t : ℕ) (order : Order) (text : List ℕ) (at k : ℕ) (pro
 unfolding lines_from
 lines-sound zero t order text at k progress ws ns vs = go (eqb (byte_at text at) 10) (values_at text at t order)
   where
-    go : (a : Bool) (x : Option Values) → SoundBy progress (cond a (done (at + 1) k (ended_progress progress) (count_kept t k ws) ns vs) (by_values x (λ cells next. stop 2)))
+    go : (a : Bool) (x : Option (Span Cells)) → SoundBy progress (cond a (done (at + 1) k (ended_progress progress) (count_kept t k ws) ns vs) (by_values x (λ cells next. stop 2)))
     go true x = λ e. e
     go false (Some row) = tt
     go false None = tt
 lines-sound (suc fuel) t order text at k progress ws ns vs = go (eqb (byte_at text at) 10) (values_at text at t order) (λ cells next. lines-sound fuel t order text next (k + 1) (kept_progress t k cells progress ws) (kept_words t k cells progress ws) (numbers_kept t k cells ns) (wants_kept t k cells vs))
   where
-    go : (a : Bool) (x : Option Values) → ((cells : Cells) (next : ℕ) → SoundBy (kept_progress t k cells progress ws) (lines_from fuel t order text next (k + 1) (kept_progress t k cells progress ws) (kept_words t k cells progress ws) (numbers_kept t k cells ns) (wants_kept t k cells vs)))
+    go : (a : Bool) (x : Option (Span Cells)) → ((cells : Cells) (next : ℕ) → SoundBy (kept_progress t k cells progress ws) (lines_from fuel t order text next (k + 1) (kept_progress t k cells progress ws) (kept_words t k cells progress ws) (numbers_kept t k cells ns) (wants_kept t k cells vs)))
         → SoundBy progress (cond a (done (at + 1) k (ended_progress progress) (count_kept t k ws) ns vs) (by_values x (λ cells next. lines_from fuel t order text next (k + 1) (kept_progress t k cells progress ws) (kept_words t k cells progress ws) (numbers_kept t k cells ns) (wants_kept t k cells vs))))
     go true x ih = λ e. e
-    go false (Some row) ih = sound-then (kept_progress t k row.cells progress ws) progress _ (kept-sound t k row.cells progress ws) (ih row.cells row.next)
+    go false (Some row) ih = sound-then (kept_progress t k row.value progress ws) progress _ (kept-sound t k row.value progress ws) (ih row.value row.next)
     go false None ih = tt
 
 table-sound : (t : ℕ) (text : List ℕ) (at : ℕ) (progress : Progress) (ws : List ℕ) (ns : List Float) (vs : List ℕ) → SoundBy progress (table_at t text at progress ws ns vs)
@@ -85,9 +84,9 @@ unfolding table_at
 table-sound t text at progress ws ns vs =
     go (eqb (name_span text at).value (name_of t)) (head_at text (name_span text at).next t) (λ order next. lines-sound (limit_of t) t order text next 0 progress ws ns vs)
   where
-    go : (a : Bool) (x : Option Head) → ((order : Order) (next : ℕ) → SoundBy progress (lines_from (limit_of t) t order text next 0 progress ws ns vs))
+    go : (a : Bool) (x : Option (Span Order)) → ((order : Order) (next : ℕ) → SoundBy progress (lines_from (limit_of t) t order text next 0 progress ws ns vs))
         → SoundBy progress (cond a (by_head x (λ order next. lines_from (limit_of t) t order text next 0 progress ws ns vs)) (done at 0 progress ws ns vs))
-    go true (Some head) ih = ih head.order head.next
+    go true (Some head) ih = ih head.value head.next
     go true None ih = tt
     go false x ih = λ e. e
 

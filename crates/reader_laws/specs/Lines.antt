@@ -13,8 +13,7 @@ use Rattle.reader_lines.specs.NamesLine.{head_at}
 use Rattle.reader_lines.specs.ValuesLine.{values_at}
 use Rattle.reader_lines.specs.declared.columns.Order.{Order}
 use Rattle.reader_lines.specs.declared.columns.Cells.{Cells}
-use Rattle.reader_lines.specs.declared.names_line.Head.{Head}
-use Rattle.reader_lines.specs.declared.values_line.Values.{Values}
+use Rattle.reader_cells.specs.declared.names.Span.{Span}
 use Rattle.reader_store.specs.Layout.{code_of}
 
 -- lines with the place after them, or a form that is broken or too long
@@ -27,12 +26,12 @@ after cells (lines rows at) = lines (cells ∷ rows) at
 after cells broken = broken
 
 -- by a line of values, and by one of names: what it leads to, or a broken form
-abbrev pub by_row : Option Values → (Cells → ℕ → Lines) → Lines
-by_row (Some row) f = f row.cells row.next
+abbrev pub by_row : Option (Span Cells) → (Cells → ℕ → Lines) → Lines
+by_row (Some row) f = f row.value row.next
 by_row None f = broken
 
-abbrev pub by_names : Option Head → (Order → ℕ → Lines) → Lines
-by_names (Some head) f = f head.order head.next
+abbrev pub by_names : Option (Span Order) → (Order → ℕ → Lines) → Lines
+by_names (Some head) f = f head.value head.next
 by_names None f = broken
 
 -- lines of values up to an empty one, at most `fuel`

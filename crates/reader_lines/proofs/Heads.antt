@@ -12,7 +12,7 @@ use Rattle.reader_lines.specs.Columns.{no_order, all_due, is_due, met_in, ordere
 use Rattle.reader_lines.specs.NamesLine.{column_at, names_from, head_at}
 use Rattle.reader_lines.specs.declared.columns.Order.{Order}
 use Rattle.reader_lines.specs.declared.columns.Due.{Due}
-use Rattle.reader_lines.specs.declared.names_line.Named.{Named}
+use Rattle.reader_cells.specs.declared.names.Span.{Span}
 
 module _ (text : List ℕ) (at table : ℕ) where
   pub head-is : {n : ℕ} {due : Due} {order : Order} → n ≡ word_count table → due ≡ all_due n → order ≡ no_order → head_at text at table ≡ names_from (n - 0) text at table 0 due order
@@ -20,7 +20,7 @@ module _ (text : List ℕ) (at table : ℕ) where
   head-is {n} e f g = let z : n - 0 ≡ n = omega arith in rw (z, f, g, e)
 
 module _ (text : List ℕ) (at table i n : ℕ) (due : Due) (order : Order) where
-  module _ {x : Option Named} (f : x ≡ column_at text at table) (l : i < n) where
+  module _ {x : Option (Span ℕ)} (f : x ≡ column_at text at table) (l : i < n) where
     more : n - i ≡ suc (n - (i + 1))
     more = omega arith
 
@@ -28,12 +28,12 @@ module _ (text : List ℕ) (at table i n : ℕ) (due : Due) (order : Order) wher
     unfolding names_from
     names-broken k = rw (more, ← f, k)
 
-    module _ {w : Named} (k : x ≡ Some w) {d : Bool} (h : d ≡ is_due due w.column) where
+    module _ {w : Span ℕ} (k : x ≡ Some w) {d : Bool} (h : d ≡ is_due due w.value) where
       pub names-stop : d ≡ false → names_from (n - i) text at table i due order ≡ None
       unfolding names_from
       names-stop p = rw (more, ← f, k, ← h, p)
 
-      pub names-next : {due' : Due} {order' : Order} → d ≡ true → due' ≡ met_in due w.column → order' ≡ ordered_by order i w.column
+      pub names-next : {due' : Due} {order' : Order} → d ≡ true → due' ≡ met_in due w.value → order' ≡ ordered_by order i w.value
           → names_from (n - i) text at table i due order ≡ names_from (n - (i + 1)) text w.next table (i + 1) due' order'
       unfolding names_from
       names-next p q r = rw (more, ← f, k, ← h, p, q, r)
@@ -42,7 +42,7 @@ module _ (text : List ℕ) (at table i n : ℕ) (due : Due) (order : Order) wher
     none : n - i ≡ 0
     none = omega arith
 
-    pub names-end : b ≡ 10 → names_from (n - i) text at table i due order ≡ Some (record { next = at + 1; order = order })
+    pub names-end : b ≡ 10 → names_from (n - i) text at table i due order ≡ Some (record { value = order; next = at + 1 })
     unfolding names_from
     names-end h = rw (none, ← e, eq-eqb b 10 h)
 

@@ -34,11 +34,11 @@ unfolding values_at
 row_is text at table order {n} e f = let z : n - 0 ≡ n = omega arith in rw (z, f, e)
 
 pub row-end : (text : List ℕ) (at table : ℕ) (order : Order) (i n : ℕ) (cells : Cells) → n ≤ i
-    → values_read (n - i) text at table order i cells ≡ Some (record { next = at; cells = cells })
+    → values_read (n - i) text at table order i cells ≡ Some (record { value = cells; next = at })
 unfolding values_read
 row-end text at table order i n cells h = let z : n - i ≡ 0 = omega arith in rw z
 
-module _ (text : List ℕ) (at table : ℕ) (order : Order) (i n : ℕ) (cells : Cells) {col kind : ℕ} {x : Option Span}
+module _ (text : List ℕ) (at table : ℕ) (order : Order) (i n : ℕ) (cells : Cells) {col kind : ℕ} {x : Option (Span ℕ)}
     (f : col ≡ ordered_column order i) (g : kind ≡ column_kind table col) (h : x ≡ cell_at text at kind) (l : i < n) where
   next : n - i ≡ suc (n - (i + 1))
   next = omega arith
@@ -47,7 +47,7 @@ module _ (text : List ℕ) (at table : ℕ) (order : Order) (i n : ℕ) (cells :
   unfolding values_read
   row-broken k = rw (next, ← f, ← g, ← h, k)
 
-  module _ {w : Span} {b s : ℕ} (k : x ≡ Some w) (e : b ≡ byte_at text w.next) (st : s ≡ stop_of (n - (i + 1))) where
+  module _ {w : Span ℕ} {b s : ℕ} (k : x ≡ Some w) (e : b ≡ byte_at text w.next) (st : s ≡ stop_of (n - (i + 1))) where
     pub row-stop : (b ≡ s → ⊥) → values_read (n - i) text at table order i cells ≡ None
     unfolding values_read
     row-stop p = rw (next, ← f, ← g, ← h, k, ← e, ← st, ne_eqb b s p)

@@ -7,5 +7,5 @@ mod names_line;
 mod values_line;
 
 pub use columns::{Cells, Order, put};
-pub use names_line::{Head, head_at};
-pub use values_line::{Values, values_at};
+pub use names_line::head_at;
+pub use values_line::values_at;

@@ -3,24 +3,11 @@ ghost use Rattle.std.specs.Prelude.{◌≡◌};
 ghost use Rattle.reader_lines.specs.NamesLine.{column_at, head_at};
 
 use crate::columns::{Due, Order, put};
-
-// A column that was named, and the place after its name.
-#[derive(Clone, Copy, Debug, PartialEq, Eq)]
-pub struct Named {
-    pub column: u8,
-    pub next: usize,
-}
-
-// The place after a line of names, and the columns in its order.
-#[derive(Clone, Copy, Debug, PartialEq, Eq)]
-pub struct Head {
-    pub next: usize,
-    pub order: Order,
-}
+use reader_cells::Span;
 
 // A space, then a name: the column of that name; none where no space stands, or the name is no column's.
 #[tactic(auto, unfolding(crate::specs::NamesLine::column_at))]
-fn column_at(text: &[u8], at: usize, table: usize) -> Option<Named>
+fn column_at(text: &[u8], at: usize, table: usize) -> Option<Span<u8>>
     ensures { result ≡ column_at text.now at table }
 {
     if reader_hex::byte_at(text, at) != b' ' {
@@ -28,15 +15,15 @@ fn column_at(text: &[u8], at: usize, table: usize) -> Option<Named>
     }
     let name = reader_cells::name_at(text, at + 1);
     let column = reader_schema::place_of(table, name.value)?;
-    Some(Named {
-        column,
+    Some(Span {
+        value: column,
         next: name.next,
     })
 }
 
 // The columns of a table in the order in which its line of names has them, each once, from the place after the table's name on; none where the line is
 // broken. As many due names as there are columns leave none missing, and a name too many is no LF.
-pub fn head_at(text: &[u8], at: usize, table: usize) -> Option<Head>
+pub fn head_at(text: &[u8], at: usize, table: usize) -> Option<Span<Order>>
     ensures { result ≡ head_at text.now at table }
 {
     let n = reader_schema::count_of(table) as usize;
@@ -45,19 +32,19 @@ pub fn head_at(text: &[u8], at: usize, table: usize) -> Option<Head>
     let mut next = at;
     for i in 0..n {
         let named = column_at(text, next, table)?;
-        let column = named.column as usize;
+        let column = named.value as usize;
         if !due.has(column) {
             return None;
         }
-        put(&mut order.of, i, named.column);
+        put(&mut order.of, i, named.value);
         put(&mut due.of, column, false);
         next = named.next;
     }
     if reader_hex::byte_at(text, next) != b'\n' {
         return None;
     }
-    Some(Head {
+    Some(Span {
+        value: order,
         next: next + 1,
-        order,
     })
 }

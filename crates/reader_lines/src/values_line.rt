@@ -3,13 +3,7 @@ ghost use Rattle.std.specs.Prelude.{◌≡◌, ◌-◌};
 ghost use Rattle.reader_lines.specs.ValuesLine.{stop_of, values_at};
 
 use crate::columns::{Cells, Order, put};
-
-// The place after a line of values, and its cells by column.
-#[derive(Clone, Copy, Debug, PartialEq, Eq)]
-pub struct Values {
-    pub next: usize,
-    pub cells: Cells,
-}
+use reader_cells::Span;
 
 // The byte after cell i of n, counted from 1.
 fn stop_of(i: usize, n: usize) -> u8
@@ -19,7 +13,7 @@ fn stop_of(i: usize, n: usize) -> u8
 }
 
 // The cells of the line at a place; none where it is broken.
-pub fn values_at(text: &[u8], at: usize, table: usize, order: Order) -> Option<Values>
+pub fn values_at(text: &[u8], at: usize, table: usize, order: Order) -> Option<Span<Cells>>
     ensures { result ≡ values_at text.now at table order }
 {
     let n = reader_schema::count_of(table) as usize;
@@ -34,5 +28,5 @@ pub fn values_at(text: &[u8], at: usize, table: usize, order: Order) -> Option<V
         put(&mut cells.of, column, cell.value);
         next = cell.next + 1;
     }
-    Some(Values { next, cells })
+    Some(Span { value: cells, next })
 }

@@ -18,7 +18,7 @@ use Rattle.reader_lines.specs.Columns.{no_cells, ordered_column, cell_of, valued
 use Rattle.reader_lines.specs.ValuesLine.{stop_of, values_read, values_at}
 use Rattle.reader_lines.specs.declared.columns.Order.{Order}
 use Rattle.reader_lines.specs.declared.columns.Cells.{Cells}
-use Rattle.reader_lines.specs.declared.values_line.Values.{Values}
+use Rattle.reader_cells.specs.declared.names.Span.{Span}
 use Rattle.reader_text_laws.proofs.Listed.{no_cells_lem}
 use Rattle.reader_print_laws.specs.Printing.{printed_line, printed_word, values_from, values_line}
 use Rattle.reader_print_laws.specs.PrintReads.{LineFits}
@@ -40,8 +40,8 @@ order-test : all_below (λ t. all_below (λ i. eqb (ordered_column (in_order (wo
 unfolding all_below schema.word_count schema.counts
 order-test = refl
 
-abbrev pub good_row : ℕ → Cells → Option Values
-good_row at cells = Some (record { next = at; cells = cells })
+abbrev pub good_row : ℕ → Cells → Option (Span Cells)
+good_row at cells = Some (record { value = cells; next = at })
 
 module _ (t : ℕ) (small : t < 16) where
   pub columns-some : 0 < word_count t

@@ -15,8 +15,6 @@ use Rattle.reader_lines.specs.NamesLine.{head_at, column_at, names_from, by_name
 use Rattle.reader_lines.specs.Columns.{no_order, all_due, is_due, met_in, ordered_by}
 use Rattle.reader_lines.specs.declared.columns.Order.{Order}
 use Rattle.reader_lines.specs.declared.columns.Due.{Due}
-use Rattle.reader_lines.specs.declared.names_line.Head.{Head}
-use Rattle.reader_lines.specs.declared.names_line.Named.{Named}
 use Rattle.std.specs.Prelude.{Option, Some, None, option_map}
 use Rattle.std.proofs.lemmas.Option.{none-some, same_Some}
 use Rattle.reader_print_laws.specs.Printing.{printed_line, words_of, title_of, columns_line}
@@ -29,8 +27,8 @@ in_order n =
       of = 0 ∷ cond (ltb 1 n) 1 0 ∷ cond (ltb 2 n) 2 0 ∷ cond (ltb 3 n) 3 0 ∷ cond (ltb 4 n) 4 0 ∷ cond (ltb 5 n) 5 0 ∷ cond (ltb 6 n) 6 0 ∷ cond (ltb 7 n) 7 0 ∷ [];
     }
 
-abbrev pub good : ℕ → Order → Option Head
-good at order = Some (record { next = at; order = order })
+abbrev pub good : ℕ → Order → Option (Span Order)
+good at order = Some (record { value = order; next = at })
 
 -- a name that stands, and the columns' names after it
 abbrev NamesRead : ℕ → List ℕ → ℕ → Type 0
@@ -62,11 +60,11 @@ no_head_lem : {A : Type 0} {m : ℕ} {o : Order} → None ≡ good m o → A
 no_head_lem e = absurd (none-some _ e)
 
 -- a name that stands further on
-abbrev shifted : ℕ → Option Named → Option Named
-shifted at (Some named) = Some (record { column = named.column; next = at + named.next })
+abbrev shifted : ℕ → Option (Span ℕ) → Option (Span ℕ)
+shifted at (Some named) = Some (record { value = named.value; next = at + named.next })
 shifted at None = None
 
-shifted-name : (at next : ℕ) (o : Option ℕ) → option_map (λ (column : ℕ). let w : Named = record { column = column; next = at + next } in w) o ≡ shifted at (option_map (λ (column : ℕ). let w : Named = record { column = column; next = next } in w) o)
+shifted-name : (at next : ℕ) (o : Option ℕ) → option_map (λ (column : ℕ). let w : Span ℕ = record { value = column; next = at + next } in w) o ≡ shifted at (option_map (λ (column : ℕ). let w : Span ℕ = record { value = column; next = next } in w) o)
 shifted-name at next (Some column) = refl
 shifted-name at next None = refl
 
@@ -78,7 +76,7 @@ module _ (text : List ℕ) (at : ℕ) where
       (go (eqb (byte_at (drop at text) k) 32) (name_span (drop at text) (k + 1))
       (ap (λ (n : ℕ). name_span text n) (add_assoc at k 1) ∙ name-moved text at 8 (k + 1) 0))
     where
-      go : (t : Bool) {s : Span} (r : Span) → s ≡ span_of r.value (at + r.next) → cond t (named_by table s) None ≡ shifted at (cond t (named_by table r) None)
+      go : (t : Bool) {s : Span ℕ} (r : Span ℕ) → s ≡ span_of r.value (at + r.next) → cond t (named_by table s) None ≡ shifted at (cond t (named_by table r) None)
       go true r e = ap (named_by table) e ∙ shifted-name at r.next (listed_place table r.value)
       go false r e = refl
 
@@ -89,8 +87,8 @@ module _ (text : List ℕ) (at : ℕ) where
       go : (t : Bool) → cond t (good (k + 1) order) None ≡ good m o → cond t (good (at + k + 1) order) None ≡ good (at + m) o
       go true f =
           let g = same_Some _ _ f in
-          let a = ap (λ (h : Head). h.next) g in
-          let b = ap (λ (h : Head). h.order) g in
+          let a = ap (λ (h : Span Order). h.next) g in
+          let b = ap (λ (h : Span Order). h.value) g in
           let c : at + k + 1 ≡ at + m = omega arith in
           rw (c, b)
       go false f = no_head_lem f
@@ -98,15 +96,15 @@ module _ (text : List ℕ) (at : ℕ) where
       rw (column-moved k table)
       (go (column_at (drop at text) k table) (λ column next. head-moved n next table (i + 1) (met_in due column) (ordered_by order i column) m o) e)
     where
-      by : (t : Bool) {x y : Option Head} → (y ≡ good m o → x ≡ good (at + m) o) → cond t y None ≡ good m o → cond t x None ≡ good (at + m) o
+      by : (t : Bool) {x y : Option (Span Order)} → (y ≡ good m o → x ≡ good (at + m) o) → cond t y None ≡ good m o → cond t x None ≡ good (at + m) o
       by true f g = f g
       by false f g = no_head_lem g
 
-      go : (w : Option Named)
+      go : (w : Option (Span ℕ))
           → ((column next : ℕ) → names_from n (drop at text) next table (i + 1) (met_in due column) (ordered_by order i column) ≡ good m o → names_from n text (at + next) table (i + 1) (met_in due column) (ordered_by order i column) ≡ good (at + m) o)
           → by_name w (λ column next. cond (is_due due column) (names_from n (drop at text) next table (i + 1) (met_in due column) (ordered_by order i column)) None) ≡ good m o
           → by_name (shifted at w) (λ column next. cond (is_due due column) (names_from n text next table (i + 1) (met_in due column) (ordered_by order i column)) None) ≡ good (at + m) o
-      go (Some w) f g = by (is_due due w.column) (f w.column w.next) g
+      go (Some w) f g = by (is_due due w.value) (f w.value w.next) g
       go None f g = no_head_lem g
 
   -- the line of names of a table, read where it stands

@@ -125,9 +125,9 @@ read-some : (text : List ℕ) (at n q : ℕ) → 0 < n → decimal_from 4 text a
 unfolding decimal_from
 read-some text at n q p = go (leb 10 (digit_of (byte_at text at))) (decimal_from 3 text (at + 1) (0 * 10 + digit_of (byte_at text at)))
   where
-    go : (b : Bool) (s : Span) → cond b (span_of 0 at) s ≡ span_of n q → cond b None (Some (cond b (span_of 0 at) s)) ≡ Some (span_of n q)
-    go true s e = let z : 0 ≡ n = ap (λ (t : Span). t.value) e in absurd (omega arith)
-    go false s e = ap (λ (t : Span). Some t) e
+    go : (b : Bool) (s : Span ℕ) → cond b (span_of 0 at) s ≡ span_of n q → cond b None (Some (cond b (span_of 0 at) s)) ≡ Some (span_of n q)
+    go true s e = let z : 0 ≡ n = ap (λ (t : Span ℕ). t.value) e in absurd (omega arith)
+    go false s e = ap (λ (t : Span ℕ). Some t) e
 
 natural-more : (n : ℕ) (text : List ℕ) (at r : ℕ) (rest : List ℕ) → 0 < n → n < 10000 → drop at text ≡ decimals_of 4 n ++ (stop_of r ∷ rest) → natural_at text at ≡ Some (span_of n (at + length (decimals_of 4 n)))
 unfolding natural_at

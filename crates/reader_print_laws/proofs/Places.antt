@@ -39,7 +39,7 @@ module _ (text : List ℕ) (at : ℕ) where
       (go (leb (byte_at (drop at text) k) 32) (name_from n (drop at text) (k + 1) (v * 256 + byte_at (drop at text) k))
       (ap (λ (m : ℕ). name_from n text m (v * 256 + byte_at (drop at text) k)) (add_assoc at k 1) ∙ name-moved n (k + 1) (v * 256 + byte_at (drop at text) k)))
     where
-      go : (t : Bool) {s : Span} (r : Span) → s ≡ span_of r.value (at + r.next) → cond t (span_of v (at + k)) s ≡ span_of (cond t (span_of v k) r).value (at + (cond t (span_of v k) r).next)
+      go : (t : Bool) {s : Span ℕ} (r : Span ℕ) → s ≡ span_of r.value (at + r.next) → cond t (span_of v (at + k)) s ≡ span_of (cond t (span_of v k) r).value (at + (cond t (span_of v k) r).next)
       go true r e = refl
       go false r e = e
 

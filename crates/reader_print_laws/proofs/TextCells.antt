@@ -17,7 +17,7 @@ no_value : {A : Type 0} {v q : ℕ} → None ≡ Some (span_of v q) → A
 no_value {A} {v} {q} e = absurd (none-some (span_of v q) e)
 
 value_is : {u a v q : ℕ} → Some (span_of u a) ≡ Some (span_of v q) → u ≡ v
-value_is e = ap (λ (s : Span). s.value) (same_Some _ _ e)
+value_is e = ap (λ (s : Span ℕ). s.value) (same_Some _ _ e)
 
 hex-below : (n m u : ℕ) (text : List ℕ) (at v q : ℕ) → u < 16 ^ m → hex_from n text at u ≡ Some (span_of v q) → v < 16 ^ (m + n)
 unfolding hex_from
@@ -39,19 +39,19 @@ decimal-below (suc n) m u text at l = go (leb 10 (digit_of (byte_at text at))) r
     go true t ih = let o : 0 < 10 = omega arith in let p : 10 ^ m ≤ 10 ^ (m + suc n) = pow-le-pow_right o (omega arith) in omega arith
     go false t ih = let p : m + 1 + n ≡ m + suc n = omega arith in subst (λ (k : ℕ). (decimal_from n text (at + 1) (u * 10 + digit_of (byte_at text at))).value < 10 ^ k) p (ih (leb-false 10 (digit_of (byte_at text at)) t))
 
-natural-below : (text : List ℕ) (at : ℕ) (s : Span) → natural_at text at ≡ Some s → s.value < 10000
+natural-below : (text : List ℕ) (at : ℕ) (s : Span ℕ) → natural_at text at ≡ Some s → s.value < 10000
 unfolding natural_at
 natural-below text at s = go (eqb (byte_at text at) 48) (leb 10 (digit_of (byte_at text at)))
   where
     go : (b c : Bool) → cond b (Some (span_of 0 (at + 1))) (cond c None (Some (decimal_from 4 text at 0))) ≡ Some s → s.value < 10000
-    go true c e = let p : 0 ≡ s.value = ap (λ (t : Span). t.value) (same_Some _ _ e) in omega arith
+    go true c e = let p : 0 ≡ s.value = ap (λ (t : Span ℕ). t.value) (same_Some _ _ e) in omega arith
     go false true e = absurd (none-some s e)
-    go false false e = subst (λ (t : Span). t.value < 10000) (same_Some _ _ e) (decimal-below 4 0 0 text at (omega arith))
+    go false false e = subst (λ (t : Span ℕ). t.value < 10000) (same_Some _ _ e) (decimal-below 4 0 0 text at (omega arith))
 
 abbrev IsWhole : ℕ → Type 0
 IsWhole v = (1 ≤ v) × (v ≤ 19999)
 
-negative-whole : (n : Option Span) (v q : ℕ) → ((s : Span) → n ≡ Some s → s.value < 10000) → negative n ≡ Some (span_of v q) → IsWhole v
+negative-whole : (n : Option (Span ℕ)) (v q : ℕ) → ((s : Span ℕ) → n ≡ Some s → s.value < 10000) → negative n ≡ Some (span_of v q) → IsWhole v
 negative-whole None v q l e = no_value e
 negative-whole (Some s) v q l e = go (eqb s.value 0) refl e (l s refl)
   where
@@ -59,7 +59,7 @@ negative-whole (Some s) v q l e = go (eqb s.value 0) refl e (l s refl)
     go true t e below = no_value e
     go false t e below = let z = eqb-false s.value 0 t in let p : 10000 - s.value ≡ v = value_is e in (omega arith, omega arith)
 
-positive-whole : (n : Option Span) (v q : ℕ) → ((s : Span) → n ≡ Some s → s.value < 10000) → positive n ≡ Some (span_of v q) → IsWhole v
+positive-whole : (n : Option (Span ℕ)) (v q : ℕ) → ((s : Span ℕ) → n ≡ Some s → s.value < 10000) → positive n ≡ Some (span_of v q) → IsWhole v
 positive-whole None v q l e = no_value e
 positive-whole (Some s) v q l e = let below = l s refl in let p : 10000 + s.value ≡ v = value_is e in (omega arith, omega arith)
 

@@ -17,8 +17,7 @@ use Rattle.reader_lines.specs.Columns.{no_order, all_due, is_due, met_in, ordere
 use Rattle.reader_lines.specs.NamesLine.{by_name, column_at, names_from, head_at}
 use Rattle.reader_lines.specs.declared.columns.Order.{Order}
 use Rattle.reader_lines.specs.declared.columns.Due.{Due}
-use Rattle.reader_lines.specs.declared.names_line.Head.{Head}
-use Rattle.reader_lines.specs.declared.names_line.Named.{Named as Column}
+use Rattle.reader_cells.specs.declared.names.Span.{Span}
 use Rattle.std.specs.Prelude.{Option, Some, None}
 use Rattle.std.proofs.lemmas.Option.{none-some, same_Some}
 use Rattle.reader_print_laws.proofs.Places.{no-good}
@@ -132,7 +131,7 @@ module _ (t : ℕ) (small : t < 16) where
               let n = a.named c m (sym (get_or-set_other due.of d c false false (eqb-false c d g)) ∙ f) in
               record { word = n.word; below = omega (arith, n.below); is = get_or-set_other order.of i n.word d 0 (λ z. omega (arith, n.below)) ∙ n.is }
 
-  names-full : (n : ℕ) (text : List ℕ) (at i : ℕ) (due : Due) (order : Order) → n + i ≡ word_count t → Naming i due order → (h : Head) → names_from n text at t i due order ≡ Some h → Full t h.order
+  names-full : (n : ℕ) (text : List ℕ) (at i : ℕ) (due : Due) (order : Order) → n + i ≡ word_count t → Naming i due order → (h : Span Order) → names_from n text at t i due order ≡ Some h → Full t h.value
   unfolding names_from
   names-full zero text at i due order c a h = go (eqb (byte_at text at) 10)
     where
@@ -141,22 +140,22 @@ module _ (t : ℕ) (small : t < 16) where
           let z : i ≡ word_count t = omega arith in
           record { columns = λ j l. a.columns j (omega arith); named = λ d l. subst (λ (m : ℕ). Named order m d) z (a.named d l (none_left due.of d (omega (arith, a.left)))) }
 
-      go : (b : Bool) → cond b (Some (let h : Head = record { next = at + 1; order = order } in h)) None ≡ Some h → Full t h.order
-      go true e = subst (Full t) (ap (λ (x : Head). x.order) (same_Some _ _ e)) full
+      go : (b : Bool) → cond b (Some (let h : Span Order = record { value = order; next = at + 1 } in h)) None ≡ Some h → Full t h.value
+      go true e = subst (Full t) (ap (λ (x : Span Order). x.value) (same_Some _ _ e)) full
       go false e = absurd (none-some h e)
   names-full (suc n) text at i due order c a h =
       go (column_at text at t) (λ column next e. names-full n text next (i + 1) (met_in due column) (ordered_by order i column) (omega arith) (naming-next i due order column (omega arith) e a) h)
     where
-      by : (b : Bool) {x : Option Head} → (b ≡ true → x ≡ Some h → Full t h.order) → cond b x None ≡ Some h → Full t h.order
+      by : (b : Bool) {x : Option (Span Order)} → (b ≡ true → x ≡ Some h → Full t h.value) → cond b x None ≡ Some h → Full t h.value
       by true f e = f refl e
       by false f e = absurd (none-some h e)
 
-      go : (w : Option Column)
-          → ((column next : ℕ) → is_due due column ≡ true → names_from n text next t (i + 1) (met_in due column) (ordered_by order i column) ≡ Some h → Full t h.order)
-          → by_name w (λ column next. cond (is_due due column) (names_from n text next t (i + 1) (met_in due column) (ordered_by order i column)) None) ≡ Some h → Full t h.order
-      go (Some w) f e = by (is_due due w.column) (f w.column w.next) e
+      go : (w : Option (Span ℕ))
+          → ((column next : ℕ) → is_due due column ≡ true → names_from n text next t (i + 1) (met_in due column) (ordered_by order i column) ≡ Some h → Full t h.value)
+          → by_name w (λ column next. cond (is_due due column) (names_from n text next t (i + 1) (met_in due column) (ordered_by order i column)) None) ≡ Some h → Full t h.value
+      go (Some w) f e = by (is_due due w.value) (f w.value w.next) e
       go None f e = absurd (none-some h e)
 
-  pub head-full : (text : List ℕ) (at : ℕ) (h : Head) → head_at text at t ≡ Some h → Full t h.order
+  pub head-full : (text : List ℕ) (at : ℕ) (h : Span Order) → head_at text at t ≡ Some h → Full t h.value
   unfolding head_at
   head-full text at = names-full (word_count t) text at 0 (all_due (word_count t)) no_order (omega arith) naming-start

@@ -19,8 +19,6 @@ use Rattle.reader_lines.specs.NamesLine.{head_at}
 use Rattle.reader_lines.specs.ValuesLine.{by_cell, stop_of, values_read, values_at}
 use Rattle.reader_lines.specs.declared.columns.Order.{Order}
 use Rattle.reader_lines.specs.declared.columns.Cells.{Cells}
-use Rattle.reader_lines.specs.declared.names_line.Head.{Head}
-use Rattle.reader_lines.specs.declared.values_line.Values.{Values}
 use Rattle.reader_laws.specs.Lines.{Lines, lines, broken, after, by_row, by_names, by_lines, lines_at, table_lines, tables_lines, lines_of}
 use Rattle.reader_print_laws.specs.PrintReads.{LineFits, TextWithin}
 use Rattle.reader_text_laws.proofs.Listed.{no_cells_lem, rows-listed}
@@ -75,26 +73,26 @@ module _ (t : ℕ) (small : t < 16) where
           rest = a.rest;
         }
 
-    row_from : (n : ℕ) (text : List ℕ) (at i : ℕ) (acc : Cells) → n + i ≡ word_count t → Kept i acc → (r : Values) → values_read n text at t order i acc ≡ Some r → LineSized t r.cells
+    row_from : (n : ℕ) (text : List ℕ) (at i : ℕ) (acc : Cells) → n + i ≡ word_count t → Kept i acc → (r : Span Cells) → values_read n text at t order i acc ≡ Some r → LineSized t r.value
     unfolding values_read
     row_from zero text at i acc c a r e =
         let z : i ≡ word_count t = omega arith in
-        subst (LineSized t) (ap (λ (x : Values). x.cells) (same_Some _ _ e)) (kept-all acc (subst (λ (m : ℕ). Kept m acc) z a))
+        subst (LineSized t) (ap (λ (x : Span Cells). x.value) (same_Some _ _ e)) (kept-all acc (subst (λ (m : ℕ). Kept m acc) z a))
     row_from (suc n) text at i acc c a r e =
         go (cell_at text at (column_kind t (ordered_column order i))) refl
         (λ v q e. row_from n text (q + 1) (i + 1) (valued_by acc (ordered_column order i) v) (omega arith) (kept_next i acc v (omega arith) (cell-sized text at (column_kind t (ordered_column order i)) v q e) a) r) e
       where
-        by : (b : Bool) {x : Option Values} → (x ≡ Some r → LineSized t r.cells) → cond b x None ≡ Some r → LineSized t r.cells
+        by : (b : Bool) {x : Option (Span Cells)} → (x ≡ Some r → LineSized t r.value) → cond b x None ≡ Some r → LineSized t r.value
         by true f g = f g
         by false f g = absurd (none-some r g)
 
-        go : (x : Option Span) → cell_at text at (column_kind t (ordered_column order i)) ≡ x
-            → ((v q : ℕ) → cell_at text at (column_kind t (ordered_column order i)) ≡ Some (span_of v q) → values_read n text (q + 1) t order (i + 1) (valued_by acc (ordered_column order i) v) ≡ Some r → LineSized t r.cells)
-            → by_cell x (λ v q. cond (eqb (byte_at text q) (stop_of n)) (values_read n text (q + 1) t order (i + 1) (valued_by acc (ordered_column order i) v)) None) ≡ Some r → LineSized t r.cells
+        go : (x : Option (Span ℕ)) → cell_at text at (column_kind t (ordered_column order i)) ≡ x
+            → ((v q : ℕ) → cell_at text at (column_kind t (ordered_column order i)) ≡ Some (span_of v q) → values_read n text (q + 1) t order (i + 1) (valued_by acc (ordered_column order i) v) ≡ Some r → LineSized t r.value)
+            → by_cell x (λ v q. cond (eqb (byte_at text q) (stop_of n)) (values_read n text (q + 1) t order (i + 1) (valued_by acc (ordered_column order i) v)) None) ≡ Some r → LineSized t r.value
         go None e f g = absurd (none-some r g)
         go (Some x) e f g = by (eqb (byte_at text x.next) (stop_of n)) (f x.value x.next e) g
 
-    row_sized : (text : List ℕ) (at : ℕ) (r : Values) → values_at text at t order ≡ Some r → LineSized t r.cells
+    row_sized : (text : List ℕ) (at : ℕ) (r : Span Cells) → values_at text at t order ≡ Some r → LineSized t r.value
     unfolding values_at
     row_sized text at = row_from (word_count t) text at 0 no_cells (omega arith) kept-start
 
@@ -125,19 +123,19 @@ module _ (t : ℕ) (small : t < 16) where
         go false = tt
     lines-sized (suc fuel) at = go (eqb (byte_at text at) 10) (values_at text at t order) (row_sized order full text at) (λ next. lines-sized fuel next)
       where
-        go : (a : Bool) (x : Option Values) → ((r : Values) → x ≡ Some r → LineSized t r.cells) → ((next : ℕ) → LinesSized fuel (lines_at fuel t order text next))
+        go : (a : Bool) (x : Option (Span Cells)) → ((r : Span Cells) → x ≡ Some r → LineSized t r.value) → ((next : ℕ) → LinesSized fuel (lines_at fuel t order text next))
             → LinesSized (suc fuel) (cond a (lines [] (at + 1)) (by_row x (λ cells next. after cells (lines_at fuel t order text next))))
         go true x r h = none-sized (suc fuel) (at + 1)
-        go false (Some row) r h = after-sized fuel row.cells (lines_at fuel t order text row.next) (r row refl) (h row.next)
+        go false (Some row) r h = after-sized fuel row.value (lines_at fuel t order text row.next) (r row refl) (h row.next)
         go false None r h = tt
 
   table-sized : (text : List ℕ) (at : ℕ) → LinesSized (limit_of t) (table_lines t text at)
   unfolding table_lines
   table-sized text at =
       go (eqb (name_span text at).value (name_of t)) (head_at text (name_span text at).next t)
-      (λ head e. lines-sized head.order (head-full t small text (name_span text at).next head e) text (limit_of t) head.next)
+      (λ head e. lines-sized head.value (head-full t small text (name_span text at).next head e) text (limit_of t) head.next)
     where
-      go : (a : Bool) (x : Option Head) → ((head : Head) → x ≡ Some head → LinesSized (limit_of t) (lines_at (limit_of t) t head.order text head.next))
+      go : (a : Bool) (x : Option (Span Order)) → ((head : Span Order) → x ≡ Some head → LinesSized (limit_of t) (lines_at (limit_of t) t head.value text head.next))
           → LinesSized (limit_of t) (cond a (by_names x (λ order next. lines_at (limit_of t) t order text next)) (lines [] at))
       go true (Some head) f = f head refl
       go true None f = tt

@@ -18,8 +18,7 @@ use Rattle.reader_lines.specs.Columns.{no_cells}
 use Rattle.reader_lines.specs.NamesLine.{head_at}
 use Rattle.reader_lines.specs.ValuesLine.{values_at}
 use Rattle.std.specs.Prelude.{Option, Some, None}
-use Rattle.reader_lines.specs.declared.names_line.Head.{Head}
-use Rattle.reader_lines.specs.declared.values_line.Values.{Values}
+use Rattle.reader_cells.specs.declared.names.Span.{Span}
 use Rattle.reader_lines.specs.declared.columns.Order.{Order}
 use Rattle.reader_lines.specs.declared.columns.Cells.{Cells}
 use Rattle.reader_store.specs.Layout.{count_place, put_at, count_kept, rule_of, numbers_kept, wants_kept}
@@ -138,17 +137,17 @@ lines-by : (fuel t : ℕ) (order : Order) (text : List ℕ) (at k : ℕ) (progre
 unfolding lines_at lines_from track_after words_after wants_after
 lines-by zero t order text at k progress ws ns vs = go (eqb (byte_at text at) 10) (values_at text at t order)
   where
-    go : (a : Bool) (x : Option Values) → LinesBy t k progress ws vs (cond a (lines [] (at + 1)) broken) (cond a (done (at + 1) k (ended_progress progress) (count_kept t k ws) ns vs) (by_values x (λ cells next. stop 2)))
+    go : (a : Bool) (x : Option (Span Cells)) → LinesBy t k progress ws vs (cond a (lines [] (at + 1)) broken) (cond a (done (at + 1) k (ended_progress progress) (count_kept t k ws) ns vs) (by_values x (λ cells next. stop 2)))
     go true x = (refl, omega arith, refl, refl, refl)
     go false (Some row) = tt
     go false None = tt
 lines-by (suc fuel) t order text at k progress ws ns vs = go (eqb (byte_at text at) 10) (values_at text at t order) (λ cells next. lines-by fuel t order text next (k + 1) (kept_progress t k cells progress ws) (kept_words t k cells progress ws) (numbers_kept t k cells ns) (wants_kept t k cells vs))
   where
-    go : (a : Bool) (x : Option Values)
+    go : (a : Bool) (x : Option (Span Cells))
         → ((cells : Cells) (next : ℕ) → LinesBy t (k + 1) (kept_progress t k cells progress ws) (kept_words t k cells progress ws) (wants_kept t k cells vs) (lines_at fuel t order text next) (lines_from fuel t order text next (k + 1) (kept_progress t k cells progress ws) (kept_words t k cells progress ws) (numbers_kept t k cells ns) (wants_kept t k cells vs)))
         → LinesBy t k progress ws vs (cond a (lines [] (at + 1)) (by_row x (λ cells next. after cells (lines_at fuel t order text next)))) (cond a (done (at + 1) k (ended_progress progress) (count_kept t k ws) ns vs) (by_values x (λ cells next. lines_from fuel t order text next (k + 1) (kept_progress t k cells progress ws) (kept_words t k cells progress ws) (numbers_kept t k cells ns) (wants_kept t k cells vs))))
     go true x ih = (refl, omega arith, refl, refl, refl)
-    go false (Some row) ih = lines_next t k row.cells progress ws vs (lines_at fuel t order text row.next) _ (ih row.cells row.next)
+    go false (Some row) ih = lines_next t k row.value progress ws vs (lines_at fuel t order text row.next) _ (ih row.value row.next)
     go false None ih = tt
 
 module _ (t : ℕ) (small : t < 16) where
@@ -225,9 +224,9 @@ module _ (t : ℕ) (small : t < 16) where
   table-by text at progress ws ns vs =
       go (eqb (name_span text at).value (name_of t)) (head_at text (name_span text at).next t) (λ order next. lines-by (limit_of t) t order text next 0 progress ws ns vs)
     where
-      go : (a : Bool) (x : Option Head) → ((order : Order) (next : ℕ) → LinesBy t 0 progress ws vs (lines_at (limit_of t) t order text next) (lines_from (limit_of t) t order text next 0 progress ws ns vs))
+      go : (a : Bool) (x : Option (Span Order)) → ((order : Order) (next : ℕ) → LinesBy t 0 progress ws vs (lines_at (limit_of t) t order text next) (lines_from (limit_of t) t order text next 0 progress ws ns vs))
           → TableBy progress ws vs (cond a (by_names x (λ order next. lines_at (limit_of t) t order text next)) (lines [] at)) (cond a (by_head x (λ order next. lines_from (limit_of t) t order text next 0 progress ws ns vs)) (done at 0 progress ws ns vs))
-      go true (Some head) ih = there-by progress ws vs (lines_at (limit_of t) t head.order text head.next) _ (ih head.order head.next)
+      go true (Some head) ih = there-by progress ws vs (lines_at (limit_of t) t head.value text head.next) _ (ih head.value head.next)
       go true None ih = tt
       go false x ih =
           let c = counted-strips 0 progress in

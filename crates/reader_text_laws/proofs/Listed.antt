@@ -18,8 +18,6 @@ use Rattle.reader_lines.specs.Columns.{cell_of, no_cells, ordered_column, valued
 use Rattle.reader_lines.specs.NamesLine.{head_at}
 use Rattle.reader_lines.specs.ValuesLine.{by_cell, stop_of, values_read, values_at}
 use Rattle.std.specs.Prelude.{Option, Some, None}
-use Rattle.reader_lines.specs.declared.names_line.Head.{Head}
-use Rattle.reader_lines.specs.declared.values_line.Values.{Values}
 use Rattle.reader_lines.specs.declared.columns.Order.{Order}
 use Rattle.reader_lines.specs.declared.columns.Cells.{Cells}
 use Rattle.reader_laws.specs.Lines.{Lines, lines, broken, after, by_lines, lines_at, table_lines, tables_lines, lines_of, by_row, by_names}
@@ -55,7 +53,7 @@ cell-listed text at kind v q h e = go (ltb (place_of kind (name_span text at).va
     go b f = λ g. by b f (subst (λ (x : Bool). cond x (whole_at text at) (cond b (Some (span_of (place_of kind (name_span text at).value) (name_span text at).next)) None) ≡ Some (span_of v q)) (ne_eqb kind 1 (λ z. omega arith)) g)
       where
         by : (b : Bool) → ltb (place_of kind (name_span text at).value) (word_count kind) ≡ b → cond b (Some (span_of (place_of kind (name_span text at).value) (name_span text at).next)) None ≡ Some (span_of v q) → v < word_count kind
-        by true f g = let z : place_of kind (name_span text at).value ≡ v = ap (λ (s : Span). s.value) (same_Some _ _ g) in subst (λ (n : ℕ). n < word_count kind) z (ltb-true (place_of kind (name_span text at).value) (word_count kind) f)
+        by true f g = let z : place_of kind (name_span text at).value ≡ v = ap (λ (s : Span ℕ). s.value) (same_Some _ _ g) in subst (λ (n : ℕ). n < word_count kind) z (ltb-true (place_of kind (name_span text at).value) (word_count kind) f)
         by false f g = absurd (none-some (span_of v q) g)
 
 set-either : (xs : List ℕ) (d v c : ℕ) (P : ℕ → Type 0) → (c ≡ d → P v) → P (get_or xs c 0) → P (get_or (set xs d v) c 0)
@@ -72,8 +70,8 @@ module _ (t : ℕ) (small : t < 16) where
       subst (λ (n : ℕ). n < word_count (column_kind t c)) (sym (no_cells_lem c)) (ltb-true 0 (word_count (column_kind t c)) b)
 
   -- the cells of a line, if it is one
-  abbrev RowListed : Option Values → Type 0
-  RowListed (Some row) = Listed t row.cells
+  abbrev RowListed : Option (Span Cells) → Type 0
+  RowListed (Some row) = Listed t row.value
   RowListed None = Unit {0}
 
   row_from : (n : ℕ) (text : List ℕ) (at : ℕ) (order : Order) (i : ℕ) (cells : Cells) → Listed t cells → RowListed (values_read n text at t order i cells)
@@ -81,7 +79,7 @@ module _ (t : ℕ) (small : t < 16) where
   row_from zero text at order i cells h = h
   row_from (suc n) text at order i cells h = go (cell_at text at (column_kind t (ordered_column order i))) refl (λ q v. row_from n text (q + 1) order (i + 1) (valued_by cells (ordered_column order i) v))
     where
-      go : (x : Option Span) → cell_at text at (column_kind t (ordered_column order i)) ≡ x
+      go : (x : Option (Span ℕ)) → cell_at text at (column_kind t (ordered_column order i)) ≡ x
           → ((q v : ℕ) → Listed t (valued_by cells (ordered_column order i) v) → RowListed (values_read n text (q + 1) t order (i + 1) (valued_by cells (ordered_column order i) v)))
           → RowListed (by_cell x (λ v q. cond (eqb (byte_at text q) (stop_of n)) (values_read n text (q + 1) t order (i + 1) (valued_by cells (ordered_column order i) v)) None))
       go None e ih = tt
@@ -121,9 +119,9 @@ module _ (t : ℕ) (small : t < 16) where
       go false = tt
   lines-listed (suc fuel) order text at = go (eqb (byte_at text at) 10) (values_at text at t order) (row_listed text at order) (λ next. lines-listed fuel order text next)
     where
-      go : (a : Bool) (x : Option Values) → RowListed x → ((next : ℕ) → LinesListed (lines_at fuel t order text next)) → LinesListed (cond a (lines [] (at + 1)) (by_row x (λ cells next. after cells (lines_at fuel t order text next))))
+      go : (a : Bool) (x : Option (Span Cells)) → RowListed x → ((next : ℕ) → LinesListed (lines_at fuel t order text next)) → LinesListed (cond a (lines [] (at + 1)) (by_row x (λ cells next. after cells (lines_at fuel t order text next))))
       go true x r h = λ k. none-listed
-      go false (Some row) r h = after-listed row.cells (lines_at fuel t order text row.next) r (h row.next)
+      go false (Some row) r h = after-listed row.value (lines_at fuel t order text row.next) r (h row.next)
       go false None r h = tt
 
   table-listed : (text : List ℕ) (at : ℕ) → LinesListed (table_lines t text at)
@@ -131,8 +129,8 @@ module _ (t : ℕ) (small : t < 16) where
   table-listed text at =
       go (eqb (name_span text at).value (name_of t)) (head_at text (name_span text at).next t) (λ order next. lines-listed (limit_of t) order text next)
     where
-      go : (a : Bool) (x : Option Head) → ((order : Order) (next : ℕ) → LinesListed (lines_at (limit_of t) t order text next)) → LinesListed (cond a (by_names x (λ order next. lines_at (limit_of t) t order text next)) (lines [] at))
-      go true (Some head) h = h head.order head.next
+      go : (a : Bool) (x : Option (Span Order)) → ((order : Order) (next : ℕ) → LinesListed (lines_at (limit_of t) t order text next)) → LinesListed (cond a (by_names x (λ order next. lines_at (limit_of t) t order text next)) (lines [] at))
+      go true (Some head) h = h head.value head.next
       go true None h = tt
       go false x h = λ k. none-listed
 

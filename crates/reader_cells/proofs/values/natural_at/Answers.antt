@@ -1,5 +1,5 @@
 use mathlib.Core.Path.{sym, ap, ◌∙◌}
-use Prim.Native.Nat.{◌+◌}
+use Prim.Native.Nat.{ℕ, ◌+◌}
 use native.Mathlib.Omega.{arith}
 use Rattle.std.specs.Prelude.{Some}
 use Rattle.reader_cells.specs.declared.names.Span.{Span}
@@ -23,7 +23,7 @@ loop-n-init c =
 pub returns-then-d-ge10-clause-value : goal.returns-then-d-ge10-clause-value
 returns-then-d-ge10-clause-value c =
     let a = c.args in let at = c.loop-n in
-    sym (at.invariant.2 ∙ ap (λ (s : Span). Some s) (decimal-stop a.text.now a.at at.n at.value c.byte_at.ensures c.digit-d.ensures c.loop-n-test.true c.if-d-ge10.true))
+    sym (at.invariant.2 ∙ ap (λ (s : Span ℕ). Some s) (decimal-stop a.text.now a.at at.n at.value c.byte_at.ensures c.digit-d.ensures c.loop-n-test.true c.if-d-ge10.true))
 
 pub loop-n-preserved : goal.loop-n-preserved
 loop-n-preserved c =
@@ -31,10 +31,10 @@ loop-n-preserved c =
     let h = digit-inside a.text.now (a.at + at.n) c.byte_at.ensures c.digit-d.ensures (omega arith) in (
       more-below 10 at.n at.value _ at.invariant.0 c.if-d-ge10.false,
       omega (arith, h),
-      at.invariant.2 ∙ ap (λ (s : Span). Some s) (decimal-next a.text.now a.at at.n at.value c.byte_at.ensures c.digit-d.ensures c.loop-n-test.true c.if-d-ge10.false),
+      at.invariant.2 ∙ ap (λ (s : Span ℕ). Some s) (decimal-next a.text.now a.at at.n at.value c.byte_at.ensures c.digit-d.ensures c.loop-n-test.true c.if-d-ge10.false),
     )
 
 pub returns-clause-value : goal.returns-clause-value
 returns-clause-value c =
     let a = c.args in let at = c.loop-n in
-    sym (at.invariant.2 ∙ ap (λ (s : Span). Some s) (decimal-whole a.text.now a.at at.n at.value at.auto.n-end c.loop-n-test.false))
+    sym (at.invariant.2 ∙ ap (λ (s : Span ℕ). Some s) (decimal-whole a.text.now a.at at.n at.value at.auto.n-end c.loop-n-test.false))
