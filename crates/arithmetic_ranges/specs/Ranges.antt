@@ -1,7 +1,7 @@
--- Document 01: the tests of a range, "a number not finite", "at least 0", and how a number is kept within its ends. In f64.
+-- Document 01: the tests of a range, "a number not finite", "at least 0", how a number is kept within its ends, and the way between two. In f64.
 use Rattle.std.specs.Prelude.{Bool, ◌&&◌, cond, Float}
 use Rattle.std.specs.Float.Ieee.{le, lt}
-use Rattle.float_laws.specs.Binary64.{f64, zero64, abs_of}
+use Rattle.float_laws.specs.Binary64.{◌⊕◌, ◌⊖◌, ◌⊗◌, f64, zero64, abs_of}
 
 -- "NaN is outside every range": both comparisons have to pass
 abbrev pub in_range : Float → Float → Float → Bool
@@ -30,3 +30,7 @@ not_below_zero w = cond (lt zero64 w) w zero64
 -- "raised to 0 if below it, then lowered" to the most "if above it"; a NaN stays
 abbrev pub clamped : Float → Float → Float
 clamped most x = let up = at_least_zero x in cond (lt most up) most up
+
+-- "linear between neighbours": a + (b - a)×f, as src/road.rs groups it
+abbrev pub blend : Float → Float → Float → Float
+blend a b f = a ⊕ (b ⊖ a) ⊗ f

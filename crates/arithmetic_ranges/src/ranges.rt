@@ -1,7 +1,7 @@
-// Sizes and ranges of numbers; a NaN is outside every range.
+// Sizes and ranges of numbers, a NaN outside every range; the way between two.
 ghost use Rattle.std.specs.Prelude.{◌≡◌};
 ghost use Rattle.float_laws.specs.Binary64.{abs_of};
-ghost use Rattle.arithmetic_ranges.specs.Ranges.{in_range, at_least_zero, not_below_zero, clamped, sized};
+ghost use Rattle.arithmetic_ranges.specs.Ranges.{in_range, at_least_zero, not_below_zero, clamped, sized, blend};
 
 // What lies in -LARGEST..LARGEST is finite.
 pub const LARGEST: f64 = f64::MAX;
@@ -45,4 +45,11 @@ pub fn sized(m: f64, x: f64) -> bool
     ensures { result ≡ sized m x }
 {
     abs(x) <= m
+}
+
+// Straight from a to b, a fraction f of the way.
+pub fn blend(a: f64, b: f64, f: f64) -> f64
+    ensures { result ≡ blend a b f }
+{
+    a + (b - a) * f
 }

@@ -1,5 +1,6 @@
 // Sine, cosine and tangent: the angle less a whole number of quarter turns, a polynomial for each of the two, and the quarter says which is which.
 ghost use Rattle.std.specs.Prelude.{◌≡◌, true, ◌<◌};
+ghost use Rattle.float_laws.specs.Binary64.{◌⊘◌};
 ghost use Rattle.arithmetic_sine.specs.Sine.{in_sine_range, horner, sine_kernel, cosine_kernel, sin_cos_by, sin_cos_of, tan_of};
 
 use crate::floors::below;
@@ -19,6 +20,15 @@ const Q: f64 = 6.077100506506192e-11;
 pub struct SinCos {
     pub sin: f64,
     pub cos: f64,
+}
+
+impl SinCos {
+    // The tangent of the angle whose pair this is.
+    pub fn tan(self) -> f64
+        ensures { result ≡ self.sin ⊘ self.cos }
+    {
+        self.sin / self.cos
+    }
 }
 
 // By Horner: the first coefficient, and those that follow it.
@@ -92,6 +102,5 @@ pub fn sin_cos(h: f64) -> SinCos
 pub fn tan(h: f64) -> f64
     ensures { result ≡ tan_of h }
 {
-    let pair = sin_cos(h);
-    pair.sin / pair.cos
+    sin_cos(h).tan()
 }

@@ -3,16 +3,12 @@ use Rattle.std.specs.Prelude.{ℕ, ◌+◌, Bool, true, false, ◌&&◌, ◌||�
 use Rattle.std.specs.Float.Ieee.{lt}
 use Rattle.float_laws.specs.Binary64.{◌⊕◌, ◌⊖◌, ◌⊗◌, ◌⊘◌, f64, zero64, abs_of}
 use Rattle.records_cubic.specs.declared.cubics.Cubic.{Cubic}
-use Rattle.arithmetic_ranges.specs.Ranges.{not_below_zero}
+use Rattle.arithmetic_ranges.specs.Ranges.{not_below_zero, blend}
 use Rattle.records.specs.declared.points.HeightDef.{HeightDef}
 use Rattle.records_cubic.specs.Cubics.{cubic_at, eval_at}
 use Rattle.records.specs.Active.{active_in, value_in, last_start, active_up_to}
 use Rattle.records.specs.Roads.{Road, Strip, StripDef, absent, present, profile_at, strip_at, height_def_at, column_by}
 use Rattle.lanes.specs.declared.pairs.Pair.{Pair}
-
--- a + (b - a)×f
-abbrev pub blend : Float → Float → Float → Float
-blend a b f = a ⊕ (b ⊖ a) ⊗ f
 
 -- ---- profiles
 

@@ -2,8 +2,7 @@
 use Rattle.std.specs.Prelude.{cond, Float}
 use Rattle.std.specs.Float.Ieee.{eq}
 use Rattle.float_laws.specs.Binary64.{◌⊖◌, ◌⊘◌, f64, zero64}
-use Rattle.arithmetic_ranges.specs.Ranges.{clamped}
-use Rattle.lanes.specs.Lateral.{blend}
+use Rattle.arithmetic_ranges.specs.Ranges.{clamped, blend}
 use Rattle.lanes_heights.specs.declared.across.Across.{Across}
 
 -- "the fraction across a lane of width 0, or one that comes out as 0/0 because the outer rounds to the inner, is 0": 0 wherever outer less inner is 0, so at a t beyond such a lane too

@@ -19,7 +19,7 @@ use Rattle.float_laws.proofs.Whole.{Whole, not-zero}
 use Rattle.float_laws.proofs.Interpolate.{interpolate-within}
 use Rattle.arithmetic_sine.specs.Sine.{one}
 use Rattle.admission_laws.proofs.Fitting.{Fits64}
-use Rattle.lanes.specs.Lateral.{blend}
+use Rattle.arithmetic_ranges.specs.Ranges.{blend}
 use Rattle.lanes_laws.proofs.Fractions.{Fraction}
 use Rattle.lanes_heights.specs.declared.across.Across.{Across}
 use Rattle.lanes_heights.specs.HeightAcross.{fraction_at, kept, height_across, height_within}

@@ -19,10 +19,10 @@ use Rattle.records_cubic.specs.Cubics.{cubic_at, eval_at}
 use Rattle.records.specs.Active.{active_in, value_in, last_start, active_up_to}
 use Rattle.records.specs.Roads.{Road, StripDef, present, profile_at, strip_at, height_def_at}
 use Rattle.lanes.specs.declared.pairs.Pair.{Pair}
-use Rattle.arithmetic_ranges.specs.Ranges.{largest}
+use Rattle.arithmetic_ranges.specs.Ranges.{largest, blend}
 use Rattle.admission.specs.Limits.{greatest_lane_height, greatest_shift, greatest_shape, farthest_across, greatest_strip_height}
 use Rattle.admission_arguments.specs.Arguments.{half_width}
-use Rattle.lanes.specs.Lateral.{blend, shape_by, profile_height, shape_between, shape_from, shape_of, height_between, height_held, no_heights, height_from, height_of, cross_height, height_toward}
+use Rattle.lanes.specs.Lateral.{shape_by, profile_height, shape_between, shape_from, shape_of, height_between, height_held, no_heights, height_from, height_of, cross_height, height_toward}
 use Rattle.lanes_laws.proofs.StationBounds.{Stations, Wider, starts-far, starts-any, far, between, along, along-within}
 use Rattle.lanes_laws.proofs.StripBounds.{StripWithin, cross-within}
 

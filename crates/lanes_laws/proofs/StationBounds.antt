@@ -21,8 +21,7 @@ use Rattle.std.specs.declared.option.Option.TheVariants.{Some, None}
 use Rattle.records.specs.Active.{active_margin, last_start, active_up_to}
 use Rattle.records.proofs.ScanLaws.{last_start-below, last_start-reached, last_start-after}
 use Rattle.admission_order.specs.Order.{least_gap}
-use Rattle.arithmetic_ranges.specs.Ranges.{largest}
-use Rattle.lanes.specs.Lateral.{blend}
+use Rattle.arithmetic_ranges.specs.Ranges.{largest, blend}
 use Rattle.lanes_laws.proofs.Fractions.{Fraction, Margin, fraction}
 
 -- ---- the constants: 1e-9 before a station it counts (`active_margin`), 1.1e-9 has room for a rounding, stations are at most 16,384 from 0
