@@ -4,6 +4,7 @@
 use mathlib.Core.List.{List, [], ◌∷◌}
 use Prim.Native.Nat.{ℕ, zero, suc}
 use mathlib.Core.Bool.{Bool, true, false, not, ◌&&◌, cond}
+use mathlib.Core.Logic.{◌⊎◌, inl, inr}
 use lib.IntN.{negsuc}
 use lib.Dec.{T}
 use native.Mathlib.Omega.{arith}
@@ -322,3 +323,69 @@ bisected f (suc n) a b Γ e lo hi x ρ l h t i p =
         let r = good-real f m (and_l (good f m) (bisect f n a m Γ e lo hi && bisect f n m b Γ e lo hi) t) in
         let w = and_r (good f m) (bisect f n a m Γ e lo hi && bisect f n m b Γ e lo hi) t in
         half r (and_l (bisect f n a m Γ e lo hi) (bisect f n m b Γ e lo hi) w) (and_r (bisect f n a m Γ e lo hi) (bisect f n m b Γ e lo hi) w) k1 k2 (le x m) (λ (z : T (le x m)). z) (nle→le f x m i.value r)
+
+-- ---- several variables: the box Γ is cut at the variables of the list, one after another, wherever the test fails on the whole
+
+-- a box, left whole or cut in two
+pub data Cut : Type 0 where
+  uncut : Cut
+  cut : List Iv → List Iv → Cut
+
+-- the box, cut in the middle of its variable n
+unfoldable pub halves : Format → List Iv → ℕ → Cut
+unfolding middle
+halves f [] n = uncut
+halves f (bad ∷ Γ) zero = uncut
+halves f (iv a b ∷ Γ) zero = let m = middle f a b in cond (good f m) (cut (iv a m ∷ Γ) (iv m b ∷ Γ)) uncut
+halves f (v ∷ Γ) (suc n) = elim (halves f Γ n) [ uncut ↦ uncut | cut Δ Θ ↦ cut (v ∷ Δ) (v ∷ Θ) ]
+
+-- the variables lie in one of the two halves
+abbrev pub Half : Format → Cut → List Float → Type 0
+Half f uncut ρ = Unit {0}
+Half f (cut Δ Θ) ρ = Inside f Δ ρ ⊎ Inside f Θ ρ
+
+-- variables that lie in a box lie in one of its halves
+pub in-half : (f : Format) (Γ : List Iv) (n : ℕ) (ρ : List Float) → Inside f Γ ρ → Half f (halves f Γ n) ρ
+unfolding halves
+in-half f [] n ρ h = tt
+in-half f (bad ∷ Γ) zero ρ h = tt
+in-half f (iv a b ∷ Γ) zero [] h = absurd h
+in-half f (iv a b ∷ Γ) zero (x ∷ ρ) h = go (good f (middle f a b)) (good-real f (middle f a b)) (le x (middle f a b)) (λ (t : T (le x (middle f a b))). t) (λ r. nle→le f x (middle f a b) h.0.value r)
+  where
+    m : Float
+    m = middle f a b
+
+    go : (g : Bool) → (T g → Real f m) → (c : Bool) → (T c → T (le x m)) → (Real f m → T (not c) → T (le m x)) → Half f (cond g (cut (iv a m ∷ Γ) (iv m b ∷ Γ)) uncut) (x ∷ ρ)
+    go false r c u v = tt
+    go true r true u v = inl (record { low = h.0.low; high = r tt; value = h.0.value; above = h.0.above; below = u tt }, h.1)
+    go true r false u v = inr (record { low = r tt; high = h.0.high; value = h.0.value; above = v (r tt) tt; below = h.0.below }, h.1)
+in-half f (v ∷ Γ) (suc n) [] h = absurd h
+in-half f (v ∷ Γ) (suc n) (x ∷ ρ) h = go (halves f Γ n) (in-half f Γ n ρ h.1)
+  where
+    go : (k : Cut) → Half f k ρ → Half f (elim k as (λ _. Cut) [ uncut ↦ uncut | cut Δ Θ ↦ cut (v ∷ Δ) (v ∷ Θ) ]) (x ∷ ρ)
+    go uncut p = tt
+    go (cut Δ Θ) (inl p) = inl (h.0, p)
+    go (cut Δ Θ) (inr p) = inr (h.0, p)
+
+-- the test on the box, then on its halves as far as the list of variables goes
+unfoldable pub sweep : Format → List ℕ → List Iv → Ex → Float → Float → Bool
+unfolding check halves
+sweep f [] Γ e lo hi = check f Γ e lo hi
+sweep f (n ∷ ns) Γ e lo hi =
+    elim (check f Γ e lo hi) [
+      | true ↦ true
+      | false ↦ elim (halves f Γ n) [ uncut ↦ false | cut Δ Θ ↦ sweep f ns Δ e lo hi && sweep f ns Θ e lo hi ]
+    ]
+
+-- what a sweep that computes to true proves
+pub swept : (f : Format) (ns : List ℕ) (Γ : List Iv) (ρ : List Float) (e : Ex) (lo hi : Float) → Real f lo → Real f hi → T (sweep f ns Γ e lo hi) → Inside f Γ ρ → In f lo hi (eval f ρ e)
+unfolding sweep
+swept f [] Γ ρ e lo hi l h t p = checked f Γ ρ e lo hi l h t p
+swept f (n ∷ ns) Γ ρ e lo hi l h t p = go (check f Γ e lo hi) (λ (u : T (check f Γ e lo hi)). u) (halves f Γ n) (in-half f Γ n ρ p) t (λ Δ. swept f ns Δ ρ e lo hi l h)
+  where
+    go : (c : Bool) → (T c → T (check f Γ e lo hi)) → (k : Cut) → Half f k ρ → T (elim c as (λ _. Bool) [ true ↦ true | false ↦ elim k as (λ _. Bool) [ uncut ↦ false | cut Δ Θ ↦ sweep f ns Δ e lo hi && sweep f ns Θ e lo hi ] ])
+        → ((Δ : List Iv) → T (sweep f ns Δ e lo hi) → Inside f Δ ρ → In f lo hi (eval f ρ e)) → In f lo hi (eval f ρ e)
+    go true u k q t r = checked f Γ ρ e lo hi l h (u tt) p
+    go false u uncut q t r = absurd t
+    go false u (cut Δ Θ) (inl q) t r = r Δ (and_l (sweep f ns Δ e lo hi) (sweep f ns Θ e lo hi) t) q
+    go false u (cut Δ Θ) (inr q) t r = r Θ (and_r (sweep f ns Δ e lo hi) (sweep f ns Θ e lo hi) t) q

@@ -49,6 +49,15 @@ mul_mono f x x' y r r' q z h t u =
     is_le f (mul f x y) (mul f x' y) _ _ (2 ^ low f) _ _ (2 ^ low f) (pow_pos (low f)) (pow_pos (low f)) (mul-Is f x y r q) (mul-Is f x' y r' q) t u
     (scaled-up (pl f x) (mi f x) (pl f x') (mi f x') (pl f y) (mi f y) (2 ^ low f) z (le→units f x x' r r' h))
 
+-- a factor that is not above zero turns the order
+scaled-down : (a b a' b' c d L : ℕ) → c ≡ 0 → a + b' ≤ a' + b → (a' * c + b' * d) * L + (a * d + b * c) * L ≤ (a * c + b * d) * L + (a' * d + b' * c) * L
+scaled-down a b a' b' c d L z h = subst (λ (w : ℕ). (a' * w + b' * d) * L + (a * d + b * w) * L ≤ (a * w + b * d) * L + (a' * d + b' * w) * L) (sym z) (let k : (a + b') * (d * L) ≤ (a' + b) * (d * L) = mul-le-mul_right (d * L) h in omega arith)
+
+pub mul-anti : (f : Format) (x x' y : Float) → Real f x → Real f x' → Real f y → pl f y ≡ 0 → T (le x x') → T (finite (mul f x y)) → T (finite (mul f x' y)) → T (le (mul f x' y) (mul f x y))
+mul-anti f x x' y r r' q z h t u =
+    is_le f (mul f x' y) (mul f x y) _ _ (2 ^ low f) _ _ (2 ^ low f) (pow_pos (low f)) (pow_pos (low f)) (mul-Is f x' y r' q) (mul-Is f x y r q) u t
+    (scaled-down (pl f x) (mi f x) (pl f x') (mi f x') (pl f y) (mi f y) (2 ^ low f) z (le→units f x x' r r' h))
+
 -- by a divisor above zero
 pub div_mono : (f : Format) (x x' y : Float) → Real f x → Real f x' → Real f y → 0 < pl f y → T (le x x') → T (finite (div f x y)) → T (finite (div f x' y)) → T (le (div f x y) (div f x' y))
 div_mono f x x' y r r' q z h t u =

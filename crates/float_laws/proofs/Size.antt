@@ -391,6 +391,15 @@ size-within f x h t = go (lt x nil) (lt→units f x nil r (nil-real f)) (nlt→u
           | inr z ↦ record { value = r; bound = r; plus = z; le = omega arith }
         ]
 
+-- the size as computed keeps to a bound of its value: |x| ≤ A
+pub size-keeps : (f : Format) (x A : Float) → Within f x A → Within f (size x) A
+unfolding size
+size-keeps f x A w = go (lt x nil)
+  where
+    go : (b : Bool) → Within f (cond b (neg x) x) A
+    go true = neg-within f x A w
+    go false = w
+
 -- ---- what a program has tested, -R ≤ s ≤ R, as a size
 pub reach-within : (f : Format) (s R : Float) → T (fits f s) → T (fits f R) → T (le (neg R) s) → T (le s R) → T (finite R) → Within f s R
 reach-within f s R hs h_r lo hi t =

@@ -253,6 +253,19 @@ squares3-norm f e he x y z rx ry rz hx hy hz long =
     let c = three-close f e he (mag f x * mag f x + mag f y * mag f y + mag f z * mag f z) long x y z rx ry rz hx hy hz (le_refl (mag f x * mag f x + mag f y * mag f y + mag f z * mag f z)) in
     (record { value = c.0; plus = c.1; close = parts-of f 1 (omega arith) c.3 }, c.2)
 
+-- a vector with a component of at least 2 ^ -e: the sum of squares is at least 2 ^ -(2 * e + 1)
+pub norm-least : (f : Format) (s : Float) (G e : ℕ) → Norm f s G → 2 ^ low f * 2 ^ low f ≤ G * 2 ^ (e + e) → 2 ^ low f ≤ pl f s * 2 ^ suc (e + e)
+norm-least f s G e n h =
+    let L = 2 ^ low f in
+    let E = 2 ^ (e + e) in
+    let b = n.close.below in
+    let g : G ≤ 2 * (pl f s * L) = omega arith in
+    let k : G * E ≤ 2 * (pl f s * L) * E = mul-le-mul_right E g in
+    le_of_mul-le-mul_right (last L (pl f s) E (2 ^ suc (e + e)) (pow-suc 2 (e + e)) (le_trans h k)) (pow_pos (low f))
+  where
+    last : (L S E F : ℕ) → F ≡ E * 2 → L * L ≤ 2 * (S * L) * E → L * L ≤ S * F * L
+    last L S E F e h = subst (λ (n : ℕ). L * L ≤ S * n * L) (sym e) (omega arith)
+
 rooted : (Q S L G : ℕ) → Close (2 ^ 20) (S * L) G 1 G → Q * Q * 2 ^ 20 ≤ S * L * (2 ^ 20 + 1) → S * L * 2 ^ 20 ≤ Q * Q * (2 ^ 20 + 1) → Close (2 ^ 20) G (Q * Q) 6 (Q * Q) × (G ≤ 2 * (Q * Q))
 rooted Q S L G c h k = let a = c.above in let b = c.below in (record { above = omega arith; below = omega arith }, omega arith)
 

@@ -16,13 +16,13 @@
 //   Close        `Close K A B k S`: naturals that agree but for k parts in K of a scale S; sums, products and chains of such
 //   Interpolate  a + (b - a) * t stays within its ends, but for three roundings
 //   UnitVector   a vector over the root of its sum of squares, in the plane and in space: finite, and of length 1 but for 1/1000
-//   Checker      `Ex`: straight-line code as data; `check` and `bisect` compute a bound on its value and so prove it
+//   Checker      `Ex`: straight-line code as data; `check`, `bisect` and `sweep` compute a bound on its value and so prove it
 //   Nearest      a quotient to the nearest whole number, by the tests of code on integers
 //   Pattern      the bit pattern of a rounded fraction
 //
 // Which to take:
 //   a bound that the program computes from sizes and tests                     Size (`Within`; `nn` and `fin-of_le` show that it is finite)
-//   constant bounds on straight-line code                                      Checker; too wide: cut by `bisect`
+//   constant bounds on straight-line code                                      Checker; too wide: cut by `bisect`, in several variables by `sweep`
 //   two quantities that go together, which no interval shows                   Error (`Near`, `mul-const`), joined by `omega`
 //   an error against the exact value over several steps                        Relative for each step, Close to carry them
 //   a comparison of two results                                                Order, or `is_le` of Exact
