@@ -5,29 +5,33 @@ use mathlib.Core.Path.{◌≡◌, refl, sym, ap, ◌∙◌, subst}
 use Prim.Native.Nat.{ℕ, zero, suc, ◌+◌, ◌-◌, ◌*◌, ◌^◌, ◌≤◌, ◌<◌}
 use native.Mathlib.Nat.{le_trans, le_of_eq, lt_of_le_of_lt, not-suc-le-zero, le_of_suc-le-suc}
 use native.Mathlib.Omega.{arith}
-use mathlib.Core.Bool.{Bool, true, false, cond}
+use mathlib.Core.Bool.{Bool, true, false, not, cond}
 use mathlib.Core.List.{List, ◌∷◌}
 use lib.ListN.{get_or}
-use lib.Dec.{T, lit<, lit≤}
+use lib.Dec.{T, T_not, lit<, lit≤}
 use lib.Pow.{pow_pos}
-use lib.Ieee.{Float, Format, prec, binary64, of_bits, lt, add, sub}
-use Rattle.float_laws.specs.Binary64.{◌⊕◌, zero64}
+use lib.Ieee.{Float, Format, prec, binary64, of_bits, fits, le, lt, add, sub}
+use lib.Ieee.Scale.{finite}
+use Rattle.std.proofs.lemmas.Float.{le_trans as float_trans}
+use Rattle.float_laws.specs.Binary64.{◌⊕◌, ◌⊖◌, zero64}
 use Rattle.float_laws.proofs.Units.{rnd, rnd-err, rnd-le, rnd-pow, rnd-zero}
-use Rattle.float_laws.proofs.Value.{Real, pl, mi, lt→units, units→lt}
+use Rattle.float_laws.proofs.Value.{Real, pl, mi, nle→le, units→le, lt→units, nlt→units, units→lt}
 use Rattle.float_laws.proofs.Operation.{add-Is, sub-Is}
 use Rattle.float_laws.proofs.Interval.{le→parts}
 use Rattle.float_laws.proofs.Size.{Within}
+use Rattle.float_laws.proofs.Order.{sub-mono}
+use Rattle.float_laws.proofs.Checker.{good-real}
 use Rattle.arithmetic_sine.specs.Sine.{one}
 use Rattle.records.specs.declared.points.GeomRec.{GeomRec}
 use Rattle.records.specs.declared.points.GeomShape.TheVariants.{Spiral}
 use Rattle.line_samples.specs.declared.points.Sample.{Sample}
 use Rattle.line_samples.specs.Samples.{end_margin, goes_on, whole_step, step_at, steps_from, most_steps, spiral_steps, first_sample, next_sample, later_samples, geom_samples}
 use Rattle.line_samples.proofs.SpiralLaws.{samples-are, samples-next}
-use Rattle.admission_laws.proofs.Constants.{const-at_least}
+use Rattle.admission_laws.proofs.Constants.{const-at_least, const-real}
 use Rattle.admission_laws.proofs.RoadBounds.{GeomWithin}
 use Rattle.admission_laws.proofs.Powers.{Plus, sub-plus}
 use Rattle.admission.specs.Limits.{greatest_geom_length}
-use Rattle.admission_laws.proofs.SampleBounds.{quarter-plus, not_below_zero_lem, length-plus, nano-below, sample-end, SampleWithin, sample-within}
+use Rattle.admission_laws.proofs.SampleBounds.{quarter-plus, nano-plus, not_below_zero_lem, length-plus, nano-below, sample-end, five-hundred, SampleWithin, sample-within}
 
 -- ---- one step, in any format: what is left is at least 2 ^ s units, and the distance changes by it
 gap : (u r n l v S E : ℕ) → u < r → r * 1 * 2 ≤ n * 2 + E * 1 → n ≡ l - v → v ≤ l → E + 2 * S ≤ 2 * v → u + S ≤ l
@@ -97,7 +101,7 @@ end-small = lit< tt
 under : (a b c d : ℕ) → a ≤ b → b + c < d → a + c < d
 under a b c d h k = omega arith
 
--- ---- where a step is made the test of going on has passed
+-- ---- where a step is made the test of going on has passed, and after the last it has not
 module _ (g : GeomRec) (k0 k1 : Float) where
   goes : (m : ℕ) (more : Bool) (p : Sample) (i : ℕ) (d : Sample) → more ≡ goes_on g.length p.distance → i < steps_from m more g.length p.distance
       → T (goes_on g.length (get_or (p ∷ later_samples g k0 k1 (steps_from m more g.length p.distance) p) i d).distance)
@@ -107,9 +111,34 @@ module _ (g : GeomRec) (k0 k1 : Float) where
   goes (suc m) true p zero d e h = subst T e tt
   goes (suc m) true p (suc i) d e h = let q = next_sample g k0 k1 p in goes m (goes_on g.length q.distance) q i d refl (le_of_suc-le-suc h)
 
+  ends : (m : ℕ) (more : Bool) (p : Sample) (d : Sample) → more ≡ goes_on g.length p.distance → steps_from m more g.length p.distance < m
+      → T (not (goes_on g.length (get_or (p ∷ later_samples g k0 k1 (steps_from m more g.length p.distance) p) (steps_from m more g.length p.distance) d).distance))
+  unfolding steps_from later_samples next_sample
+  ends zero more p d e h = absurd (not-suc-le-zero h)
+  ends (suc m) false p d e h = subst (λ (b : Bool). T (not b)) e tt
+  ends (suc m) true p d e h = let q = next_sample g k0 k1 p in ends m (goes_on g.length q.distance) q d refl (le_of_suc-le-suc h)
+
   pub goes_at : (i : ℕ) (d : Sample) → g.shape ≡ Spiral k0 k1 → i < spiral_steps g.length → T (goes_on g.length (get_or (geom_samples g) i d).distance)
   unfolding spiral_steps
   goes_at i d e h = subst (λ (ps : List Sample). T (goes_on g.length (get_or ps i d).distance)) (sym (samples-are g e)) (goes most_steps (goes_on g.length zero64) (first_sample g) i d refl h)
+
+  -- a spiral of fewer steps than the most ends at its last sample: from there it goes on no further
+  pub ends_at : (d : Sample) → g.shape ≡ Spiral k0 k1 → spiral_steps g.length < most_steps → T (not (goes_on g.length (get_or (geom_samples g) (spiral_steps g.length) d).distance))
+  unfolding spiral_steps
+  ends_at d e h = subst (λ (ps : List Sample). T (not (goes_on g.length (get_or ps (spiral_steps g.length) d).distance))) (sym (samples-are g e)) (ends most_steps (goes_on g.length zero64) (first_sample g) d refl h)
+
+-- ---- 500 less the margin at the end: finite, a value of the format, and above the last distance
+pub less-finite : T (finite (five-hundred ⊖ end_margin))
+unfolding of_bits sub
+less-finite = tt
+
+pub less-real : Real binary64 (five-hundred ⊖ end_margin)
+unfolding of_bits sub fits
+less-real = good-real binary64 (five-hundred ⊖ end_margin) tt
+
+pub less-order : T (not (le (five-hundred ⊖ end_margin) sample-end))
+unfolding of_bits sub le
+less-order = tt
 
 module _ (g : GeomRec) (k0 k1 : Float)
     (own : GeomWithin g) (w0 : Within binary64 k0 one) (w1 : Within binary64 k1 one)
@@ -132,3 +161,33 @@ module _ (g : GeomRec) (k0 k1 : Float)
       (lt_of_le_of_lt (le→parts f g.length greatest_geom_length own.length.value own.length.high own.length.below).0 ten-thousand-small)
       (under (pl f u) (pl f sample-end) (2 ^ 1043) (2 ^ 1083) (le→parts f u sample-end a.value a.high a.below).0 end-small) nano-large (lit< tt)
       (goes_at g k0 k1 k d e h) r)
+
+  -- the length is at most 500
+  pub spiral-length : T (le g.length five-hundred)
+  unfolding goes_on
+  spiral-length = go (le g.length five-hundred) (nle→le binary64 g.length five-hundred own.length.value (const-real _ tt))
+    where
+      end : SampleWithin (get_or (geom_samples g) (spiral_steps g.length) d)
+      end = at (spiral_steps g.length) (le_of_eq refl)
+
+      short : Plus binary64 (g.length ⊖ end_margin) (pl binary64 g.length)
+      short = sub-plus binary64 g.length end_margin own.length.value (length-plus g.length own.length) (nano-below g.length own.length)
+
+      over : T (not (lt (get_or (geom_samples g) (spiral_steps g.length) d).distance (g.length ⊖ end_margin)))
+      over = ends_at g k0 k1 d e (below few)
+        where
+          below : {n : ℕ} → n ≤ 1999 → n < 2001
+          below h = omega arith
+
+      reached : T (le (g.length ⊖ end_margin) sample-end)
+      reached =
+          let u = (get_or (geom_samples g) (spiral_steps g.length) d).distance in
+          let a = end.distance in
+          float_trans (g.length ⊖ end_margin) u sample-end (units→le binary64 (g.length ⊖ end_margin) u short.value a.value (nlt→units binary64 u (g.length ⊖ end_margin) a.value short.value over)) a.below
+
+      go : (b : Bool) → (T (not b) → T (le five-hundred g.length)) → T b
+      go true h = tt
+      go false h =
+          absurd (T_not (le (five-hundred ⊖ end_margin) sample-end) less-order
+          (float_trans (five-hundred ⊖ end_margin) (g.length ⊖ end_margin) sample-end
+          (sub-mono binary64 five-hundred g.length end_margin end_margin (const-real _ tt) own.length.value nano-plus.value nano-plus.value (h tt) (units→le binary64 end_margin end_margin nano-plus.value nano-plus.value (le_of_eq refl)) less-finite short.value.finite) reached))
