@@ -6,8 +6,8 @@ ghost use Rattle.admission_structure.specs.Structure.{marks_ok};
 
 use crate::structure::range_ok;
 use records::layout::{
-    MARK_STRIDE, MARK_WORDS, MOST_MARKS, MOST_MARKS_A_SECTION, SECTION_COUNT_AT,
-    SECTION_MARK_STRIDE, SECTION_MARK_WORDS, SECTION_STRIDE, SECTION_WORDS,
+    LEFT_WORDS, MARK_STRIDE, MARK_WORDS, MOST_MARKS, MOST_MARKS_A_SECTION, RIGHT_WORDS,
+    SECTION_COUNT_AT, SECTION_MARK_STRIDE, SECTION_MARK_WORDS, SECTION_STRIDE,
 };
 use records_lent::word;
 
@@ -26,12 +26,10 @@ fn section_marks_ok(words: &[u16], i: usize) -> bool
     ensures { result ≡ marks_ok words.now i }
 {
     let k = SECTION_MARK_WORDS + i * SECTION_MARK_STRIDE;
-    let first = word(words, k);
-    let count = word(words, k + 1);
-    let section = SECTION_WORDS + i * SECTION_STRIDE;
-    let lanes = word(words, section + 1) + word(words, section + 2);
-    range_ok(0, MOST_MARKS_A_SECTION, MOST_MARKS, first, count)
-        && on_lanes(words, first, count, lanes)
+    let section = i * SECTION_STRIDE;
+    let lanes = word(words, LEFT_WORDS + section) + word(words, RIGHT_WORDS + section);
+    range_ok(words, k, 0, MOST_MARKS_A_SECTION, MOST_MARKS)
+        && on_lanes(words, word(words, k), word(words, k + 1), lanes)
 }
 
 pub(crate) fn marks_ok(words: &[u16]) -> bool

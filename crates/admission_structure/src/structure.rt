@@ -7,21 +7,34 @@ ghost use Rattle.admission_structure.specs.Structure.{range_ok, counts_ok, kinds
 
 use crate::marks::marks_ok;
 use records::layout::{
-    BANK_COUNT_AT, ELEV_COUNT_AT, GEOM_COUNT_AT, KIND_WORDS, LANE_STRIDE, LANE_WORDS, MOST_BANKS,
+    BANK_COUNT_AT, ELEV_COUNT_AT, GEOM_COUNT_AT, KIND_WORDS, LANE_STRIDE, LANE_WORDS, LEFT_WORDS, MOST_BANKS,
     MOST_CUBICS, MOST_CUBICS_A_TERM, MOST_ELEVS, MOST_EXTENTS, MOST_EXTENTS_A_LANE, MOST_GEOMS,
     MOST_HEIGHTS, MOST_HEIGHTS_A_LANE, MOST_LANES, MOST_LANES_A_SIDE, MOST_OFFSETS, MOST_PROFILES,
     MOST_SECTIONS, MOST_SHAPES, MOST_SHAPES_A_PROFILE, MOST_SHIFTS, NUMBERS_NEEDED,
-    OFFSET_COUNT_AT, PROFILE_COUNT_AT, PROFILE_STRIDE, PROFILE_WORDS, SECTION_COUNT_AT,
+    OFFSET_COUNT_AT, PROFILE_COUNT_AT, PROFILE_STRIDE, PROFILE_WORDS, RIGHT_WORDS, SECTION_COUNT_AT,
     SECTION_STRIDE, SECTION_WORDS, STRIP_STRIDE, STRIP_WORDS, TSHIFT_COUNT_AT, WORDS_NEEDED,
 };
 use records_lent::word;
 
-// A range of least to most lines inside a table of limit lines.
-pub(crate) fn range_ok(least: usize, most: usize, limit: usize, first: usize, count: usize) -> bool
-    requires { (first < 65536) × (count < 65536) }
-    ensures { result ≡ range_ok least most limit first count }
+// How many codes are listed: a geometry is line, arc or spiral, an extent is width or border, a level 0 or 1, a strip absent, absolute or relative.
+const GEOM_KINDS: usize = 3;
+
+const EXTENT_KINDS: usize = 2;
+
+const LEVELS: usize = 2;
+
+const STRIP_KINDS: usize = 3;
+
+// Of a strip that is not there.
+const ABSENT: usize = 0;
+
+// The range whose first line and count are the words from k on: least to most lines, inside a table of limit lines.
+pub(crate) fn range_ok(words: &[u16], k: usize, least: usize, most: usize, limit: usize) -> bool
+    requires { k < 4294967296 }
+    ensures { result ≡ range_ok least most limit (get_or words.now k 0) (get_or words.now (k + 1) 0) }
 {
-    (least..=most).contains(&count) & (first + count <= limit)
+    let count = word(words, k + 1);
+    (least..=most).contains(&count) & (word(words, k) + count <= limit)
 }
 
 #[tactic(auto, unfolding(crate::specs::Structure::counts_ok))]
@@ -41,7 +54,7 @@ fn kinds_ok(words: &[u16]) -> bool
     ensures { result ≡ kinds_ok words.now }
 {
     let n = word(words, GEOM_COUNT_AT);
-    (0..n).all(|i| word(words, KIND_WORDS + i) < 3)
+    (0..n).all(|i| word(words, KIND_WORDS + i) < GEOM_KINDS)
 }
 
 // The j-th lane's codes and ranges.
@@ -51,21 +64,9 @@ fn lane_ok(words: &[u16], j: usize) -> bool
     ensures { result ≡ lane_ok words.now j }
 {
     let k = LANE_WORDS + j * LANE_STRIDE;
-    let codes = (word(words, k) < 2) & (word(words, k + 1) < 2);
-    let extents = range_ok(
-        0,
-        MOST_EXTENTS_A_LANE,
-        MOST_EXTENTS,
-        word(words, k + 2),
-        word(words, k + 3),
-    );
-    let heights = range_ok(
-        0,
-        MOST_HEIGHTS_A_LANE,
-        MOST_HEIGHTS,
-        word(words, k + 4),
-        word(words, k + 5),
-    );
+    let codes = (word(words, k) < EXTENT_KINDS) & (word(words, k + 1) < LEVELS);
+    let extents = range_ok(words, k + 2, 0, MOST_EXTENTS_A_LANE, MOST_EXTENTS);
+    let heights = range_ok(words, k + 4, 0, MOST_HEIGHTS_A_LANE, MOST_HEIGHTS);
     codes & extents & heights
 }
 
@@ -82,10 +83,9 @@ fn section_ok(words: &[u16], i: usize) -> bool
     requires { i < 65536 }
     ensures { result ≡ section_ok words.now i }
 {
-    let k = SECTION_WORDS + i * SECTION_STRIDE;
-    let first = word(words, k);
-    let left = word(words, k + 1);
-    let right = word(words, k + 2);
+    let first = word(words, SECTION_WORDS + i * SECTION_STRIDE);
+    let left = word(words, LEFT_WORDS + i * SECTION_STRIDE);
+    let right = word(words, RIGHT_WORDS + i * SECTION_STRIDE);
     (left <= MOST_LANES_A_SIDE)
         && (right <= MOST_LANES_A_SIDE)
         && (first + (left + right) <= MOST_LANES)
@@ -105,13 +105,7 @@ fn profile_ok(words: &[u16], i: usize) -> bool
     ensures { result ≡ profile_ok words.now i }
 {
     let k = PROFILE_WORDS + i * PROFILE_STRIDE;
-    range_ok(
-        1,
-        MOST_SHAPES_A_PROFILE,
-        MOST_SHAPES,
-        word(words, k),
-        word(words, k + 1),
-    )
+    range_ok(words, k, 1, MOST_SHAPES_A_PROFILE, MOST_SHAPES)
 }
 
 fn profiles_ok(words: &[u16]) -> bool
@@ -127,22 +121,24 @@ fn column_ok(words: &[u16], i: usize, column: usize) -> bool
     ensures { result ≡ column_ok words.now i column }
 {
     let k = STRIP_WORDS + i * STRIP_STRIDE + 1 + column * 2;
-    range_ok(
-        0,
-        MOST_CUBICS_A_TERM,
-        MOST_CUBICS,
-        word(words, k),
-        word(words, k + 1),
-    )
+    range_ok(words, k, 0, MOST_CUBICS_A_TERM, MOST_CUBICS)
 }
 
+fn columns_ok(words: &[u16], i: usize) -> bool
+    requires { i < 4 }
+    ensures { result ≡ all_below (column_ok words.now i) 5 }
+{
+    (0..5).all(|column| column_ok(words, i, column))
+}
+
+// Of a strip that is not there no column is read.
+#[tactic(auto, unfolding(crate::specs::Structure::strip_ok))]
 fn strip_ok(words: &[u16], i: usize) -> bool
     requires { i < 4 }
     ensures { result ≡ strip_ok words.now i }
 {
     let code = word(words, STRIP_WORDS + i * STRIP_STRIDE);
-    let columns = (0..5).all(|column| column_ok(words, i, column));
-    (code < 3) & ((code == 0) | columns)
+    (code < STRIP_KINDS) && ((code == ABSENT) || columns_ok(words, i))
 }
 
 fn strips_ok(words: &[u16]) -> bool
