@@ -1,8 +1,8 @@
 // Counts, codes and ranges of the lent words. Each count is tested before anything loops over it, so that a broken road is refused at once.
 // They are over the words, and no LentRoad, whose model hides them.
-ghost use Rattle.std.specs.Prelude.{◌≡◌, ◌+◌, ◌<◌, get_or};
+ghost use Rattle.std.specs.Prelude.{◌≡◌, ◌+◌, ◌<◌, ◌≤◌, get_or};
 ghost use Rattle.records_lent.specs.Lists.{all_below};
-ghost use Rattle.records.specs.Layout.{section_count_at, profile_count_at};
+ghost use Rattle.records.specs.Layout.{section_count_at, profile_count_at, most_lanes};
 ghost use Rattle.admission_structure.specs.Structure.{range_ok, counts_ok, kinds_ok, lane_ok, section_ok, profile_ok, column_ok, strip_ok, structured};
 
 use crate::marks::marks_ok;
@@ -27,6 +27,13 @@ const STRIP_KINDS: usize = 3;
 
 // Of a strip that is not there.
 const ABSENT: usize = 0;
+
+// The word at a place, 0 past the end, as it is lent: what counts lines in it is itself a u16, so no function of a line has to ask for a bound.
+pub(crate) fn count(words: &[u16], at: usize) -> u16
+    ensures { result ≡ get_or words.now at 0 }
+{
+    words.get(at).copied().unwrap_or(0)
+}
 
 // The range whose first line and count are the words from k on: least to most lines, inside a table of limit lines.
 pub(crate) fn range_ok(words: &[u16], k: usize, least: usize, most: usize, limit: usize) -> bool
@@ -60,7 +67,7 @@ fn kinds_ok(words: &[u16]) -> bool
 // The j-th lane's codes and ranges.
 #[tactic(auto, unfolding(crate::specs::Structure::lane_ok))]
 fn lane_ok(words: &[u16], j: usize) -> bool
-    requires { j < 262144 }
+    requires { j < most_lanes }
     ensures { result ≡ lane_ok words.now j }
 {
     let k = LANE_WORDS + j * LANE_STRIDE;
@@ -71,7 +78,7 @@ fn lane_ok(words: &[u16], j: usize) -> bool
 }
 
 fn lanes_ok(words: &[u16], first: usize, n: usize) -> bool
-    requires { (first < 65536) × (n < 131072) }
+    requires { first + n ≤ most_lanes }
     ensures { result ≡ all_below (λ j. lane_ok words.now (first + j)) n }
 {
     (0..n).all(|j| lane_ok(words, first + j))
@@ -79,13 +86,13 @@ fn lanes_ok(words: &[u16], first: usize, n: usize) -> bool
 
 // A section's lanes: their number first, then each.
 #[tactic(auto, unfolding(crate::specs::Structure::section_ok))]
-fn section_ok(words: &[u16], i: usize) -> bool
-    requires { i < 65536 }
+fn section_ok(words: &[u16], i: u16) -> bool
     ensures { result ≡ section_ok words.now i }
 {
-    let first = word(words, SECTION_WORDS + i * SECTION_STRIDE);
-    let left = word(words, LEFT_WORDS + i * SECTION_STRIDE);
-    let right = word(words, RIGHT_WORDS + i * SECTION_STRIDE);
+    let line = usize::from(i) * SECTION_STRIDE;
+    let first = word(words, SECTION_WORDS + line);
+    let left = word(words, LEFT_WORDS + line);
+    let right = word(words, RIGHT_WORDS + line);
     (left <= MOST_LANES_A_SIDE)
         && (right <= MOST_LANES_A_SIDE)
         && (first + (left + right) <= MOST_LANES)
@@ -95,23 +102,22 @@ fn section_ok(words: &[u16], i: usize) -> bool
 fn sections_ok(words: &[u16]) -> bool
     ensures { result ≡ all_below (section_ok words.now) (get_or words.now section_count_at 0) }
 {
-    let n = word(words, SECTION_COUNT_AT);
+    let n = count(words, SECTION_COUNT_AT);
     (0..n).all(|i| section_ok(words, i))
 }
 
 #[tactic(auto, unfolding(crate::specs::Structure::profile_ok))]
-fn profile_ok(words: &[u16], i: usize) -> bool
-    requires { i < 65536 }
+fn profile_ok(words: &[u16], i: u16) -> bool
     ensures { result ≡ profile_ok words.now i }
 {
-    let k = PROFILE_WORDS + i * PROFILE_STRIDE;
+    let k = PROFILE_WORDS + usize::from(i) * PROFILE_STRIDE;
     range_ok(words, k, 1, MOST_SHAPES_A_PROFILE, MOST_SHAPES)
 }
 
 fn profiles_ok(words: &[u16]) -> bool
     ensures { result ≡ all_below (profile_ok words.now) (get_or words.now profile_count_at 0) }
 {
-    let n = word(words, PROFILE_COUNT_AT);
+    let n = count(words, PROFILE_COUNT_AT);
     (0..n).all(|i| profile_ok(words, i))
 }
 
