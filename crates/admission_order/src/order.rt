@@ -1,10 +1,10 @@
 // The order of starts. Every test is a comparison that passes, so a NaN that is compared fails it.
 ghost use Rattle.std.specs.Prelude.{◌≡◌, ◌&&◌, length, get_or};
-ghost use Rattle.std.specs.Float.Ieee.{eq};
-ghost use Rattle.float_laws.specs.Binary64.{zero64};
+ghost use Rattle.std.specs.Float.Ieee.{eq, le};
+ghost use Rattle.float_laws.specs.Binary64.{◌⊖◌, zero64};
 ghost use Rattle.records_lent.specs.Lists.{all_below};
 ghost use Rattle.records.specs.Roads.{height_def_at, geom_at, section_of, no_lane, profile_at, strip_at};
-ghost use Rattle.admission_order.specs.Order.{never_fall, rise_strictly, apart, cubics_in_order, lane_in_order, section_in_order, strip_in_order, ordered};
+ghost use Rattle.admission_order.specs.Order.{least_gap, never_fall, rise_strictly, apart, cubics_in_order, lane_in_order, section_in_order, strip_in_order, ordered};
 
 use crate::marks::marks_in_order;
 use records::{Heights, LentRoad};
@@ -17,34 +17,41 @@ use records_shapes::{profile_count, profile_start, shapes, strip_column};
 // Profiles, and heights of a lane, are at least so far apart.
 const LEAST_GAP: f64 = 0.001;
 
+// Whether the later of two starts is at least LEAST_GAP past the earlier.
+fn apart(a: f64, b: f64) -> bool
+    ensures { result ≡ le least_gap (b ⊖ a) }
+{
+    LEAST_GAP <= b - a
+}
+
 // The cubics of a list never fall.
 fn cubics_in_order(cubics: &Cubics) -> bool
     ensures { result ≡ cubics_in_order cubics.now }
 {
-    let n = cubics.len().saturating_sub(1);
-    (0..n).all(|i| cubics.get(i).start <= cubics.get(i + 1).start)
+    let starts = (0..cubics.len()).map(|i| cubics.get(i).start);
+    starts.is_sorted_by(|a, b| *a <= *b)
 }
 
 // The heights of a list are at least 0.001 apart.
 fn heights_apart(heights: &Heights) -> bool
     ensures { result ≡ apart (λ i. (height_def_at heights.now i).s_offset) (length heights.now) }
 {
-    let n = heights.len().saturating_sub(1);
-    (0..n).all(|i| LEAST_GAP <= heights.get(i + 1).s_offset - heights.get(i).s_offset)
+    let offsets = (0..heights.len()).map(|i| heights.get(i).s_offset);
+    offsets.is_sorted_by(|a, b| apart(*a, *b))
 }
 
 fn geoms_in_order(road: &LentRoad) -> bool
     ensures { result ≡ never_fall (λ i. (geom_at road.now i).s) (length road.now.geoms) }
 {
-    let n = road.geom_count().saturating_sub(1);
-    (0..n).all(|i| geom(road, i).s <= geom(road, i + 1).s)
+    let stations = (0..road.geom_count()).map(|i| geom(road, i).s);
+    stations.is_sorted_by(|a, b| *a <= *b)
 }
 
 fn sections_rise(road: &LentRoad) -> bool
     ensures { result ≡ rise_strictly (λ i. (section_of road.now i).start) (length road.now.sections) }
 {
-    let n = section_count(road).saturating_sub(1);
-    (0..n).all(|i| section_start(road, i) < section_start(road, i + 1))
+    let starts = (0..section_count(road)).map(|i| section_start(road, i));
+    starts.is_sorted_by(|a, b| *a < *b)
 }
 
 fn lane_in_order(lane: &LentLane) -> bool
@@ -78,8 +85,8 @@ fn sections_in_order(road: &LentRoad) -> bool
 fn profiles_apart(road: &LentRoad) -> bool
     ensures { result ≡ apart (λ i. (profile_at road.now i).s) (length road.now.profiles) }
 {
-    let n = profile_count(road).saturating_sub(1);
-    (0..n).all(|i| LEAST_GAP <= profile_start(road, i + 1) - profile_start(road, i))
+    let stations = (0..profile_count(road)).map(|i| profile_start(road, i));
+    stations.is_sorted_by(|a, b| apart(*a, *b))
 }
 
 fn shapes_in_order(road: &LentRoad) -> bool

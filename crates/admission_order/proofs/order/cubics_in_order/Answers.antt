@@ -1,10 +1,13 @@
-use mathlib.Core.Path.{◌∙◌, ap}
 use Rattle.std.proofs.Common.{rules}
-use Rattle.records_lent.specs.Lists.{all_below}
-use Rattle.records_lent.proofs.RangeLaws.{all_range}
+use Rattle.std.specs.Float.Ieee.{le}
+use Rattle.records_cubic.specs.Cubics.{cubic_at}
 use Rattle.admission_order.specs.Order.{cubics_in_order, never_fall}
+use Rattle.admission_order.proofs.NeighbourLaws.{sorted_range}
 use Rattle.admission_order.proofs.order.cubics_in_order.Goals as goal
 
 pub returns : goal.returns
 unfolding cubics_in_order never_fall
-returns c = rw (← c.len.ensures) (all_range _ _ c.all.ensures.ran (λ x b q k. search rules) ∙ ap (all_below _) c.saturating_sub-n.ensures)
+returns c =
+    let s = c.is_sorted_by.ensures.runs in
+    let m = c.map-starts.ensures.runs s.0 s.0.seen s.1 in
+    rw (← c.len.ensures) (sorted_range s.0 m.0 (λ i. (cubic_at c.args.cubics.now i).start) le _ m.1 m.2 (λ x r q k. search rules) s.2.0 (s.2.1 le (λ x y r q k. search rules)))
