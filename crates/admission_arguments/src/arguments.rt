@@ -1,20 +1,11 @@
 // The tests of a call's place. NaN is outside every range.
 ghost use Rattle.std.specs.Prelude.{◌≡◌};
-ghost use Rattle.admission.specs.Limits.{on_road};
 ghost use Rattle.admission_arguments.specs.Arguments.{across_road};
 
 use arithmetic_ranges::in_range;
-use records::LentRoad;
 
 // Half of the road's width.
 const HALF_WIDTH: f64 = 80.0;
-
-// Row 7: s in 0..length.
-pub fn on_road(road: &LentRoad, s: f64) -> bool
-    ensures { result ≡ on_road road.now s }
-{
-    in_range(0.0, road.length(), s)
-}
 
 // Row 8: t in -80..80.
 pub fn across(t: f64) -> bool

@@ -3,4 +3,5 @@
 
 mod arguments;
 
-pub use arguments::{across, on_road};
+pub use admission::on_road;
+pub use arguments::across;

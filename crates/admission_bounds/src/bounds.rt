@@ -28,12 +28,12 @@ pub fn slope_bound(c: Cubic, d: f64) -> f64
 
 // Cubics, and where the last of them ends.
 #[derive(Clone, Copy)]
-struct Stretch<'a> {
+struct CubicRun<'a> {
     cubics: &'a Cubics<'a>,
     end: f64,
 }
 
-impl<'a> Stretch<'a> {
+impl<'a> CubicRun<'a> {
     // Where the i-th cubic ends: at the next start, the last at the list's end.
     fn end_at(&self, i: usize) -> f64
         ensures { result ≡ end_at self.now.cubics.now self.now.end i }
@@ -45,34 +45,36 @@ impl<'a> Stretch<'a> {
         }
     }
 
-    // The reach D of the i-th cubic.
+    // The i-th cubic and its reach D.
     #[tactic(auto, unfolding(crate::specs::Bounds::reach_at))]
-    fn reach_at(&self, i: usize) -> f64
-        ensures { result ≡ reach_at self.now.cubics.now self.now.end i }
+    fn cubic_and_reach(&self, i: usize) -> (Cubic, f64)
+        ensures { (result.0 ≡ cubic_at self.now.cubics.now i) × (result.1 ≡ reach_at self.now.cubics.now self.now.end i) }
     {
         let c = self.cubics.get(i);
-        at_least_zero(self.end_at(i) - c.start) + REACH_MARGIN
+        (c, at_least_zero(self.end_at(i) - c.start) + REACH_MARGIN)
     }
 
     // The bound B of the i-th cubic over its reach.
     fn bound_at(&self, i: usize) -> f64
         ensures { result ≡ bound_at self.now.cubics.now self.now.end i }
     {
-        bound(self.cubics.get(i), self.reach_at(i))
+        let (c, d) = self.cubic_and_reach(i);
+        bound(c, d)
     }
 
     #[tactic(auto, unfolding(crate::specs::Bounds::cubic_within))]
     fn cubic_within(&self, lo: f64, hi: f64, limit: f64, i: usize) -> bool
         ensures { result ≡ cubic_within self.now.cubics.now lo hi self.now.end limit i }
     {
-        let c = self.cubics.get(i);
-        in_range(lo, hi, c.start) && (self.bound_at(i) <= limit)
+        let (c, d) = self.cubic_and_reach(i);
+        in_range(lo, hi, c.start) && (bound(c, d) <= limit)
     }
 
     fn slope_within(&self, limit: f64, i: usize) -> bool
         ensures { result ≡ le (slope_bound_of (cubic_at self.now.cubics.now i) (reach_at self.now.cubics.now self.now.end i)) limit }
     {
-        slope_bound(self.cubics.get(i), self.reach_at(i)) <= limit
+        let (c, d) = self.cubic_and_reach(i);
+        slope_bound(c, d) <= limit
     }
 }
 
@@ -80,16 +82,16 @@ impl<'a> Stretch<'a> {
 pub fn cubics_within(cubics: &Cubics, lo: f64, hi: f64, end: f64, limit: f64) -> bool
     ensures { result ≡ cubics_within cubics.now lo hi end limit }
 {
-    let stretch = Stretch { cubics, end };
-    (0..cubics.len()).all(|i| stretch.cubic_within(lo, hi, limit, i))
+    let run = CubicRun { cubics, end };
+    (0..cubics.len()).all(|i| run.cubic_within(lo, hi, limit, i))
 }
 
 // Every slope's bound at most the limit.
 pub fn slopes_within(cubics: &Cubics, end: f64, limit: f64) -> bool
     ensures { result ≡ slopes_within cubics.now end limit }
 {
-    let stretch = Stretch { cubics, end };
-    (0..cubics.len()).all(|i| stretch.slope_within(limit, i))
+    let run = CubicRun { cubics, end };
+    (0..cubics.len()).all(|i| run.slope_within(limit, i))
 }
 
 // Not `most.max(x)`, which may be -0 of 0 and -0: here the first of two equal ones stays.
@@ -103,6 +105,6 @@ fn greater(most: f64, x: f64) -> f64
 pub fn greatest_bound(cubics: &Cubics, end: f64) -> f64
     ensures { result ≡ greatest_bound cubics.now end }
 {
-    let stretch = Stretch { cubics, end };
-    (0..cubics.len()).fold(0.0, |most, i| greater(most, stretch.bound_at(i)))
+    let run = CubicRun { cubics, end };
+    (0..cubics.len()).fold(0.0, |most, i| greater(most, run.bound_at(i)))
 }

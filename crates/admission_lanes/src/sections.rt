@@ -4,8 +4,9 @@ ghost use Rattle.records_lent.specs.Lists.{all_below};
 ghost use Rattle.records.specs.Roads.{no_lane};
 ghost use Rattle.admission.specs.Limits.{greatest_width, greatest_border, section_extent, height_limited, heights_limited, lane_limited, section_limited};
 
+use admission::on_road;
 use admission_bounds::cubics_within;
-use arithmetic_ranges::{LARGEST, in_range, sized};
+use arithmetic_ranges::{LARGEST, sized};
 use records::{HeightDef, Heights, LentRoad};
 use records_lanes::{LentLane, LentSide};
 use records_sections::{section_count, section_start};
@@ -16,18 +17,17 @@ const GREATEST_WIDTH: f64 = 8.0;
 
 const GREATEST_BORDER: f64 = 36.0;
 
-// ---- sections and their lanes
 // How far a section reaches: to the next one's start, the last to the road's end. NaN where there is no section.
 #[tactic(auto, unfolding(admission::specs::Limits::section_extent))]
 pub fn section_extent(road: &LentRoad, i: usize) -> f64
     ensures { result ≡ section_extent road.now i }
 {
-    let start = section_start(road, i);
-    if i < section_count(road).saturating_sub(1) {
-        section_start(road, i + 1) - start
+    let end = if i < section_count(road).saturating_sub(1) {
+        section_start(road, i + 1)
     } else {
-        road.length() - start
-    }
+        road.length()
+    };
+    end - section_start(road, i)
 }
 
 #[tactic(auto, unfolding(admission::specs::Limits::height_limited))]
@@ -77,7 +77,7 @@ fn section_limited(road: &LentRoad, i: usize) -> bool
     let extent = section_extent(road, i);
     let left = LentSide::new(road, i, false);
     let right = LentSide::new(road, i, true);
-    in_range(0.0, road.length(), section_start(road, i))
+    on_road(road, section_start(road, i))
         && side_limited(&left, extent)
         && side_limited(&right, extent)
 }

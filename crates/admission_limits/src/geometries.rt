@@ -4,7 +4,7 @@ ghost use Rattle.records_lent.specs.Lists.{all_below};
 ghost use Rattle.admission_bounds.specs.Bounds.{slopes_within};
 ghost use Rattle.admission.specs.Limits.{greatest_elevation, greatest_grade, road_cubics_within, shape_limited, geom_limited};
 
-use admission::road_cubics_within;
+use admission::{on_road, road_cubics_within};
 use admission_bounds::slopes_within;
 use arithmetic_ranges::{abs, in_range, sized};
 use records::{GeomShape, LentRoad, STRAIGHT_CURVATURE};
@@ -46,7 +46,7 @@ fn geom_limited(road: &LentRoad, i: usize) -> bool
     ensures { result ≡ geom_limited road.now i }
 {
     let g = geom(road, i);
-    in_range(0.0, road.length(), g.s)
+    on_road(road, g.s)
         && sized(GREATEST_PLACE, g.x)
         && sized(GREATEST_PLACE, g.y)
         && sized(GREATEST_HEADING, g.hdg)
@@ -61,7 +61,7 @@ pub fn geoms_limited(road: &LentRoad) -> bool
     (0..road.geom_count()).all(|i| geom_limited(road, i))
 }
 
-// ---- the road
+// ---- elevations
 const GREATEST_ELEVATION: f64 = 10000.0;
 
 const GREATEST_GRADE: f64 = 1.0;

@@ -5,7 +5,7 @@ ghost use Rattle.admission.specs.Limits.{greatest_bank, greatest_offset, greates
 use crate::geometries::{elevations_limited, geoms_limited};
 use admission::road_cubics_within;
 use admission_lanes::sections_limited;
-use admission_marks::marks_limited;
+use admission_marks::all_marks_limited;
 use admission_shapes::{profiles_limited, strips_limited};
 use arithmetic_ranges::in_range;
 use records::LentRoad;
@@ -41,5 +41,5 @@ pub fn limited(road: &LentRoad) -> bool
         && sections_limited(road)
         && profiles_limited(road)
         && strips_limited(road)
-        && marks_limited(road)
+        && all_marks_limited(road)
 }

@@ -3,4 +3,4 @@
 
 mod marks;
 
-pub use marks::marks_limited;
+pub use marks::all_marks_limited;

@@ -31,7 +31,7 @@ fn section_marks_limited(road: &LentRoad, section: usize) -> bool
 }
 
 // The marks of every section.
-pub fn marks_limited(road: &LentRoad) -> bool
+pub fn all_marks_limited(road: &LentRoad) -> bool
     ensures { result ≡ all_below (marks_limited road.now) (length road.now.sections) }
 {
     (0..section_count(road)).all(|i| section_marks_limited(road, i))

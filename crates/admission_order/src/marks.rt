@@ -30,7 +30,7 @@ fn section_marks_in_order(road: &LentRoad, section: usize) -> bool
 }
 
 // The marks of every section.
-pub(crate) fn marks_in_order(road: &LentRoad) -> bool
+pub(crate) fn all_marks_in_order(road: &LentRoad) -> bool
     ensures { result ≡ all_below (marks_in_order road.now) (length road.now.sections) }
 {
     let n = records_sections::section_count(road);

@@ -6,7 +6,7 @@ ghost use Rattle.records_lent.specs.Lists.{all_below};
 ghost use Rattle.records.specs.Roads.{height_def_at, geom_at, section_of, no_lane, profile_at, strip_at};
 ghost use Rattle.admission_order.specs.Order.{least_gap, never_fall, rise_strictly, apart, cubics_in_order, lane_in_order, section_in_order, strip_in_order, ordered};
 
-use crate::marks::marks_in_order;
+use crate::marks::all_marks_in_order;
 use records::{Heights, LentRoad};
 use records_cubic::Cubics;
 use records_geometry::geom;
@@ -136,5 +136,5 @@ pub fn ordered(road: &LentRoad) -> bool
         && profiles_apart(road)
         && shapes_in_order(road)
         && strips_in_order(road)
-        && marks_in_order(road)
+        && all_marks_in_order(road)
 }

@@ -6,11 +6,11 @@ ghost use Rattle.arithmetic_ranges.specs.Ranges.{largest};
 ghost use Rattle.admission_bounds.specs.Bounds.{greatest_bound};
 ghost use Rattle.admission.specs.Limits.{road_cubics_within, profile_limited, terms_bound, strip_limited};
 
-use admission::road_cubics_within;
+use admission::{on_road, road_cubics_within};
 use admission_bounds::{cubics_within, greatest_bound};
-use arithmetic_ranges::{LARGEST, in_range};
-use records::LentRoad;
-use records_shapes::{profile_count, profile_start, shapes, strip_column};
+use arithmetic_ranges::LARGEST;
+use records::{LentRoad, StripKind};
+use records_shapes::{profile_count, profile_start, shapes, strip, strip_column};
 
 const GREATEST_SHAPE_START: f64 = 80.0;
 
@@ -24,12 +24,11 @@ const FARTHEST_ACROSS: f64 = 88.0;
 
 const GREATEST_STRIP_HEIGHT: f64 = 40.0;
 
-// ---- profiles and strips
 #[tactic(auto, unfolding(admission::specs::Limits::profile_limited))]
 fn profile_limited(road: &LentRoad, i: usize) -> bool
     ensures { result ≡ profile_limited road.now i }
 {
-    in_range(0.0, road.length(), profile_start(road, i))
+    on_road(road, profile_start(road, i))
         && cubics_within(
             &shapes(road, i),
             -GREATEST_SHAPE_START,
@@ -77,12 +76,23 @@ fn terms_within(road: &LentRoad, i: usize) -> bool
 }
 
 #[tactic(auto, unfolding(admission::specs::Limits::strip_limited))]
-fn strip_limited(road: &LentRoad, i: usize) -> bool
+fn columns_limited(road: &LentRoad, i: usize) -> bool
     ensures { result ≡ strip_limited road.now (strip_at road.now i) }
 {
     column_within(road, i, 0, GREATEST_STRIP_WIDTH)
         && terms_within(road, i)
         && (terms_bound(road, i) <= GREATEST_STRIP_HEIGHT)
+}
+
+// A strip that is not there has no cubics, and passes without their being looked for.
+#[tactic(auto, using(crate::proofs::StripLaws::absent_limited))]
+fn strip_limited(road: &LentRoad, i: usize) -> bool
+    ensures { result ≡ strip_limited road.now (strip_at road.now i) }
+{
+    match strip(road, i) {
+        StripKind::Absent => true,
+        StripKind::Absolute | StripKind::Relative => columns_limited(road, i),
+    }
 }
 
 pub fn strips_limited(road: &LentRoad) -> bool

@@ -31,7 +31,8 @@ fn section_marks_ok(words: &[u16], i: u16) -> bool
         && on_lanes(words, count(words, k), count(words, k + 1), lanes)
 }
 
-pub(crate) fn marks_ok(words: &[u16]) -> bool
+// The marks of every section.
+pub(crate) fn all_marks_ok(words: &[u16]) -> bool
     ensures { result ≡ all_below (marks_ok words.now) (get_or words.now section_count_at 0) }
 {
     let n = count(words, SECTION_COUNT_AT);

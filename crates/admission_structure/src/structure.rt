@@ -5,7 +5,7 @@ ghost use Rattle.records_lent.specs.Lists.{all_below};
 ghost use Rattle.records.specs.Layout.{section_count_at, profile_count_at, most_lanes};
 ghost use Rattle.admission_structure.specs.Structure.{range_ok, counts_ok, kinds_ok, lane_ok, section_ok, profile_ok, column_ok, strip_ok, structured};
 
-use crate::marks::marks_ok;
+use crate::marks::all_marks_ok;
 use records::layout::{
     BANK_COUNT_AT, ELEV_COUNT_AT, GEOM_COUNT_AT, KIND_WORDS, LANE_STRIDE, LANE_WORDS, LEFT_WORDS, MOST_BANKS,
     MOST_CUBICS, MOST_CUBICS_A_TERM, MOST_ELEVS, MOST_EXTENTS, MOST_EXTENTS_A_LANE, MOST_GEOMS,
@@ -165,5 +165,5 @@ pub fn structured(words: &[u16], numbers: &[f64]) -> bool
         && sections_ok(words)
         && profiles_ok(words)
         && strips_ok(words)
-        && marks_ok(words)
+        && all_marks_ok(words)
 }

@@ -2,7 +2,7 @@ use mathlib.Core.Path.{◌∙◌, ap}
 use Rattle.std.proofs.Common.{rules}
 use Rattle.records_lent.specs.Lists.{all_below}
 use Rattle.records_lent.proofs.RangeLaws.{all_range}
-use Rattle.admission_structure.proofs.marks.marks_ok.Goals as goal
+use Rattle.admission_marks.proofs.marks.all_marks_limited.Goals as goal
 
 pub returns : goal.returns
-returns c = all_range _ _ c.all.ensures.ran (λ x b q k. search rules) ∙ ap (all_below _) c.count-n.ensures
+returns c = all_range _ _ c.all.ensures.ran (λ x b q k. search rules) ∙ ap (all_below _) c.section_count.ensures.value
