@@ -141,14 +141,6 @@ module _ (words : List ℕ) (numbers : List Float) where
       ap (λ (x : Section). get_or x.marks j no_mark) (section_in_lem i h)
       ∙ table_at (λ j. mark_in words numbers (get_or words (1347 + i * 2) 0 + j)) (get_or words (1347 + i * 2 + 1) 0) j no_mark (rw (plus 1347 1 (i * 2)) l)
 
-  pub mark-past : (i j : ℕ) → i < get_or words 5 0 → get_or words (1348 + i * 2) 0 ≤ j → mark_at road i j ≡ no_mark
-  unfolding section_in
-  mark-past i j h l = ap (λ (x : Section). get_or x.marks j no_mark) (section_in_lem i h) ∙ table-past _ (get_or words (1347 + i * 2 + 1) 0) j no_mark (rw (plus 1347 1 (i * 2)) l)
-
-  -- no section, no mark
-  pub no_mark_lem : (i j : ℕ) → get_or words 5 0 ≤ i → mark_at road i j ≡ no_mark
-  no_mark_lem i j h = ap (λ (x : Section). get_or x.marks j no_mark) (section-past i h)
-
   -- ---- profiles and strips
   pub profile_count_lem : length road.profiles ≡ get_or words 6 0
   unfolding road_of

@@ -2,7 +2,7 @@
 -- Decoding is total. A code that stands for no listed word, a count over its limit or a range past its table's end is refused by admission (row 3), so what they decode to does not matter.
 use denote.Triple.Both.{Both}
 use Rattle.std.specs.Borrow.{Bor}
-use Rattle.std.specs.Prelude.{ℕ, zero, suc, ◌+◌, ◌*◌, ◌/◌, Bool, true, false, ◌&&◌, List, [], ◌∷◌, get_or, Float, Option, Some, None}
+use Rattle.std.specs.Prelude.{ℕ, zero, suc, ◌+◌, ◌*◌, ◌/◌, Bool, true, false, ◌&&◌, List, [], ◌∷◌, get_or, Float}
 use Rattle.std.proofs.Math.Bool.{cond}
 use Rattle.std.proofs.Math.ListN.{length}
 use Rattle.std.proofs.Math.Dec.{eqb}
@@ -222,11 +222,6 @@ section_of road i = get_or road.sections i no_section
 
 abbrev pub no_lane : Lane
 no_lane = record { border = false; level = false; extents = []; heights = [] }
-
--- the lane that a line of the lane table holds, none for no line
-abbrev pub lane_by : List ℕ → List Float → Option ℕ → Lane
-lane_by words numbers (Some j) = lane_in words numbers j
-lane_by words numbers None = no_lane
 
 -- the k-th lane of a section, from the center outward, on the right or on the left
 abbrev pub lane_of : Road → ℕ → Bool → ℕ → Lane

@@ -75,6 +75,14 @@ pub const STRIP_WORDS: usize = 1303;
 
 pub const STRIP_STRIDE: usize = 11;
 
+// left inner, left outer, right inner, right outer
+pub const STRIPS: usize = 4;
+
+pub const STRIP_TERMS: usize = 4;
+
+// the width, then the terms
+pub const STRIP_COLUMNS: usize = STRIP_TERMS + 1;
+
 // a section's marks: first mark, marks
 pub const SECTION_MARK_WORDS: usize = 1347;
 

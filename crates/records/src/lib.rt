@@ -1,4 +1,4 @@
-// A road in two lent slices: its layout, the nested lists that it stands for, and its lists of cubics.
+// A road in two lent slices: its layout, the records by value, and the nested lists that it stands for.
 #![tactic(auto)]
 
 mod heights;

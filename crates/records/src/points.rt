@@ -69,7 +69,9 @@ pub enum StripKind {
     Relative,
 }
 
-// A lane by its section, its side (right of the center or left) and its place there, from the center outward.
+// A lane by its section, its side (right of the center or left) and its place there, from the center outward. A side is a flag, since the definitions
+// say of it `cond right road.right road.left`: an enum would have to be turned into that flag in each contract. They take section, side and place one
+// by one, since the laws go by induction over the place and by cases of the side, for every section.
 #[derive(Clone, Copy)]
 pub struct LanePlace {
     pub section: usize,

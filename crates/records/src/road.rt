@@ -7,8 +7,8 @@ use crate::layout::{
     BANK_BASE, BANK_COUNT_AT, ELEV_BASE, ELEV_COUNT_AT, GEOM_COUNT_AT, LENGTH_PLACE, OFFSET_BASE,
     OFFSET_COUNT_AT, TSHIFT_BASE, TSHIFT_COUNT_AT,
 };
-use records_cubic::{Cubic, Cubics};
-use records_lent::{Record, number, part, word};
+use records_cubic::Cubics;
+use records_lent::{number, word};
 use std::marker::Model;
 
 // A contract sees the road that the slices stand for.
@@ -30,7 +30,7 @@ impl<'a> Model for LentRoad<'a> {
 fn flat<'a>(words: &[u16], numbers: &'a [f64], base: usize, count_at: usize) -> Cubics<'a>
     ensures { result ≡ cubics_in words.now numbers.now base 0 (get_or words.now count_at 0) }
 {
-    Cubics::new(part(numbers, base, word(words, count_at) * Cubic::STRIDE))
+    Cubics::of_table(numbers, base, 0, word(words, count_at))
 }
 
 impl<'a> LentRoad<'a> {

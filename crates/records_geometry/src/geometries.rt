@@ -13,6 +13,7 @@ const K0_BASE: usize = GEOM_BASE + 5;
 const K1_BASE: usize = GEOM_BASE + 6;
 
 // The kind of a geometry.
+#[derive(Clone, Copy, Debug, PartialEq, Eq)]
 enum GeomKind {
     Line,
     Arc,
@@ -65,7 +66,7 @@ pub fn geom(road: &LentRoad, i: usize) -> GeomRec
             word(road.words, KIND_WORDS + i),
         )
     } else {
-        geom_from(part(road.numbers, 0, 0), 0)
+        geom_from(&[], 0)
     }
 }
 

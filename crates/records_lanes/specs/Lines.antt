@@ -1,5 +1,5 @@
 -- What the lines of the lane table say, for callers that go over a side's lanes line by line. The words of a section and of a lane are in specs/Layout.antt of crate records; a word past the end is 0.
-use Rattle.std.specs.Prelude.{ℕ, ◌+◌, ◌*◌, Bool, cond, List, get_or, ltb, Option, Some, None}
+use Rattle.std.specs.Prelude.{ℕ, ◌+◌, ◌*◌, Bool, cond, List, get_or, ltb}
 use Rattle.records.specs.Layout.{section_count_at, section_words, section_stride}
 
 module _ (words : List ℕ) where
@@ -8,13 +8,3 @@ module _ (words : List ℕ) where
   side_line i right =
       let k = section_words + i * section_stride in
       cond (ltb i (get_or words section_count_at 0)) (cond right (get_or words k 0 + get_or words (k + 1) 0) (get_or words k 0)) 0
-
-  -- how many lines a side has
-  abbrev pub side_lines : ℕ → Bool → ℕ
-  side_lines i right =
-      let k = section_words + i * section_stride in
-      cond (ltb i (get_or words section_count_at 0)) (cond right (get_or words (k + 2) 0) (get_or words (k + 1) 0)) 0
-
-  -- the line of a side's k-th lane, none past its last
-  abbrev pub line_of : ℕ → Bool → ℕ → Option ℕ
-  line_of i right k = cond (ltb k (side_lines i right)) (Some (side_line i right + k)) None

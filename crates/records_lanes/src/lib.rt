@@ -4,5 +4,5 @@
 mod lanes;
 mod sides;
 
-pub use lanes::{LentLane, lane, lane_in, lane_line, side_line};
-pub use sides::LentSide;
+pub use lanes::{LentLane, lane_in};
+pub use sides::{LentSide, lane};

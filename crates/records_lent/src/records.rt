@@ -1,7 +1,8 @@
 // Records in lent numbers, one after another.
-ghost use Rattle.std.specs.Prelude.{◌≡◌, ◌<◌, ℕ, List, Float, length, get_or};
+ghost use Rattle.std.specs.Prelude.{◌≡◌, ◌+◌, ◌*◌, ◌<◌, ℕ, List, Float, length, get_or};
 ghost use Rattle.records_lent.specs.Lists.{record_at, records_of, span};
 
+use crate::access::part;
 use std::marker::{Model, PhantomData};
 
 // What so many numbers stand for.
@@ -63,6 +64,15 @@ impl<'a, T: Record> Records<'a, T> {
             numbers,
             of: PhantomData,
         }
+    }
+
+    // Of a table that begins at a base, so many lines from the first on, each a record. The sums saturate, so that any numbers may be asked: beyond the
+    // last number there is none, and a word's sums are too small for the compiler to keep the test.
+    pub fn of_table(numbers: &'a [f64], base: usize, first: usize, count: usize) -> Self
+        ensures { result ≡ records_of T.from T.STRIDE (span numbers.now (base + first * T.STRIDE) (count * T.STRIDE)) }
+    {
+        let start = base.saturating_add(first.saturating_mul(T::STRIDE));
+        Self::new(part(numbers, start, count.saturating_mul(T::STRIDE)))
     }
 
     pub fn len(&self) -> usize

@@ -1,14 +1,16 @@
 -- `covered` by the answers that a function has, and `CoveredIs` by the four tests of each mark.
 use Prim.Native.Nat.{ℕ}
-use mathlib.Core.Path.{◌≡◌}
-use mathlib.Core.Bool.{Bool, true, ◌&&◌}
+use mathlib.Core.Path.{◌≡◌, refl}
+use mathlib.Core.Bool.{Bool, true, false, cond, ◌&&◌}
 use mathlib.Core.List.{[], ◌∷◌}
 use lib.ListN.{length}
 use lib.Dec.{eqb}
-use lib.Ieee.{Float, le, lt}
+use lib.Ieee.{Float, eq, le, lt}
 use lib.Ieee.Bits.{is_true}
 use borrow.Author.Tests.{eqb-true, eq-eqb}
+use Rattle.std.proofs.Common.{Some, None, Less, Equal, Greater}
 use Rattle.std.proofs.lemmas.Float.{T_from_true}
+use Rattle.std.specs.Ordering.{is_lt, is_some_and, partial_lt, float_partial_cmp}
 use Rattle.float_laws.specs.Binary64.{◌⊖◌}
 use Rattle.records_lent.specs.Lists.{any_below}
 use Rattle.records_lent.proofs.TestLaws.{chain-at}
@@ -16,6 +18,16 @@ use Rattle.records_lent.proofs.TableLaws.{any_at, any_found}
 use Rattle.records.specs.declared.points.Mark.{Mark}
 use Rattle.records.specs.Roads.{Road, section_of, mark_at}
 use Rattle.records_marks.specs.Covers.{paints, covered, Covering, CoveredIs}
+
+less : (a b c : Bool) → is_some_and is_lt (cond a (Some Less) (cond b (Some Equal) (cond c (Some Greater) None))) ≡ a
+less true b c = refl
+less false true c = refl
+less false false true = refl
+less false false false = refl
+
+-- what `<` says of floats, by the tests that `partial_cmp` makes one after the other
+pub lt_is : (x y : Float) → partial_lt float_partial_cmp x y ≡ lt x y
+lt_is x y = less (lt x y) (eq x y) (lt y x)
 
 pub covered-by :
     (road : Road) (i lane kind : ℕ) (s : Float) {n : ℕ} {start : Float} {found : Bool} → found ≡ any_below (λ j. paints (mark_at road i j) lane kind (s ⊖ start)) n

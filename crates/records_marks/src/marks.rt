@@ -54,7 +54,7 @@ fn no_mark() -> Mark
 pub fn mark(road: &LentRoad, section: usize, j: usize) -> Mark
     ensures { result ≡ mark_at road.now section j }
 {
-    if section < section_count(road) && j < mark_count(road, section) {
+    if j < mark_count(road, section) {
         let first = word(
             road.words,
             SECTION_MARK_WORDS + section * SECTION_MARK_STRIDE,
@@ -69,7 +69,7 @@ pub fn mark(road: &LentRoad, section: usize, j: usize) -> Mark
 pub fn covers(mark: Mark, d: f64) -> bool
     ensures { result ≡ covers mark d }
 {
-    (mark.start <= d) & (d < mark.end)
+    (mark.start..mark.end).contains(&d)
 }
 
 // Whether a mark is of a kind, on a lane, and covers d.

@@ -5,11 +5,11 @@ ghost use Rattle.records.specs.Roads.{cubics_in, profile_at, strip_at, strip_kin
 
 use records::layout::{
     CUBIC_BASE, PROFILE_BASE, PROFILE_COUNT_AT, PROFILE_STRIDE, PROFILE_WORDS, SHAPE_BASE,
-    STRIP_STRIDE, STRIP_WORDS,
+    STRIP_COLUMNS, STRIP_STRIDE, STRIP_WORDS, STRIPS,
 };
 use records::{LentRoad, StripKind};
-use records_cubic::{Cubic, Cubics};
-use records_lent::{Record, number_in, part, word};
+use records_cubic::Cubics;
+use records_lent::{number_in, word};
 
 // ---- profiles and strips
 pub fn profile_count(road: &LentRoad) -> usize
@@ -32,8 +32,7 @@ fn cubics_at<'a>(words: &[u16], numbers: &'a [f64], base: usize, at: usize) -> C
     requires { (base < 65536) × (at < 196608) }
     ensures { result ≡ cubics_in words.now numbers.now base (get_or words.now at 0) (get_or words.now (at + 1) 0) }
 {
-    let first = base + word(words, at) * Cubic::STRIDE;
-    Cubics::new(part(numbers, first, word(words, at + 1) * Cubic::STRIDE))
+    Cubics::of_table(numbers, base, word(words, at), word(words, at + 1))
 }
 
 fn no_cubics<'a>() -> Cubics<'a>
@@ -67,7 +66,7 @@ fn kind_of(code: usize) -> StripKind
 pub fn strip(road: &LentRoad, i: usize) -> StripKind
     ensures { result ≡ strip_kind_of (strip_at road.now i) }
 {
-    if i < 4 {
+    if i < STRIPS {
         kind_of(word(road.words, STRIP_WORDS + i * STRIP_STRIDE))
     } else {
         StripKind::Absent
@@ -79,7 +78,7 @@ pub fn strip_column<'a>(road: &LentRoad<'a>, i: usize, column: usize) -> Cubics<
     ensures { result ≡ column_of (strip_at road.now i) column }
 {
     let words = road.words;
-    if 4 <= i || 5 <= column {
+    if STRIPS <= i || STRIP_COLUMNS <= column {
         return no_cubics();
     }
     let at = STRIP_WORDS + i * STRIP_STRIDE;

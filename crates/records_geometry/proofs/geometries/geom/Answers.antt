@@ -1,9 +1,6 @@
 -- `geom`: the i-th line of the table, or a line of NaNs.
 use native.Mathlib.Omega.{arith}
-use mathlib.Core.Path.{◌∙◌, ap, sym}
-use mathlib.Core.List.{List}
-use lib.Ieee.{Float}
-use Rattle.records.specs.Roads.{geom_from}
+use mathlib.Core.Path.{◌∙◌, sym}
 use Rattle.records.proofs.RoadLaws.{geom_count_read, geom-by, geom-past}
 use Rattle.records_geometry.proofs.geometries.geom.Goals as goal
 
@@ -17,5 +14,4 @@ pub returns-else-i-geom_count : goal.returns-else-i-geom_count
 returns-else-i-geom_count c =
     let r = c.road.inside in
     let n = geom_count_read r.words.now r.numbers.now c.geom_count.ensures.value c.road.view_is in
-    rw (← c.road.view_is)
-    (c.geom_from-else-i-geom_count.ensures ∙ ap (λ (xs : List Float). geom_from xs 0) c.part-else-i-geom_count.ensures ∙ sym (geom-past r.words.now r.numbers.now c.args.i (omega arith)))
+    rw (← c.road.view_is) (c.geom_from-else-i-geom_count.ensures ∙ sym (geom-past r.words.now r.numbers.now c.args.i (omega arith)))

@@ -7,10 +7,8 @@ pub returns : goal.returns
 unfolding cubics_of heights_of lane_in
 returns c =
     rw (
-      c.new.ensures,
-      c.new-2.ensures,
-      c.part-extents.ensures,
-      c.part-heights.ensures,
+      c.of_table.ensures,
+      c.of_table-2.ensures,
       c.word.ensures.value,
       c.word-2.ensures.value,
       c.word-3.ensures.value,

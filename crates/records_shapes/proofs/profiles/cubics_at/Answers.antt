@@ -4,4 +4,4 @@ use Rattle.records_shapes.proofs.profiles.cubics_at.Goals as goal
 
 pub returns : goal.returns
 unfolding cubics_of
-returns c = rw (← c.word.ensures.value, ← c.word-2.ensures.value, ← c.part.ensures) c.new.ensures
+returns c = rw (← c.word.ensures.value, ← c.word-2.ensures.value) c.of_table.ensures

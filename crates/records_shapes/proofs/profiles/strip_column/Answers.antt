@@ -5,17 +5,17 @@ use borrow.Author.Tests.{eq-eqb, ne_eqb}
 use Rattle.records.specs.Roads.{column_in}
 use Rattle.records.proofs.RoadLaws.{column_in_lem, column-absent, column-over, column-past}
 use Rattle.records_shapes.proofs.profiles.strip_column.Goals as goal
-use Rattle.records_shapes.proofs.profiles.strip_column.Goals.{then-i-ge4-via-then-i-ge4, then-i-ge4-via-else-i-ge4+then-column-ge5}
+use Rattle.records_shapes.proofs.profiles.strip_column.Goals.{then-i-ge-STRIPS-via-then-i-ge-STRIPS, then-i-ge-STRIPS-via-else-i-ge-STRIPS+then-column-ge-STRIP_COLUMNS}
 
-pub returns-then-i-ge4 : goal.returns-then-i-ge4
-returns-then-i-ge4 c =
+pub returns-then-i-ge-STRIPS : goal.returns-then-i-ge-STRIPS
+returns-then-i-ge-STRIPS c =
     let r = c.road.inside in
     let a = c.args in
     rw (← c.road.view_is)
     (c.no_cubics.ensures
-    ∙ sym (elim c.then-i-ge4.branch [
-      | then-i-ge4-via-then-i-ge4 w ↦ column-past r.words.now r.numbers.now a.i a.column w.if-i-ge4.true
-      | then-i-ge4-via-else-i-ge4+then-column-ge5 w ↦ column-over r.words.now r.numbers.now a.i a.column (omega arith) w.if-column-ge5.true
+    ∙ sym (elim c.then-i-ge-STRIPS.branch [
+      | then-i-ge-STRIPS-via-then-i-ge-STRIPS w ↦ column-past r.words.now r.numbers.now a.i a.column w.if-i-ge-STRIPS.true
+      | then-i-ge-STRIPS-via-else-i-ge-STRIPS+then-column-ge-STRIP_COLUMNS w ↦ column-over r.words.now r.numbers.now a.i a.column (omega arith) w.if-column-ge-STRIP_COLUMNS.true
     ]))
 
 pub returns-then-word-eq0 : goal.returns-then-word-eq0
