@@ -24,7 +24,7 @@ use Rattle.records.specs.Active.{active_in, value_in}
 use Rattle.records.specs.Roads.{Road, Strip, StripDef, absent, present, strip_at}
 use Rattle.arithmetic_ranges.specs.Ranges.{not_below_zero}
 use Rattle.lanes.specs.Lateral.{strip_height, outer_height, past_width, by_width, by_side, is_left, cross_by, cross_height}
-use Rattle.lanes_borders.specs.Borders.{sign_of}
+use Rattle.lanes.specs.Sides.{sign_of}
 use Rattle.lanes_borders.proofs.Outward.{fore, back, SideSign, turned}
 use Rattle.lanes_borders.proofs.BorderLaws.{sign-whole}
 use Rattle.lanes_laws.proofs.StationBounds.{zero-within}

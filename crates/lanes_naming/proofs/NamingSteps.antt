@@ -14,7 +14,8 @@ use Rattle.records_lent.specs.Lists.{last_that}
 use Rattle.records.specs.declared.points.LanePlace.{LanePlace}
 use Rattle.records.specs.Roads.{Road, lane_of, section_of}
 use Rattle.lanes_borders.specs.declared.across.LaneBorders.{LaneBorders}
-use Rattle.lanes_borders.specs.Borders.{sign_of, outer_after, borders_from, borders_at, borders_of}
+use Rattle.lanes.specs.Sides.{sign_of}
+use Rattle.lanes_borders.specs.Borders.{outer_after, borders_from, borders_at, borders_of}
 use Rattle.lanes_naming.specs.Naming.{named_on, name_by, lane_named, beyond_test, beyond_on, place_by, lane_at}
 
 -- ---- the running inner border

@@ -5,7 +5,8 @@ use lib.Ieee.{Float}
 use Prim.Native.Nat.{ℕ}
 use Rattle.records_lent.specs.Lists.{last_that}
 use Rattle.records.specs.Roads.{Road}
-use Rattle.lanes_borders.specs.Borders.{sign_of, borders_of}
+use Rattle.lanes.specs.Sides.{sign_of}
+use Rattle.lanes_borders.specs.Borders.{borders_of}
 use Rattle.lanes_naming.specs.Naming.{beyond_test}
 use Rattle.lanes_naming.proofs.naming.last_beyond.Given as goal
 
