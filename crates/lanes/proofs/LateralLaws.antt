@@ -5,8 +5,8 @@ use mathlib.Core.Path.{◌≡◌, refl, ap, ◌∙◌, sym}
 use mathlib.Core.Bool.{Bool, true, false, cond}
 use mathlib.Core.List.{List}
 use lib.ListN.{length}
-use lib.Ieee.{Float, of_bits, neg, lt}
-use Rattle.float_laws.specs.Binary64.{◌⊕◌, ◌⊖◌, ◌⊗◌, f64, zero64}
+use lib.Ieee.{Float, lt}
+use Rattle.float_laws.specs.Binary64.{◌⊕◌, ◌⊖◌, ◌⊗◌, zero64}
 use Rattle.records.specs.declared.points.HeightDef.{HeightDef}
 use Rattle.records.specs.declared.points.StripKind.TheVariants.{Absent, Absolute, Relative}
 use Rattle.std.specs.declared.option.Option.{Option}
@@ -85,8 +85,3 @@ module _ (inner : StripDef) (s t sign w : Float) where
   pub past-inner : (outer : Strip) {x : Float} → lt w (sign ⊗ t) ≡ false → x ≡ strip_height inner s t → x ≡ past_width inner outer s t sign w
   past-inner absent h ex = ex
   past-inner (present d) h ex = rw h ex
-
--- -1.0 as the code has it, by its digits
-pub minus_one_lem : neg (f64 0x3ff0_0000_0000_0000) ≡ f64 0xbff0_0000_0000_0000
-unfolding neg of_bits
-minus_one_lem = refl

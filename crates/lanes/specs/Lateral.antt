@@ -9,6 +9,7 @@ use Rattle.records_cubic.specs.Cubics.{cubic_at, eval_at}
 use Rattle.records.specs.Active.{active_in, value_in, last_start, active_up_to}
 use Rattle.records.specs.Roads.{Road, Strip, StripDef, absent, present, profile_at, strip_at, height_def_at, column_by}
 use Rattle.lanes.specs.declared.pairs.Pair.{Pair}
+use Rattle.lanes.specs.Sides.{sign_of, inner_of, outer_of}
 
 -- ---- profiles
 
@@ -97,10 +98,9 @@ ridge_margin = f64 0x3e11_2e0b_e826_d695
 abbrev pub is_left : Float → Float → Bool
 is_left t toward = cond (lt (abs_of t) ridge_margin) (lt zero64 toward) (lt zero64 t)
 
--- the strips of the side: left inner and outer, or right inner and outer
+-- by the strips of the side
 abbrev pub cross_by : Road → Float → Float → Bool → Float
-cross_by road s t left =
-    cond left (by_side (strip_at road 0) (strip_at road 1) s t (f64 0x3ff0_0000_0000_0000)) (by_side (strip_at road 2) (strip_at road 3) s t (f64 0xbff0_0000_0000_0000))
+cross_by road s t left = let right = not left in by_side (strip_at road (inner_of right)) (strip_at road (outer_of right)) s t (sign_of right)
 
 -- "t - offset" is t less the value of tshift. With no strip the height is 0, so it need not be asked whether there is a cross section
 unfoldable pub cross_height : Road → Float → Float → Float → Float
@@ -115,7 +115,7 @@ height_toward road s t toward = shape_of road s t ⊕ cross_height road s t towa
 
 -- the road's height at t: on the ridge that of the right side
 abbrev pub lateral_height : Road → Float → Float → Float
-lateral_height road s t = height_toward road s t (f64 0xbff0_0000_0000_0000)
+lateral_height road s t = height_toward road s t (sign_of true)
 
 -- "The cross section exists exactly when tshift or strip has a line"
 abbrev pub is_present : Strip → Bool

@@ -19,7 +19,8 @@ use Rattle.records_cubic.specs.Cubics.{cubic_at, eval_at}
 use Rattle.records.specs.Active.{active_in, value_in}
 use Rattle.records.specs.Roads.{Lane, no_lane}
 use Rattle.arithmetic_ranges.specs.Ranges.{not_below_zero}
-use Rattle.lanes_borders.specs.Borders.{sign_of, border_width, width_of, outer_after, borders_at}
+use Rattle.lanes.specs.Sides.{sign_of}
+use Rattle.lanes_borders.specs.Borders.{border_width, width_of, outer_after, borders_at}
 use Rattle.lanes_borders.proofs.Outward.{SideSign, Ahead, Fitted, fitted-width, fitted-border, step-outward}
 
 -- ---- the premises, which admission gives: widths of size 8 at most, borders of size 36 at most

@@ -14,7 +14,8 @@ use Rattle.float_laws.specs.Binary64.{◌⊖◌}
 use Rattle.records_lent.proofs.StoreLaws.{three-stores}
 use Rattle.records.specs.Roads.{Road, Lane, no_lane, section_of}
 use Rattle.lanes_borders.specs.declared.across.LaneBorders.{LaneBorders}
-use Rattle.lanes_borders.specs.Borders.{sign_of, outer_after, borders_from, borders_at, base_at, side_lanes, borders_of, side_list, border_list}
+use Rattle.lanes.specs.Sides.{sign_of}
+use Rattle.lanes_borders.specs.Borders.{outer_after, borders_from, borders_at, base_at, side_lanes, borders_of, side_list, border_list}
 
 -- ---- the running outer border
 

@@ -1,16 +1,13 @@
 -- Document 01, "Values": "Lanes by `side_borders`": the t of each lane's borders, from the center outward.
 -- sign is 1 for the left side and -1 for the right, base the t of the center. s is the distance into the section; from `base_at` on it is the station.
 use Rattle.std.specs.Prelude.{ℕ, zero, suc, ◌+◌, Bool, true, false, cond, List, [], ◌∷◌, ◌++◌, length, get_or, Float, Option, Some, None}
-use Rattle.float_laws.specs.Binary64.{◌⊕◌, ◌⊖◌, ◌⊗◌, f64, zero64}
+use Rattle.float_laws.specs.Binary64.{◌⊕◌, ◌⊖◌, ◌⊗◌, zero64}
 use Rattle.records_cubic.specs.Cubics.{cubic_at, eval_at}
 use Rattle.records.specs.Active.{active_in, value_in}
 use Rattle.records.specs.Roads.{Road, Lane, no_lane, section_of}
+use Rattle.lanes.specs.Sides.{sign_of}
 use Rattle.lanes_borders.specs.declared.across.LaneBorders.{LaneBorders}
 use Rattle.arithmetic_ranges.specs.Ranges.{not_below_zero}
-
-abbrev pub sign_of : Bool → Float
-sign_of false = f64 0x3ff0_0000_0000_0000
-sign_of true = f64 0xbff0_0000_0000_0000
 
 -- a border lane's width: from its inner border to the border record's t; none active is 0 wide, not a border at 0
 abbrev pub border_width : Lane → Float → Float → Float → Option ℕ → Float

@@ -1,15 +1,15 @@
 // Where the lanes of a section lie across the road. A side is left or right of the center; its lanes count from the center outward.
 ghost use Rattle.std.specs.Prelude.{◌≡◌};
 ghost use Rattle.records.specs.Active.{active_in};
-ghost use Rattle.records.specs.Roads.{lane_of};
-ghost use Rattle.lanes_borders.specs.Borders.{sign_of, border_width, width_of, outer_after, borders_from, base_at, lanes_of, borders_of};
+ghost use Rattle.lanes_borders.specs.Borders.{border_width, width_of, borders_from, base_at, lanes_of, borders_of};
 
 use crate::across::LaneBorders;
+use crate::sides::SideAt;
 use arithmetic_ranges::not_below_zero;
 use records::{LanePlace, LentRoad};
 use records_active::{active, value};
-use records_lanes::{LentLane, LentSide, lane};
-use records_sections::{lane_count, section_start};
+use records_lanes::LentLane;
+use records_sections::lane_count;
 
 // The t of the center.
 pub fn base_at(road: &LentRoad, s: f64) -> f64
@@ -23,13 +23,6 @@ pub fn section_lanes(road: &LentRoad, section: usize) -> usize
     ensures { result ≡ lanes_of road.now section }
 {
     lane_count(road, section, false) + lane_count(road, section, true)
-}
-
-// Which way a side's lanes stack.
-pub fn sign_of(right: bool) -> f64
-    ensures { result ≡ sign_of right }
-{
-    if right { -1.0 } else { 1.0 }
 }
 
 // From the inner border to the active border record's t, no width where none is active.
@@ -65,31 +58,9 @@ pub fn border_from(lane: &LentLane, s: f64, sign: f64, inner: f64) -> LaneBorder
     }
 }
 
-// `border_from` of the lane at a place.
-pub fn next_border(road: &LentRoad, place: LanePlace, s: f64, inner: f64) -> LaneBorders
-    ensures { result ≡ borders_from (lane_of road.now place.section place.right place.k) (sign_of place.right) inner s }
-{
-    border_from(&lane(road, place), s, sign_of(place.right), inner)
-}
-
-// The outer border of a side's first n lanes, s metres into their section.
-fn outer_after(side: &LentSide, n: usize, s: f64, sign: f64, base: f64) -> f64
-    ensures { result ≡ outer_after side.now sign base s n }
-{
-    let mut t = base;
-    for k in 0..n {
-        t = border_from(&side.get(k), s, sign, t).outer;
-    }
-    t
-}
-
-// A lane's borders at s: where the lane before it ends, and its width from there.
+// The borders of the lane at a place, at s.
 pub fn lane_borders(road: &LentRoad, place: LanePlace, s: f64) -> LaneBorders
     ensures { result ≡ borders_of road.now place.section s place.right place.k }
 {
-    let side = LentSide::new(road, place.section, place.right);
-    let sign = sign_of(place.right);
-    let into = s - section_start(road, place.section);
-    let inner = outer_after(&side, place.k, into, sign, base_at(road, s));
-    border_from(&side.get(place.k), into, sign, inner)
+    SideAt::new(road, place.section, place.right, s).borders_at(place.k)
 }

@@ -3,8 +3,8 @@
 
 mod across;
 mod borders;
+mod sides;
 
 pub use across::LaneBorders;
-pub use borders::{
-    base_at, border_from, lane_borders, lane_width, next_border, section_lanes, sign_of,
-};
+pub use borders::{base_at, border_from, lane_borders, lane_width, section_lanes};
+pub use sides::SideAt;

@@ -1,14 +1,19 @@
 -- How the two calls go on after the road's rows: each way out is the tests on its way.
 use Prim.Native.Nat.{ℕ, ◌/◌}
 use mathlib.Core.Path.{◌≡◌, refl, sym, ◌∙◌, ap}
-use mathlib.Core.Bool.{Bool, true, false}
+use mathlib.Core.Bool.{Bool, true, false, cond}
 use mathlib.Core.List.{List, []}
 use lib.Dec.{leb}
 use lib.Ieee.{Float}
 use lib.IntN.{ℤ}
 use lib.ListN.{length}
+use Rattle.std.specs.Prelude.{ok_or}
 use Rattle.std.specs.declared.option.Option.{Option}
-use Rattle.refusals.specs.Answer.{Answer, value, refused, checked}
+use Rattle.std.specs.declared.option.Option.TheVariants.{Some, None}
+use Rattle.std.specs.declared.result.Result.{Result}
+use Rattle.refusals.specs.declared.refusals.Refusal.{Refusal}
+use Rattle.refusals.specs.declared.refusals.Refusal.TheVariants.{BorderSpace}
+use Rattle.refusals.specs.Answer.{Answer, value, refused, checked, answered}
 use Rattle.records.specs.Roads.{Road, road_of, section_index}
 use Rattle.admission.specs.Limits.{on_road}
 use Rattle.admission_arguments.specs.Arguments.{across_road}
@@ -36,23 +41,25 @@ module _ (words : List ℕ) (numbers : List Float) where
     pub list-off : a ≡ false → refused 7 ≡ checked (list_rows words numbers s len) (value (lanes_at words numbers s))
     list-off h = rw (on-lent s r e, h)
 
-    module _ (h : a ≡ true) {i : ℕ} (g : i ≡ section_index road s) {b : Bool} (f : b ≡ leb (lanes_of road i) (len / 3)) where
-      room-is : leb (lanes_at words numbers s) (len / 3) ≡ b
-      room-is = sym (f ∙ rw (g, r))
-
-      pub list-short : b ≡ false → refused 11 ≡ checked (list_rows words numbers s len) (value (lanes_at words numbers s))
-      list-short k = rw (on-lent s r e, h, room-is, k)
-
-      pub list-long : b ≡ true → {n : ℕ} → n ≡ lanes_of road i → value n ≡ checked (list_rows words numbers s len) (value (lanes_at words numbers s))
-      list-long k m = rw (on-lent s r e, h, room-is, k, m, g, r)
+    pub list-asked :
+        a ≡ true → {i : ℕ} → i ≡ section_index road s → {x : Option ℕ} {y : Result ℕ Refusal} → x ≡ cond (leb (lanes_of road i) (len / 3)) (Some (lanes_of road i)) None → y ≡ ok_or x BorderSpace
+        → answered y ≡ checked (list_rows words numbers s len) (value (lanes_at words numbers s))
+    list-asked h g k m = rw (on-lent s r e, h, m, k, g, r) (by_room (leb (lanes_at words numbers s) (len / 3)))
+      where
+        by_room : (b : Bool) → answered (ok_or (cond b (Some (lanes_at words numbers s)) None) BorderSpace) ≡ cond b (value (lanes_at words numbers s)) (refused 11)
+        by_room true = refl
+        by_room false = refl
 
   -- the list as `list_borders` leaves it
-  module _ (s : Float) (xs : List Float) (road : Road) (i : ℕ) {ys : List Float} {b : Bool} (f : ys ≡ listed_by b road i s xs) where
-    pub list-kept : b ≡ false → ys ≡ xs
-    list-kept k = f ∙ rw k
-
-    pub list-made : b ≡ true → road ≡ lent → i ≡ section_index road s → (n : ℕ) → ys ≡ borders_written words numbers (value n) s xs
-    list-made k r g n = f ∙ rw (k, g, r)
+  pub list-left :
+      (s : Float) (xs : List Float) {road : Road} {i : ℕ} {ys : List Float} {x : Option ℕ} {y : Result ℕ Refusal} → road ≡ lent → i ≡ section_index road s
+      → ys ≡ listed_by (leb (lanes_of road i) (length xs / 3)) road i s xs → x ≡ cond (leb (lanes_of road i) (length xs / 3)) (Some (lanes_of road i)) None → y ≡ ok_or x BorderSpace
+      → ys ≡ borders_written words numbers (answered y) s xs
+  list-left s xs {road} {i} r g f k m = f ∙ rw (m, k) (by_room (leb (lanes_of road i) (length xs / 3)))
+    where
+      by_room : (b : Bool) → listed_by b road i s xs ≡ borders_written words numbers (answered (ok_or (cond b (Some (lanes_of road i)) None) BorderSpace)) s xs
+      by_room true = rw (g, r)
+      by_room false = refl
 
   -- the road is refused, or its own rows decide
   pub borders-refused : (s : Float) (len : ℕ) {n : ℕ} → refused n ≡ checked (road_rows words numbers) (value lent) → refused n ≡ borders_call words numbers s len

@@ -7,7 +7,6 @@ ghost use Rattle.lanes_calls.specs.LaneCalls.{borders_call, borders_list};
 use admission_arguments::on_road;
 use admission_calls::admit;
 use lanes_border_list::list_borders;
-use lanes_borders::section_lanes;
 use records_active::section_at;
 use refusals::Refusal;
 
@@ -21,8 +20,5 @@ pub fn borders(words: &[u16], numbers: &[f64], s: f64, list: &mut [f64]) -> Resu
         return Err(Refusal::Station);
     }
     let section = section_at(&road, s);
-    if !list_borders(&road, section, s, list) {
-        return Err(Refusal::BorderSpace);
-    }
-    Ok(section_lanes(&road, section))
+    list_borders(&road, section, s, list).ok_or(Refusal::BorderSpace)
 }

@@ -11,7 +11,8 @@ use Rattle.records_lent.specs.Lists.{any_below}
 use Rattle.records.specs.Roads.{Road, Lane, no_lane, section_of, lane_of}
 use Rattle.lanes.specs.Lateral.{height_toward}
 use Rattle.lanes_heights.specs.declared.across.Across.{Across}
-use Rattle.lanes_borders.specs.Borders.{sign_of, outer_after, borders_from, borders_at, base_at, side_lanes, borders_of}
+use Rattle.lanes.specs.Sides.{sign_of}
+use Rattle.lanes_borders.specs.Borders.{outer_after, borders_from, borders_at, base_at, side_lanes, borders_of}
 use Rattle.lanes_heights.specs.Heights.{level_up_to, across_by, own_heights, height_after, heights_at, across_at}
 
 -- ---- level

@@ -9,7 +9,8 @@ use Rattle.lanes_borders.specs.declared.across.LaneBorders.{LaneBorders}
 use Rattle.lanes.specs.declared.pairs.Pair.{Pair}
 use Rattle.lanes_heights.specs.declared.across.Across.{Across}
 use Rattle.lanes.specs.Lateral.{height_of, height_toward}
-use Rattle.lanes_borders.specs.Borders.{sign_of, base_at, side_lanes, borders_of}
+use Rattle.lanes.specs.Sides.{sign_of}
+use Rattle.lanes_borders.specs.Borders.{base_at, side_lanes, borders_of}
 
 -- "Level holds from its lane outward": the k-th lane or one inside it is level
 unfoldable pub level_up_to : List Lane → ℕ → Bool

@@ -1,5 +1,3 @@
-// A lane across the road.
-
 // One lane across the road at a station: the t of its inner and outer border, and its height at each, lateral shape included.
 #[derive(Clone, Copy)]
 pub struct Across {

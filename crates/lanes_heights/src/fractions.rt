@@ -3,9 +3,9 @@ ghost use Rattle.std.specs.Prelude.{◌≡◌};
 ghost use Rattle.lanes_heights.specs.HeightAcross.{fraction_at, height_across, height_within};
 
 use crate::across::Across;
-use arithmetic_ranges::clamp;
+use arithmetic_ranges::{blend, clamp};
 
-// ---- the height at t across a lane
+// How much of the way from the inner border to the outer one t lies; 0 of a lane without width.
 fn fraction_at(a: Across, t: f64) -> f64
     ensures { result ≡ fraction_at a t }
 {
@@ -17,18 +17,17 @@ fn fraction_at(a: Across, t: f64) -> f64
     }
 }
 
-// Straight from the lane's inner border to its outer one, and on past them.
+// The height straight from the lane's inner border to its outer one, and on past them.
 pub fn height_across(a: Across, t: f64) -> f64
     ensures { result ≡ height_across a t }
 {
-    let f = fraction_at(a, t);
-    a.inner_height + (a.outer_height - a.inner_height) * f
+    blend(a.inner_height, a.outer_height, fraction_at(a, t))
 }
 
-// From the lane's inner border to its outer one, with the fraction across kept to 0..1.
+// The height from the lane's inner border to its outer one, with the fraction across kept to 0..1.
 pub fn height_within(a: Across, t: f64) -> f64
     ensures { result ≡ height_within a t }
 {
     let f = clamp(1.0, fraction_at(a, t));
-    a.inner_height + (a.outer_height - a.inner_height) * f
+    blend(a.inner_height, a.outer_height, f)
 }

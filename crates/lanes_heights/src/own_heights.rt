@@ -2,6 +2,7 @@
 ghost use Rattle.std.specs.Prelude.{◌≡◌};
 ghost use Rattle.lanes.specs.Lateral.{height_of, height_between, height_held};
 
+use arithmetic_ranges::blend;
 use lanes::Pair;
 use records::{HeightDef, Heights};
 use records_active::active;
@@ -12,11 +13,12 @@ fn between(a: HeightDef, b: HeightDef, s: f64) -> Pair
 {
     let f = (s - a.s_offset) / (b.s_offset - a.s_offset);
     Pair {
-        inner: a.inner + (b.inner - a.inner) * f,
-        outer: a.outer + (b.outer - a.outer) * f,
+        inner: blend(a.inner, b.inner, f),
+        outer: blend(a.outer, b.outer, f),
     }
 }
 
+// One height on its own.
 fn held(h: HeightDef) -> Pair
     ensures { result ≡ height_held h }
 {

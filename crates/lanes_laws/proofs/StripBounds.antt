@@ -14,7 +14,7 @@ use lib.Ieee.Scale.{finite, overflow}
 use Rattle.float_laws.specs.Binary64.{◌⊕◌, ◌⊖◌, ◌⊗◌, zero64}
 use Rattle.float_laws.proofs.Value.{mag, pl, mi, Real, mag_is, one_side, under, lt→units}
 use Rattle.float_laws.proofs.Operation.{sub-Is}
-use Rattle.float_laws.proofs.Size.{Within, is-bounded, add-within, within-mono}
+use Rattle.float_laws.proofs.Size.{Within, is-bounded, add-within, le_of-within, within-mono, nn, nn-of_le}
 use Rattle.float_laws.proofs.Exact.{fixed, add-grow-l}
 use Rattle.float_laws.proofs.Checker.{good-real}
 use Rattle.std.specs.declared.option.Option.{Option}
@@ -24,7 +24,7 @@ use Rattle.records.specs.Active.{active_in, value_in}
 use Rattle.records.specs.Roads.{Road, Strip, StripDef, absent, present, strip_at}
 use Rattle.arithmetic_ranges.specs.Ranges.{not_below_zero}
 use Rattle.lanes.specs.Lateral.{strip_height, outer_height, past_width, by_width, by_side, is_left, cross_by, cross_height}
-use Rattle.lanes_borders.specs.Borders.{sign_of}
+use Rattle.lanes.specs.Sides.{sign_of}
 use Rattle.lanes_borders.proofs.Outward.{fore, back, SideSign, turned}
 use Rattle.lanes_borders.proofs.BorderLaws.{sign-whole}
 use Rattle.lanes_laws.proofs.StationBounds.{zero-within}
@@ -94,6 +94,10 @@ width-real v y g t = go (lt zero64 v) (λ h. h)
     go false h k = (zero-real.0, zero-parts.1)
 
 -- ---- the cross section
+-- what bounds a strip's term, or how far out it is asked for, has no minus
+pub nn-of : (x A : Float) → Within binary64 x A → T (nn A)
+nn-of x A w = let l = le_of-within binary64 x A w in nn-of_le binary64 x A w.value.fits w.bound.fits l.0 l.1
+
 -- the strip d is within H at s, as far out as R
 abbrev pub StripWithin : Float → Float → Float → StripDef → Type 0
 StripWithin s R H d = (dt : Float) → Within binary64 dt R → Within binary64 (strip_height d s dt) H

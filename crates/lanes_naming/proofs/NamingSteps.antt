@@ -1,36 +1,18 @@
--- The scan for the last lane that passes, as the code runs it over a side's running border, and a place as a name.
+-- The scan for the last lane that passes, as the code runs it, and a place as a name.
 use mathlib.Core.Path.{◌≡◌, refl, sym, ap, ◌∙◌}
 use mathlib.Core.Bool.{Bool, true, false, cond}
 use Prim.Native.Nat.{ℕ, zero, suc, ◌+◌, ◌<◌}
 use native.Mathlib.Omega.{arith}
 use native.Mathlib.Numerals.{add-one}
 use lib.IntN.{ℤ, pos, negsuc}
-use lib.Ieee.{Float, lt}
-use Rattle.float_laws.specs.Binary64.{◌⊖◌, ◌⊗◌, zero64}
+use lib.Ieee.{Float}
 use Rattle.std.specs.declared.option.Option.{Option}
 use Rattle.std.specs.declared.option.Option.TheVariants.{Some, None}
 use Rattle.std.specs.Option.{MatchOption, IsSomeAnd}
 use Rattle.records_lent.specs.Lists.{last_that}
 use Rattle.records.specs.declared.points.LanePlace.{LanePlace}
-use Rattle.records.specs.Roads.{Road, lane_of, section_of}
-use Rattle.lanes_borders.specs.declared.across.LaneBorders.{LaneBorders}
-use Rattle.lanes_borders.specs.Borders.{sign_of, outer_after, borders_from, borders_at, borders_of}
-use Rattle.lanes_naming.specs.Naming.{named_on, name_by, lane_named, beyond_test, beyond_on, place_by, lane_at}
-
--- ---- the running inner border
-
-module _ (road : Road) (i : ℕ) (s : Float) (right : Bool) where
-  -- a lane's inner border is the outer one of the lane before
-  pub inner-next :
-      (k : ℕ) {start inner : Float} {b : LaneBorders} → start ≡ (section_of road i).start → inner ≡ (borders_of road i s right k).inner
-      → b ≡ borders_from (lane_of road i right k) (sign_of right) inner (s ⊖ start) → b.outer ≡ (borders_of road i s right (k + 1)).inner
-  unfolding borders_at outer_after
-  inner-next k p e f = rw (add-one, f, e, p)
-
-  -- ---- the test on it
-
-  pub beyond-is : (t : Float) (k : ℕ) {sign inner : Float} {x : Bool} → sign ≡ sign_of right → inner ≡ (borders_of road i s right k).inner → lt zero64 (sign ⊗ (t ⊖ inner)) ≡ x → beyond_test (sign_of right) (borders_of road i s right k).inner t ≡ x
-  beyond-is t k {inner = inner} p e h = sym (ap (λ (x : Float). lt zero64 (x ⊗ (t ⊖ inner))) p ∙ ap (λ (y : Float). lt zero64 (sign_of right ⊗ (t ⊖ y))) e) ∙ h
+use Rattle.records.specs.Roads.{Road}
+use Rattle.lanes_naming.specs.Naming.{named_on, name_by, lane_named, beyond_on, place_by, lane_at}
 
 -- ---- the scan
 

@@ -5,7 +5,8 @@ use Rattle.float_laws.specs.Binary64.{◌⊖◌, ◌⊗◌, zero64}
 use Rattle.records_lent.specs.Lists.{last_that}
 use Rattle.records.specs.declared.points.LanePlace.{LanePlace}
 use Rattle.records.specs.Roads.{Road}
-use Rattle.lanes_borders.specs.Borders.{sign_of, side_lanes, borders_of}
+use Rattle.lanes.specs.Sides.{sign_of}
+use Rattle.lanes_borders.specs.Borders.{side_lanes, borders_of}
 
 -- ---- named: "the last with side sign × (t - inner) > 0, so none at the base, and the outermost beyond all borders"
 

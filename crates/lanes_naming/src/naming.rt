@@ -1,28 +1,25 @@
 // Which lane lies at t: the name that the naming call answers, and the lane by whose heights the surface goes.
-ghost use Rattle.std.specs.Prelude.{◌≡◌, ℕ, suc, ◌<◌, cond, Some, pos, negsuc};
+ghost use Rattle.std.specs.Prelude.{◌≡◌, ℕ, suc, ◌<◌, cond, length, Some, pos, negsuc};
+ghost use Rattle.records_lent.specs.Lists.{last_that};
 ghost use Rattle.records.specs.declared.points.LanePlace.{LanePlace};
-ghost use Rattle.lanes_naming.specs.Naming.{beyond_on, lane_named, lane_at};
+ghost use Rattle.lanes_borders.specs.Borders.{outer_after};
+ghost use Rattle.lanes_naming.specs.Naming.{beyond_test, lane_named, lane_at};
 
-use lanes_borders::{base_at, border_from, sign_of};
+use lanes_borders::SideAt;
 use records::{LanePlace, LentRoad};
-use records_lanes::LentSide;
-use records_sections::section_start;
 
 // The outermost lane of a side whose inner border t lies beyond.
-fn last_beyond(road: &LentRoad, section: usize, s: f64, t: f64, right: bool) -> Option<usize>
-    ensures value { result ≡ beyond_on road.now section s t right }
+fn last_beyond(side: &SideAt, t: f64) -> Option<usize>
+    ensures value { result ≡ last_that (λ (k : ℕ). beyond_test side.now.sign (outer_after side.now.lanes side.now.sign side.now.base side.now.into k) t) (length side.now.lanes) }
     ensures small { (k : ℕ) → result ≡ Some k → k < 65536 }
 {
-    let side = LentSide::new(road, section, right);
-    let into = s - section_start(road, section);
-    let sign = sign_of(right);
-    let mut inner = base_at(road, s);
+    let mut inner = side.base;
     let mut last = None;
-    for k in 0..side.len() {
-        if sign * (t - inner) > 0.0 {
+    for k in 0..side.lanes.len() {
+        if side.sign * (t - inner) > 0.0 {
             last = Some(k);
         }
-        inner = border_from(&side.get(k), into, sign, inner).outer;
+        inner = side.border(k, inner).outer;
     }
     last
 }
@@ -32,9 +29,10 @@ pub fn lane_at(road: &LentRoad, section: usize, s: f64, t: f64) -> Option<LanePl
     ensures value { result ≡ lane_at road.now section s t }
     ensures small { (place : LanePlace) → result ≡ Some place → place.k < 65536 }
 {
-    let (right, k) = match last_beyond(road, section, s, t, true) {
+    let (lefts, rights) = SideAt::both(road, section, s);
+    let (right, k) = match last_beyond(&rights, t) {
         Some(k) => (true, k),
-        None => (false, last_beyond(road, section, s, t, false)?),
+        None => (false, last_beyond(&lefts, t)?),
     };
     Some(LanePlace { section, right, k })
 }

@@ -3,7 +3,6 @@
 
 mod across;
 mod profiles;
-mod sides;
 mod strips;
 
 pub use across::{flat_across, height_toward};

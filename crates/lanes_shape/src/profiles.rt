@@ -2,6 +2,7 @@
 ghost use Rattle.std.specs.Prelude.{◌≡◌, ◌<◌};
 ghost use Rattle.lanes.specs.Lateral.{profile_height, shape_between, shape_of};
 
+use arithmetic_ranges::blend;
 use records::LentRoad;
 use records_active::{active, profile_at};
 use records_shapes::{profile_count, profile_start, shapes};
@@ -24,9 +25,7 @@ fn shape_between(road: &LentRoad, i: usize, s: f64, t: f64) -> f64
 {
     let from = profile_start(road, i);
     let f = (s - from) / (profile_start(road, i + 1) - from);
-    let a = profile_height(road, i, t);
-    let b = profile_height(road, i + 1, t);
-    a + (b - a) * f
+    blend(profile_height(road, i, t), profile_height(road, i + 1, t), f)
 }
 
 // The profiles' height at s and t; 0 where there is none.

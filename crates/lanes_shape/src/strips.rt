@@ -3,10 +3,10 @@ ghost use Rattle.std.specs.Prelude.{◌≡◌};
 ghost use Rattle.records.specs.Active.{active_in, value_in};
 ghost use Rattle.records.specs.Roads.{strip_at, StripDef, present, column_of};
 ghost use Rattle.lanes.specs.Lateral.{strip_height, past_width, by_width, by_side, is_left, is_present, cross_height};
-ghost use Rattle.lanes_shape.specs.Sides.{inner_of, outer_of, outward};
+ghost use Rattle.lanes.specs.Sides.{sign_of, inner_of, outer_of};
 
-use crate::sides::Side;
 use arithmetic_ranges::{abs, not_below_zero};
+use lanes::sign_of;
 use records::{LentRoad, StripKind};
 use records_active::{active, value};
 use records_shapes::{strip, strip_column};
@@ -21,6 +21,21 @@ pub(crate) fn is_present(road: &LentRoad, i: usize) -> bool
         StripKind::Absent => false,
         StripKind::Absolute | StripKind::Relative => true,
     }
+}
+
+// The number of a side's inner strip, among left inner, left outer, right inner, right outer; by numbers, as `strip` and `strip_column` take them: an
+// enum of the four would only be turned into those here.
+fn inner_of(right: bool) -> usize
+    ensures { result ≡ inner_of right }
+{
+    if right { 2 } else { 0 }
+}
+
+// The number of a side's outer strip.
+fn outer_of(right: bool) -> usize
+    ensures { result ≡ outer_of right }
+{
+    inner_of(right) + 1
 }
 
 // A column of the i-th strip at s: the width is column 0, term n column n + 1. By numbers, as `strip_column` takes them: an enum of the columns would only be turned into those here.
@@ -41,47 +56,58 @@ fn strip_height(road: &LentRoad, i: usize, s: f64, dt: f64) -> f64
     (((0.0 * dt + c3) * dt + c2) * dt + c1) * dt + c0
 }
 
-// A side whose inner strip is there and w wide: past the width the outer strip, if there is one, from the inner one's edge on.
-fn past_width(road: &LentRoad, side: Side, s: f64, t: f64, w: f64) -> f64
-    ensures { (d : StripDef) → strip_at road.now (inner_of side) ≡ present d → result ≡ past_width d (strip_at road.now (outer_of side)) s t (outward side) w }
-{
-    let inner = side.inner();
-    let sign = side.outward();
-    if w < sign * t {
-        let outer = side.outer();
-        let edge = sign * w;
-        match strip(road, outer) {
-            StripKind::Absent => strip_height(road, inner, s, t),
-            StripKind::Absolute => 0.0 + strip_height(road, outer, s, t - edge),
-            StripKind::Relative => {
-                strip_height(road, inner, s, edge) + strip_height(road, outer, s, t - edge)
+// A side of the cross section at a station.
+#[derive(Clone, Copy)]
+struct SideAt<'r, 'a> {
+    road: &'r LentRoad<'a>,
+    right: bool,
+    s: f64,
+}
+
+impl<'r, 'a> SideAt<'r, 'a> {
+    // Where the inner strip is there and w wide: past the width the outer strip, if there is one, from the inner one's edge on.
+    fn past_width(&self, t: f64, w: f64) -> f64
+        ensures { (d : StripDef) → strip_at self.now.road.now (inner_of self.now.right) ≡ present d → result ≡ past_width d (strip_at self.now.road.now (outer_of self.now.right)) self.now.s t (sign_of self.now.right) w }
+    {
+        let SideAt { road, right, s } = *self;
+        let inner = inner_of(right);
+        let sign = sign_of(right);
+        if w < sign * t {
+            let outer = outer_of(right);
+            let edge = sign * w;
+            match strip(road, outer) {
+                StripKind::Absent => strip_height(road, inner, s, t),
+                StripKind::Absolute => 0.0 + strip_height(road, outer, s, t - edge),
+                StripKind::Relative => {
+                    strip_height(road, inner, s, edge) + strip_height(road, outer, s, t - edge)
+                }
             }
+        } else {
+            strip_height(road, inner, s, t)
         }
-    } else {
-        strip_height(road, inner, s, t)
     }
-}
 
-// A side whose inner strip is there.
-fn by_width(road: &LentRoad, side: Side, s: f64, t: f64) -> f64
-    ensures { (d : StripDef) → strip_at road.now (inner_of side) ≡ present d → result ≡ by_width d (strip_at road.now (outer_of side)) s t (outward side) (active_in d.width s) }
-{
-    let inner = side.inner();
-    let widths = strip_column(road, inner, 0);
-    match active(&widths, s) {
-        Some(k) => past_width(road, side, s, t, not_below_zero(widths.get(k).eval(s))),
-        None => strip_height(road, inner, s, t),
+    // Where the inner strip is there.
+    fn by_width(&self, t: f64) -> f64
+        ensures { (d : StripDef) → strip_at self.now.road.now (inner_of self.now.right) ≡ present d → result ≡ by_width d (strip_at self.now.road.now (outer_of self.now.right)) self.now.s t (sign_of self.now.right) (active_in d.width self.now.s) }
+    {
+        let inner = inner_of(self.right);
+        let widths = strip_column(self.road, inner, 0);
+        match active(&widths, self.s) {
+            Some(k) => self.past_width(t, not_below_zero(widths.get(k).eval(self.s))),
+            None => strip_height(self.road, inner, self.s, t),
+        }
     }
-}
 
-// One side of the ridge.
-fn side_height(road: &LentRoad, side: Side, s: f64, t: f64) -> f64
-    ensures { result ≡ by_side (strip_at road.now (inner_of side)) (strip_at road.now (outer_of side)) s t (outward side) }
-{
-    if is_present(road, side.inner()) {
-        by_width(road, side, s, t)
-    } else {
-        0.0
+    // 0 where there is no inner strip.
+    fn height(&self, t: f64) -> f64
+        ensures { result ≡ by_side (strip_at self.now.road.now (inner_of self.now.right)) (strip_at self.now.road.now (outer_of self.now.right)) self.now.s t (sign_of self.now.right) }
+    {
+        if is_present(self.road, inner_of(self.right)) {
+            self.by_width(t)
+        } else {
+            0.0
+        }
     }
 }
 
@@ -101,10 +127,6 @@ pub fn cross_height(road: &LentRoad, s: f64, t: f64, toward: f64) -> f64
     ensures { result ≡ cross_height road.now s t toward }
 {
     let shifted = t - value(&road.tshifts(), s);
-    let side = if is_left(shifted, toward) {
-        Side::Left
-    } else {
-        Side::Right
-    };
-    side_height(road, side, s, shifted)
+    let right = !is_left(shifted, toward);
+    SideAt { road, right, s }.height(shifted)
 }

@@ -8,5 +8,5 @@ use Rattle.lanes_border_list.proofs.border_list.write_side.Given as goal
 
 abbrev pub invariant-loop-k : goal.invariant-loop-k
 invariant-loop-k l =
-    (l.inner ≡ outer_after l.side l.sign l.base l.s l.k)
-    × (l.list ≡ side_list (borders_at l.side l.sign l.base l.s) l.k ++ drop (l.k * 3) l.initial.list)
+    (l.inner ≡ outer_after l.side.lanes l.side.sign l.side.base l.side.into l.k)
+    × (l.list ≡ side_list (borders_at l.side.lanes l.side.sign l.side.base l.side.into) l.k ++ drop (l.k * 3) l.initial.list)

@@ -2,7 +2,7 @@
 use mathlib.Core.Path.{refl, ◌∙◌}
 use lib.ListN.{length}
 use Rattle.refusals.proofs.ResultLaws.{told}
-use Rattle.lanes_calls.proofs.CallLaws.{admitted-road, list-off, list-short, list-long, list-kept, list-made, list-by, borders-refused, borders-admitted}
+use Rattle.lanes_calls.proofs.CallLaws.{admitted-road, list-off, list-asked, list-left, list-by, borders-refused, borders-admitted}
 use Rattle.lanes_calls.proofs.border_call.borders.Goals as goal
 
 pub returns-in_err-road : goal.returns-in_err-road
@@ -23,19 +23,6 @@ returns-then-not-on_road c =
     let e = borders-admitted w d s (length xs) c.in_ok-road.ensures (λ r. list-off w d s (length xs) r c.on_road.ensures c.if-not-on_road.true) in
     record { result_value = e; list_after = list-by w d s xs e refl }
 
-pub returns-then-not-list_borders : goal.returns-then-not-list_borders
-returns-then-not-list_borders c =
-    let w = c.args.words.now in
-    let d = c.args.numbers.now in
-    let s = c.args.s in
-    let xs = c.args.list.now in
-    let listed = c.list_borders.ensures in
-    let e =
-    borders-admitted w d s (length xs) c.in_ok-road.ensures
-    (λ r. list-short w d s (length xs) r c.on_road.ensures c.if-not-on_road.false c.section_at-section.ensures listed.value c.if-not-list_borders.true)
-    in
-    record { result_value = e; list_after = list-by w d s xs e (list-kept w d s xs _ _ listed.list_after c.if-not-list_borders.true) }
-
 pub returns : goal.returns
 returns c =
     let w = c.args.words.now in
@@ -43,8 +30,8 @@ returns c =
     let s = c.args.s in
     let xs = c.args.list.now in
     let listed = c.list_borders.ensures in
-    let e =
-    borders-admitted w d s (length xs) c.in_ok-road.ensures
-    (λ r. list-long w d s (length xs) r c.on_road.ensures c.if-not-on_road.false c.section_at-section.ensures listed.value c.if-not-list_borders.false c.section_lanes.ensures)
-    in
-    record { result_value = e; list_after = list-by w d s xs e (list-made w d s xs _ _ listed.list_after c.if-not-list_borders.false (admitted-road w d c.in_ok-road.ensures) c.section_at-section.ensures c.section_lanes.result) }
+    let told = c.ok_or.ensures.value in
+    let section = c.section_at-section.ensures in
+    let road = c.in_ok-road.ensures in
+    let e = borders-admitted w d s (length xs) road (λ r. list-asked w d s (length xs) r c.on_road.ensures c.if-not-on_road.false section listed.value told) in
+    record { result_value = e; list_after = list-by w d s xs e (list-left w d s xs (admitted-road w d road) section listed.list_after listed.value told) }

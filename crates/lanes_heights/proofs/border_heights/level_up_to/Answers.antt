@@ -3,14 +3,11 @@ use mathlib.Core.Path.{ap, ◌∙◌}
 use borrow.Author.Rules.{rules}
 use Rattle.records.specs.Roads.{Lane}
 use Rattle.records_lent.proofs.RangeLaws.{any_range}
-use Rattle.lanes_borders.specs.Borders.{side_lanes}
 use Rattle.lanes_heights.proofs.RaisingSteps.{is_level, level-here}
 use Rattle.lanes_heights.proofs.border_heights.level_up_to.Goals as goal
 
 pub returns : goal.returns
 returns c =
-    let place = c.args.place in
-    let side = c.new-side in
-    level-here (side_lanes c.args.road.now place.section place.right) place.k
-    (rw side.ensures at (any_range (is_level side.result) place.k c.any.ensures.ran (λ x b q k. search rules)))
-    (ap (λ (l : Lane). l.level) (c.result.view_is ∙ rw side.ensures at c.get.ensures))
+    let a = c.args in
+    level-here a.lanes.now a.k (any_range (is_level a.lanes.now) a.k c.any.ensures.ran (λ x b q k. search rules))
+    (ap (λ (l : Lane). l.level) (c.result.view_is ∙ c.get.ensures))

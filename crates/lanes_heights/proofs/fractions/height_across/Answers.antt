@@ -4,4 +4,4 @@ use Rattle.lanes_heights.proofs.fractions.height_across.Goals as goal
 
 pub returns : goal.returns
 unfolding height_across
-returns c = rw c.fraction_at-f.ensures
+returns c = rw (c.blend.ensures, c.fraction_at.ensures)

@@ -4,4 +4,4 @@ use Rattle.lanes_heights.proofs.fractions.height_within.Goals as goal
 
 pub returns : goal.returns
 unfolding height_within
-returns c = rw (c.clamp-f.ensures, c.fraction_at.ensures)
+returns c = rw (c.blend.ensures, c.clamp-f.ensures, c.fraction_at.ensures)

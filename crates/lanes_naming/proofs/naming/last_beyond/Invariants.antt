@@ -4,15 +4,15 @@ use mathlib.Core.Bool.{Bool}
 use lib.Ieee.{Float}
 use Prim.Native.Nat.{ℕ}
 use Rattle.records_lent.specs.Lists.{last_that}
-use Rattle.records.specs.Roads.{Road}
-use Rattle.lanes_borders.specs.Borders.{sign_of, borders_of}
+use Rattle.lanes_borders.specs.Borders.{outer_after}
+use Rattle.lanes_borders.specs.declared.sides.SideAt.{SideAt}
 use Rattle.lanes_naming.specs.Naming.{beyond_test}
 use Rattle.lanes_naming.proofs.naming.last_beyond.Given as goal
 
-abbrev pub passes : Road → ℕ → Float → Float → Bool → ℕ → Bool
-passes road section s t right k = beyond_test (sign_of right) (borders_of road section s right k).inner t
+abbrev pub passes : SideAt → Float → ℕ → Bool
+passes side t k = beyond_test side.sign (outer_after side.lanes side.sign side.base side.into k) t
 
 abbrev pub invariant-loop-k : goal.invariant-loop-k
 invariant-loop-k l =
-    (l.inner ≡ (borders_of l.road l.section l.s l.right l.k).inner)
-    × (l.last ≡ last_that (passes l.road l.section l.s l.t l.right) l.k)
+    (l.inner ≡ outer_after l.side.lanes l.side.sign l.side.base l.side.into l.k)
+    × (l.last ≡ last_that (passes l.side l.t) l.k)

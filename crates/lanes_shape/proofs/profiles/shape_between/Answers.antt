@@ -4,4 +4,4 @@ use Rattle.lanes_shape.proofs.profiles.shape_between.Goals as goal
 
 pub returns : goal.returns
 unfolding shape_between
-returns c = rw (c.profile_start-from.ensures, c.profile_start.ensures, c.profile_height-a.ensures, c.profile_height-b.ensures)
+returns c = rw (c.blend.ensures, c.profile_start-from.ensures, c.profile_start.ensures, c.profile_height.ensures, c.profile_height-2.ensures)

@@ -1,15 +1,15 @@
 use mathlib.Core.Path.{◌≡◌}
 use native.Mathlib.Omega.{arith}
 use Rattle.lanes_borders.proofs.BorderSteps.{outer-none, outer-turn}
-use Rattle.lanes_borders.proofs.borders.outer_after.Goals as goal
+use Rattle.lanes_borders.proofs.sides.SideAt.outer_after.Goals as goal
 
 pub loop-k-init : goal.loop-k-init
-loop-k-init c = let a = c.args in outer-none a.side.now a.sign a.base a.s
+loop-k-init c = let a = c.args.self.now in outer-none a.lanes a.sign a.base a.into
 
 pub loop-k-preserved : goal.loop-k-preserved
 loop-k-preserved c =
-    let a = c.args in
-    outer-turn a.side.now a.sign a.base a.s c.loop-k.k c.loop-k.invariant (rw c.get.ensures at c.border_from-t.ensures)
+    let a = c.args.self.now in
+    outer-turn a.lanes a.sign a.base a.into c.loop-k.k c.loop-k.invariant c.border-t.ensures
 
 pub returns : goal.returns
 returns c =

@@ -1,10 +1,10 @@
--- `stacked_across`: before turn k the edge is that of the k lanes inside.
+-- `lane_across`: before turn k the edge is that of the k lanes inside.
 use mathlib.Core.Path.{◌≡◌}
 use Rattle.records_lent.specs.Lists.{any_below}
 use Rattle.lanes_borders.specs.Borders.{side_lanes, borders_of}
 use Rattle.lanes_heights.specs.Heights.{height_after}
 use Rattle.lanes_heights.proofs.RaisingSteps.{is_level}
-use Rattle.lanes_heights.proofs.border_heights.stacked_across.Given as goal
+use Rattle.lanes_heights.proofs.border_heights.lane_across.Given as goal
 
 abbrev pub invariant-loop-k : goal.invariant-loop-k
 invariant-loop-k l =

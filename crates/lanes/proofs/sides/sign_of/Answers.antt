@@ -1,6 +1,6 @@
 -- `sign_of`: by the side.
 use lib.Ieee.{neg, of_bits}
-use Rattle.lanes_borders.proofs.borders.sign_of.Goals as goal
+use Rattle.lanes.proofs.sides.sign_of.Goals as goal
 
 pub returns-then-right : goal.returns-then-right
 unfolding neg of_bits
