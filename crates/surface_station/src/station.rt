@@ -19,7 +19,7 @@ pub fn pose_at(lent: &SampledRoad, s: f64) -> Pose
     line_pose::pose(lent, geom_at(&lent.road, s), s)
 }
 
-// That pose with the sine and the cosine of its heading.
+// The pose at s with the sine and the cosine of its heading.
 #[tactic(auto, unfolding(crate::specs::Station::pose_at))]
 pub fn bearing_at(lent: &SampledRoad, s: f64) -> Bearing
     ensures { result ≡ bearing_of (pose_at lent.now.road lent.now.samples.now s) }
