@@ -45,16 +45,16 @@ pub fn station_at(lent: &SampledRoad, s: f64) -> RefPoint
     ensures { result ≡ station_of lent.now.road lent.now.samples.now s }
 {
     let p = pose_at(lent, s);
-    let elev = lent.road.elevations();
-    let bank = lent.road.superelevations();
+    let elevations = lent.road.elevations();
+    let banks = lent.road.superelevations();
     RefPoint {
         s,
         x: p.x,
         y: p.y,
         heading: p.heading,
-        z: value(&elev, s),
-        grade: slope(&elev, s),
-        bank: value(&bank, s),
-        bank_rate: slope(&bank, s),
+        z: value(&elevations, s),
+        grade: slope(&elevations, s),
+        bank: value(&banks, s),
+        bank_rate: slope(&banks, s),
     }
 }
