@@ -4,16 +4,16 @@ use native.Mathlib.Omega.{arith}
 use native.Mathlib.Nat.{add-zero}
 use native.Mathlib.Numerals.{add-one}
 use mathlib.Core.Path.{◌≡◌, refl, sym, ◌∙◌, ap}
-use mathlib.Core.List.{List, [], ◌∷◌, ◌++◌}
-use lib.ListN.{length, drop, set}
-use lib.Seq.{sets, sets-eq}
+use mathlib.Core.List.{List, [], ◌∷◌, ◌++◌, append-nil, append_assoc}
+use lib.ListN.{length, take, drop, set}
+use lib.Seq.{sets, sets-eq, drop-drop, drop-length}
 use lib.Ieee.{Float}
 use Rattle.records.specs.declared.points.GeomRec.{GeomRec}
 use Rattle.records.specs.declared.points.GeomShape.TheVariants.{Line, Arc, Spiral}
 use Rattle.records.specs.Roads.{Road, geom_at}
 use Rattle.line_samples.specs.declared.points.Sample.{Sample}
 use Rattle.line_samples.specs.Samples.{spiral_steps, sample_count, samples_before, samples_needed, first_sample, next_sample, later_samples, geom_samples, samples_up_to, flat, samples_of}
-use Rattle.line_samples.proofs.SpiralLaws.{count-spiral, before-next, before-mono, samples-are, up_to-next, length-up_to, length-flat, flat_append, length-samples_of}
+use Rattle.line_samples.proofs.SpiralLaws.{count-spiral, count-arc, count-line, before-next, before-mono, length-after, length-samples, samples-are, up_to-next, length-up_to, length-flat, flat_append, length-samples_of}
 
 pub sets-append : {A : Type 0} (vs ws l : List A) (i : ℕ) → sets l i (vs ++ ws) ≡ sets (sets l i vs) (i + length vs) ws
 sets-append [] ws l i = ap (λ (k : ℕ). sets l k ws) (sym (add-zero i))
@@ -29,14 +29,19 @@ sets-after vs ws l i k e f h =
     ∙ ap (λ (m : ℕ). sets (sets l i vs) m ws) (sym e)
     ∙ sym (sets-append vs ws l i)
 
--- the four stores of a sample
-pub put_is : (l : List Float) (at : ℕ) (p : Sample) → set (set (set (set l at p.distance) (at + 1) p.x) (at + 2) p.y) (at + 3) p.heading ≡ sets l at (flat (p ∷ []))
-unfolding flat
-put_is l at p =
-    let one : at + 1 ≡ suc at = omega arith in
-    let two : at + 2 ≡ suc (suc at) = omega arith in
-    let three : at + 3 ≡ suc (suc (suc at)) = omega arith in
-    rw (one, two, three)
+-- a part lent and given back is a run of stores
+part_is : (xs ys : List Float) (at k : ℕ) → length ys ≡ k → at + k ≤ length xs → take at xs ++ (ys ++ drop k (drop at xs)) ≡ sets xs at ys
+part_is xs ys at k n h =
+    let e : at + length ys ≡ at + k = omega arith in
+    let l : at + length ys ≤ length xs = omega arith in
+    sym (append_assoc (take at xs) ys (drop k (drop at xs))) ∙ ap (λ (r : List Float). take at xs ++ ys ++ r) (drop-drop k at xs ∙ ap (λ (m : ℕ). drop m xs) (sym e)) ∙ sym (sets-eq ys xs at l)
+
+-- a run of stores that takes the whole list
+sets-whole : (xs ys : List Float) → length ys ≡ length xs → sets xs 0 ys ≡ ys
+sets-whole xs ys n =
+    let l : 0 + length ys ≤ length xs = omega arith in
+    let e : 0 + length ys ≡ length xs = omega arith in
+    sets-eq ys xs 0 l ∙ ap (λ (m : ℕ). ys ++ drop m xs) e ∙ ap (λ (r : List Float). ys ++ r) (drop-length xs) ∙ append-nil ys
 
 -- a sample before others
 flat-cons : (p : Sample) (ps : List Sample) → flat (p ∷ ps) ≡ flat (p ∷ []) ++ flat ps
@@ -52,6 +57,15 @@ sets-cons p ps xs i k e f h =
     let n = length-one p in
     sets-after (flat (p ∷ [])) (flat ps) xs i k (omega arith) f h ∙ ap (sets xs i) (sym (flat-cons p ps))
 
+-- a sample's part, lent by its two ends
+pub put-part : (p : Sample) (xs : List Float) (at : ℕ) {ys : List Float} → ys ≡ flat (p ∷ []) → at + 4 ≤ length xs → take at xs ++ (ys ++ drop (at + 4 - at) (drop at xs)) ≡ sets xs at (flat (p ∷ []))
+put-part p xs at {ys} e h =
+    let n = length-one p in
+    let m : length ys ≡ length (flat (p ∷ [])) = ap length e in
+    let k : length ys ≡ at + 4 - at = omega arith in
+    let l : at + (at + 4 - at) ≤ length xs = omega arith in
+    part_is xs ys at (at + 4 - at) k l ∙ ap (sets xs at) e
+
 -- ---- the samples of a spiral after a first
 
 module _ (g : GeomRec) (k0 k1 : Float) where
@@ -63,56 +77,69 @@ module _ (g : GeomRec) (k0 k1 : Float) where
   unfolding later_samples flat
   after_none p = refl
 
-  -- the loop: its start, a turn, its end
-  pub steps-none : (l : List Float) (at n : ℕ) (p : Sample) → sets l (at + 0 * 4) (flat (later_samples g k0 k1 (n - 0) p)) ≡ sets l at (flat (later_samples g k0 k1 n p))
-  steps-none l at n p =
-      let a : at + 0 * 4 ≡ at = omega arith in
-      let b : n - 0 ≡ n = omega arith in
-      ap (λ (k : ℕ). sets l k (flat (later_samples g k0 k1 (n - 0) p))) a ∙ ap (λ (k : ℕ). sets l at (flat (later_samples g k0 k1 k p))) b
-
-  pub steps-turn : (at n i : ℕ) (p : Sample) (xs : List Float) {q : Sample} {ys : List Float} → i < n → q ≡ next_sample g k0 k1 p → ys ≡ sets xs (at + i * 4) (flat (q ∷ []))
-      → sets ys (at + (i + 1) * 4) (flat (later_samples g k0 k1 (n - (i + 1)) q)) ≡ sets xs (at + i * 4) (flat (later_samples g k0 k1 (n - i) p))
-  steps-turn at n i p xs {q} {ys} h e f =
+  -- the loop: a turn, its end
+  pub steps-turn : (n i : ℕ) (p : Sample) (xs : List Float) {q : Sample} {ys : List Float} → i < n → q ≡ next_sample g k0 k1 p → ys ≡ sets xs (i * 4) (flat (q ∷ []))
+      → sets ys ((i + 1) * 4) (flat (later_samples g k0 k1 (n - (i + 1)) q)) ≡ sets xs (i * 4) (flat (later_samples g k0 k1 (n - i) p))
+  steps-turn n i p xs {q} {ys} h e f =
       let m : suc (n - (i + 1)) ≡ n - i = omega arith in
-      let k : at + i * 4 + 4 ≡ at + (i + 1) * 4 = omega arith in
-      sets-cons q (later_samples g k0 k1 (n - (i + 1)) q) xs (at + i * 4) (at + (i + 1) * 4) k f refl
-      ∙ ap (λ (s : Sample). sets xs (at + i * 4) (flat (s ∷ later_samples g k0 k1 (n - (i + 1)) s))) e
-      ∙ ap (λ (s : List Sample). sets xs (at + i * 4) (flat s)) (sym (after_next (n - (i + 1)) p))
-      ∙ ap (λ (s : ℕ). sets xs (at + i * 4) (flat (later_samples g k0 k1 s p))) m
+      let k : i * 4 + 4 ≡ (i + 1) * 4 = omega arith in
+      sets-cons q (later_samples g k0 k1 (n - (i + 1)) q) xs (i * 4) ((i + 1) * 4) k f refl
+      ∙ ap (λ (s : Sample). sets xs (i * 4) (flat (s ∷ later_samples g k0 k1 (n - (i + 1)) s))) e
+      ∙ ap (λ (s : List Sample). sets xs (i * 4) (flat s)) (sym (after_next (n - (i + 1)) p))
+      ∙ ap (λ (s : ℕ). sets xs (i * 4) (flat (later_samples g k0 k1 s p))) m
 
-  pub steps-end : (at n i : ℕ) (p : Sample) (xs : List Float) → n ≤ i → sets xs at (flat (later_samples g k0 k1 (n - i) p)) ≡ xs
-  steps-end at n i p xs h =
+  pub steps-end : (n i : ℕ) (p q : Sample) (l xs : List Float) → n ≤ i → length l ≡ n * 4
+      → sets xs (i * 4) (flat (later_samples g k0 k1 (n - i) q)) ≡ sets l 0 (flat (later_samples g k0 k1 n p)) → xs ≡ flat (later_samples g k0 k1 n p)
+  steps-end n i p q l xs h e f =
       let m : n - i ≡ 0 = omega arith in
-      ap (λ (s : ℕ). sets xs at (flat (later_samples g k0 k1 s p))) m ∙ ap (λ (s : List Float). sets xs at s) (after_none p)
+      let a = length-flat (later_samples g k0 k1 n p) in
+      let b = length-after g k0 k1 n p in
+      let w : length (flat (later_samples g k0 k1 n p)) ≡ length l = omega arith in
+      sym (ap (λ (s : ℕ). sets xs (i * 4) (flat (later_samples g k0 k1 s q))) m ∙ ap (λ (s : List Float). sets xs (i * 4) s) (after_none q))
+      ∙ f
+      ∙ sets-whole l (flat (later_samples g k0 k1 n p)) w
 
 -- ---- one geometry
 
-pub geom-spiral : (g : GeomRec) {k0 k1 : Float} (at n : ℕ) (xs : List Float) {p : Sample} {ys zs : List Float}
+pub geom-spiral : (g : GeomRec) {k0 k1 : Float} (n : ℕ) {p : Sample} {ys zs : List Float}
     → g.shape ≡ Spiral k0 k1
-    → n ≡ sample_count g
+    → suc n ≡ sample_count g
     → p ≡ first_sample g
-    → ys ≡ sets xs at (flat (p ∷ []))
-    → zs ≡ sets ys (at + 4) (flat (later_samples g k0 k1 (n - 1) p))
-    → zs ≡ sets xs at (flat (geom_samples g))
-geom-spiral g {k0} {k1} at n xs {p} s e f h k =
+    → ys ≡ flat (p ∷ [])
+    → zs ≡ flat (later_samples g k0 k1 n p)
+    → ys ++ zs ≡ flat (geom_samples g)
+geom-spiral g {k0} {k1} n {p} {ys} {zs} s e f h k =
     let w = count-spiral g s refl in
-    let m : n - 1 ≡ spiral_steps g.length = omega arith in
-    sets-cons p (later_samples g k0 k1 (n - 1) p) xs at (at + 4) refl h k
-    ∙ ap (λ (q : Sample). sets xs at (flat (q ∷ later_samples g k0 k1 (n - 1) q))) f
-    ∙ ap (λ (j : ℕ). sets xs at (flat (first_sample g ∷ later_samples g k0 k1 j (first_sample g)))) m
-    ∙ ap (λ (qs : List Sample). sets xs at (flat qs)) (sym (samples-are g s))
+    let m : n ≡ spiral_steps g.length = omega arith in
+    ap (λ (l : List Float). l ++ zs) h
+    ∙ ap (λ (l : List Float). flat (p ∷ []) ++ l) k
+    ∙ sym (flat-cons p (later_samples g k0 k1 n p))
+    ∙ ap (λ (q : Sample). flat (q ∷ later_samples g k0 k1 n q)) f
+    ∙ ap (λ (j : ℕ). flat (first_sample g ∷ later_samples g k0 k1 j (first_sample g))) m
+    ∙ ap flat (sym (samples-are g s))
 
 -- a spiral has at least one sample
 pub geom-some : (g : GeomRec) {k0 k1 : Float} → g.shape ≡ Spiral k0 k1 → 1 ≤ sample_count g
 geom-some g s = let w = count-spiral g s refl in omega arith
 
-pub geom-arc : (g : GeomRec) {k : Float} (at : ℕ) (xs : List Float) → g.shape ≡ Arc k → xs ≡ sets xs at (flat (geom_samples g))
-unfolding geom_samples flat
-geom-arc g at xs s = rw s
+-- an arc and a line have none, and no room
+empty : (xs : List Float) → length xs ≡ 0 → xs ≡ []
+empty [] h = refl
+empty (x ∷ xs) h = absurd (omega (arith, h))
 
-pub geom-line : (g : GeomRec) (at : ℕ) (xs : List Float) → g.shape ≡ Line → xs ≡ sets xs at (flat (geom_samples g))
+pub geom-arc : (g : GeomRec) {k : Float} (xs : List Float) → g.shape ≡ Arc k → length xs ≡ sample_count g * 4 → xs ≡ flat (geom_samples g)
 unfolding geom_samples flat
-geom-line g at xs s = rw s
+geom-arc g xs s e =
+    let w = count-arc g s in
+    let z : length xs ≡ 0 = omega arith in
+    empty xs z ∙ rw s
+
+pub geom-line : (g : GeomRec) (xs : List Float) → g.shape ≡ Line → length xs ≡ sample_count g * 4 → xs ≡ flat (geom_samples g)
+unfolding geom_samples flat
+geom-line g xs s e =
+    let w = count-line g s in
+    let z : length xs ≡ 0 = omega arith in
+    empty xs z ∙ rw s
 
 -- ---- all geometries
 
@@ -142,14 +169,20 @@ module _ (road : Road) where
       let c : samples_before road (i + 1) ≡ samples_before road (suc i) = ap (samples_before road) (add-one i) in
       omega arith
 
-  pub all-turn : (i : ℕ) (l : List Float) {at : ℕ} {xs ys : List Float} {g : GeomRec} → at ≡ samples_before road i * 4 → g ≡ geom_at road i
-      → xs ≡ sets l 0 (flat (samples_up_to road i)) → ys ≡ sets xs at (flat (geom_samples g)) → ys ≡ sets l 0 (flat (samples_up_to road (i + 1)))
-  all-turn i l {at} {xs} {ys} {g} e f h k =
+  pub all-turn : (i : ℕ) (l : List Float) {at count : ℕ} {xs ys : List Float} {g : GeomRec} → at ≡ samples_before road i * 4 → g ≡ geom_at road i → count ≡ sample_count g → at + count * 4 ≤ length xs
+      → xs ≡ sets l 0 (flat (samples_up_to road i)) → ys ≡ flat (geom_samples g)
+      → take at xs ++ (ys ++ drop (at + count * 4 - at) (drop at xs)) ≡ sets l 0 (flat (samples_up_to road (i + 1)))
+  all-turn i l {at} {count} {xs} {ys} {g} e f c r h k =
       let a = length-flat (samples_up_to road i) in
       let b = length-up_to road i in
       let p : 0 + length (flat (samples_up_to road i)) ≡ at = omega arith in
-      let q : ys ≡ sets xs at (flat (geom_samples (geom_at road i))) = k ∙ ap (λ (s : GeomRec). sets xs at (flat (geom_samples s))) f in
-      sets-after (flat (samples_up_to road i)) (flat (geom_samples (geom_at road i))) l 0 at p h q
+      let own : ys ≡ flat (geom_samples (geom_at road i)) = k ∙ ap (λ (s : GeomRec). flat (geom_samples s)) f in
+      let n = length-flat (geom_samples g) in
+      let m = length-samples g in
+      let w : length ys ≡ length (flat (geom_samples g)) = ap length k in
+      let o : length ys ≡ at + count * 4 - at = omega arith in
+      let v : at + (at + count * 4 - at) ≤ length xs = omega arith in
+      sets-after (flat (samples_up_to road i)) (flat (geom_samples (geom_at road i))) l 0 at p h (part_is xs ys at (at + count * 4 - at) o v ∙ ap (sets xs at) own)
       ∙ ap (sets l 0) (sym (flat_append (samples_up_to road i) (geom_samples (geom_at road i))))
       ∙ ap (λ (s : List Sample). sets l 0 (flat s)) (sym (up_to-next road i))
       ∙ ap (λ (s : ℕ). sets l 0 (flat (samples_up_to road s))) (sym (add-one i))

@@ -1,6 +1,6 @@
 // The samples of a road's spirals, written into a lent slice, four f64 each: distance, x, y, heading.
 // Two slices are lent and no `LentRoad`: they are a road only once `admit` has answered one.
-ghost use Rattle.std.specs.Prelude.{◌≡◌, [], ◌∷◌, ◌++◌, ◌+◌, ◌*◌, ◌≤◌, length, drop};
+ghost use Rattle.std.specs.Prelude.{◌≡◌, [], ◌∷◌, ◌++◌, ◌+◌, ◌*◌, ◌/◌, ◌≤◌, length, drop};
 ghost use Rattle.std.proofs.lemmas.List.Edits.{sets};
 ghost use Rattle.refusals.specs.Answer.{answered};
 ghost use Rattle.line_samples.specs.Samples.{sample_stride, sample_count, samples_needed, later_samples, samples_of, geom_samples, flat};
@@ -13,40 +13,40 @@ use records::{GeomRec, GeomShape, LentRoad};
 use records_geometry::geom;
 use refusals::Refusal;
 
-// One sample at a place: four stores, as short as an array of the four and its copy.
-fn put(samples: &mut [f64], at: usize, p: Sample)
-    requires { at + sample_stride ≤ length samples.old }
-    ensures { samples.new ≡ sets samples.old at (flat (p ∷ [])) }
+// One sample, in a part of four numbers.
+#[tactic(auto, unfolding(line_samples::specs::Samples::flat))]
+fn put(part: &mut [f64], p: Sample)
+    requires { length part.old ≡ sample_stride }
+    ensures { part.new ≡ flat (p ∷ []) }
 {
-    samples[at] = p.distance;
-    samples[at + 1] = p.x;
-    samples[at + 2] = p.y;
-    samples[at + 3] = p.heading;
+    part.copy_from_slice(&[p.distance, p.x, p.y, p.heading]);
 }
 
-// The n samples after p, from a place on.
-fn write_steps(spiral: &Spiral, p: Sample, samples: &mut [f64], at: usize, n: usize)
-    requires { at + n * sample_stride ≤ length samples.old }
-    ensures { samples.new ≡ sets samples.old at (flat (later_samples spiral.now.geom spiral.now.k0 spiral.now.k1 n p)) }
+// The samples after p, as many as the part has room for. By index: once a loop over `chunks_mut` is over, a proof knows how long the slice is and not what it holds.
+fn write_steps(spiral: &Spiral, p: Sample, part: &mut [f64])
+    requires { length part.old ≡ length part.old / sample_stride * sample_stride }
+    ensures { part.new ≡ flat (later_samples spiral.now.geom spiral.now.k0 spiral.now.k1 (length part.old / sample_stride) p) }
 {
     let mut last = p;
-    for i in 0..n {
+    for i in 0..part.len() / SAMPLE_STRIDE {
         last = spiral.next_sample(last);
-        put(samples, at + i * SAMPLE_STRIDE, last);
+        let at = i * SAMPLE_STRIDE;
+        put(&mut part[at..at + SAMPLE_STRIDE], last);
     }
 }
 
-// The n samples of one geometry, from a place on.
-fn write_geom(geom: GeomRec, samples: &mut [f64], at: usize, n: usize)
-    requires { (at + n * sample_stride ≤ length samples.old) × (n ≡ sample_count geom) }
-    ensures { samples.new ≡ sets samples.old at (flat (geom_samples geom)) }
+// The samples of one geometry, whose part of the slice is lent.
+fn write_geom(geom: GeomRec, part: &mut [f64])
+    requires { length part.old ≡ sample_count geom * sample_stride }
+    ensures { part.new ≡ flat (geom_samples geom) }
 {
     match geom.shape {
         GeomShape::Spiral(k0, k1) => {
             let spiral = Spiral { geom, k0, k1 };
-            let first = spiral.first_sample();
-            put(samples, at, first);
-            write_steps(&spiral, first, samples, at + SAMPLE_STRIDE, n - 1);
+            let start = spiral.first_sample();
+            let (first, later) = part.split_at_mut(SAMPLE_STRIDE);
+            put(first, start);
+            write_steps(&spiral, start, later);
         }
         GeomShape::Arc(_) | GeomShape::Line => {}
     }
@@ -60,9 +60,9 @@ fn write_all(road: &LentRoad, samples: &mut [f64])
     let mut at = 0;
     for i in 0..road.geom_count() {
         let g = geom(road, i);
-        let count = sample_count(g);
-        write_geom(g, samples, at, count);
-        at += count * SAMPLE_STRIDE;
+        let end = at + sample_count(g) * SAMPLE_STRIDE;
+        write_geom(g, &mut samples[at..end]);
+        at = end;
     }
 }
 

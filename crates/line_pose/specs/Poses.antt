@@ -3,7 +3,7 @@ use Rattle.std.specs.Prelude.{ℕ, zero, suc, ◌+◌, ◌-◌, min, cond, List,
 use Rattle.std.specs.Float.Ieee.{lt, le}
 use Rattle.float_laws.specs.Binary64.{◌⊕◌, ◌⊖◌, ◌⊗◌, ◌⊘◌, zero64, abs_of}
 use Rattle.arithmetic_sine.specs.Sine.{sine_of, cosine_of}
-use Rattle.arithmetic_ranges.specs.Ranges.{clamped}
+use Rattle.arithmetic_ranges.specs.Ranges.{clamped, blend}
 use Rattle.records.specs.declared.points.GeomRec.{GeomRec}
 use Rattle.records.specs.declared.points.GeomShape.{GeomShape}
 use Rattle.records.specs.declared.points.GeomShape.TheVariants.{Line, Arc, Spiral}
@@ -51,12 +51,7 @@ fraction_of a b d = cond (lt a b) ((d ⊖ a) ⊘ (b ⊖ a)) zero64
 
 -- straight from one sample to the next
 abbrev pub between : Sample → Sample → Float → Pose
-between a b f =
-    record {
-      x = a.x ⊕ (b.x ⊖ a.x) ⊗ f;
-      y = a.y ⊕ (b.y ⊖ a.y) ⊗ f;
-      heading = a.heading ⊕ (b.heading ⊖ a.heading) ⊗ f;
-    }
+between a b f = record { x = blend a.x b.x f; y = blend a.y b.y f; heading = blend a.heading b.heading f }
 
 -- "answers follow what it holds", the caller's slice
 unfoldable pub spiral_pose : List Float → ℕ → ℕ → Float → Pose

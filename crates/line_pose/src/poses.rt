@@ -53,13 +53,6 @@ fn arc_or_line(g: GeomRec, k: f64, ds: f64) -> Bearing
     }
 }
 
-fn turned(pose: Pose) -> Bearing
-    ensures { result ≡ bearing_of pose }
-{
-    let turn = sin_cos(pose.heading);
-    Bearing { pose, turn }
-}
-
 // The pose of the i-th geometry at s, with the lent samples, and the sine and the cosine of its heading.
 #[tactic(auto, unfolding(crate::specs::Poses::pose_of))]
 pub fn bearing_of(lent: &SampledRoad, i: usize, s: f64) -> Bearing
@@ -76,12 +69,12 @@ pub fn bearing_of(lent: &SampledRoad, i: usize, s: f64) -> Bearing
                 first: samples_before(&lent.road, i),
                 count: sample_count(g),
             };
-            turned(spiral.pose(ds))
+            Bearing::from(spiral.pose(ds))
         }
     }
 }
 
-// The pose of the i-th geometry at s alone.
+// The pose of the i-th geometry at s, without the sine and the cosine of its heading.
 pub fn pose(lent: &SampledRoad, i: usize, s: f64) -> Pose
     ensures { result ≡ pose_of lent.now.road lent.now.samples.now i s }
 {

@@ -3,7 +3,7 @@ ghost use Rattle.std.specs.Prelude.{◌≡◌, true, ℕ, ◌+◌, ◌-◌, ◌*
 ghost use Rattle.line_samples.specs.Samples.{sample_stride, sample_at};
 ghost use Rattle.line_pose.specs.Poses.{leading, segment, fraction_of, between, spiral_pose};
 
-use arithmetic_ranges::clamp;
+use arithmetic_ranges::{blend, clamp};
 use line_samples::{Pose, SAMPLE_STRIDE, Sample};
 use records_lent::number;
 
@@ -33,9 +33,9 @@ fn between_samples(a: Sample, b: Sample, f: f64) -> Pose
     ensures { result ≡ between a b f }
 {
     Pose {
-        x: a.x + (b.x - a.x) * f,
-        y: a.y + (b.y - a.y) * f,
-        heading: a.heading + (b.heading - a.heading) * f,
+        x: blend(a.x, b.x, f),
+        y: blend(a.y, b.y, f),
+        heading: blend(a.heading, b.heading, f),
     }
 }
 

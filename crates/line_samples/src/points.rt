@@ -1,6 +1,7 @@
-// A sample of a spiral: the distance into it, the place and the heading there.
+// What the reference line is made of beside its records: a spiral's samples, the spiral that they are made from, and a pose.
 use records::GeomRec;
 
+// One sample: the distance into the spiral, the place and the heading there.
 #[derive(Clone, Copy)]
 pub struct Sample {
     pub distance: f64,

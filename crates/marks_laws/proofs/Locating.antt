@@ -5,7 +5,7 @@ use mathlib.Core.List.{List}
 use lib.Ieee.{Float}
 use Rattle.records.specs.Roads.{Road}
 use Rattle.surface_points.specs.Plan.{plan_of}
-use Rattle.surface_points.specs.declared.points.Vector.{Vector}
+use Rattle.surface_points.specs.declared.points.PlanVector.{PlanVector}
 use Rattle.surface_locate.specs.declared.points.Place.{Place}
 use Rattle.surface_locate.specs.declared.points.Walk.{Walk}
 use Rattle.surface_locate.specs.declared.points.Move.{Move}
@@ -15,7 +15,7 @@ use Rattle.marks_laws.specs.Unmarked.{unmarked}
 use Rattle.marks_laws.proofs.ReferenceLine.{geom-pose}
 use Rattle.marks_laws.proofs.Points.{surface-is}
 
-module _ (road : Road) (samples : List Float) (target : Vector) where
+module _ (road : Road) (samples : List Float) (target : PlanVector) where
   miss-is : (at : Place) → miss_at (unmarked road) samples target at ≡ miss_at road samples target at
   unfolding miss_at
   miss-is at = ap (λ p. miss_on target (plan_of p)) (surface-is road samples at.s at.t)

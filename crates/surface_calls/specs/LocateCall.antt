@@ -7,7 +7,7 @@ use Rattle.records.specs.Roads.{road_of}
 use Rattle.arithmetic_ranges.specs.Ranges.{sized, finite64}
 use Rattle.admission.specs.Admission.{road_rows}
 use Rattle.line_calls.specs.SampleCall.{sample_row}
-use Rattle.surface_points.specs.declared.points.Vector.{Vector}
+use Rattle.surface_points.specs.declared.points.PlanVector.{PlanVector}
 use Rattle.surface_locate.specs.declared.points.Position.{Position}
 use Rattle.surface_locate.specs.Locating.{locate_of}
 
@@ -26,7 +26,7 @@ on_map x y = sized greatest_target x && sized greatest_target y
 abbrev pub target_row : Float → Float → Row
 target_row x y = row Target (on_map x y)
 
-abbrev pub target : Float → Float → Vector
+abbrev pub target : Float → Float → PlanVector
 target x y = record { x = x; y = y }
 
 module _ (words : List ℕ) (numbers : List Float) (samples : List Float) (x y guess : Float) where

@@ -9,7 +9,7 @@ use arithmetic_ranges::{LARGEST, sized};
 use line_calls::sampled;
 use refusals::Refusal;
 use surface_locate::{Position, locate_from};
-use surface_points::Vector;
+use surface_points::PlanVector;
 
 const GREATEST_TARGET: f64 = 2000000.0;
 
@@ -46,5 +46,5 @@ pub fn locate(
     if !on_map(x, y) {
         return Err(Refusal::Target);
     }
-    Ok(locate_from(&lent, Vector { x, y }, guess))
+    Ok(locate_from(&lent, PlanVector { x, y }, guess))
 }

@@ -1,4 +1,4 @@
-// The four calls.
+// The calls at a station: the reference line and the axes there, the surface at an offset, and a lane's surface there.
 // Slices are lent and no `SampledRoad`: they are one only once `sampled` has answered it.
 ghost use Rattle.std.specs.Prelude.{◌≡◌};
 ghost use Rattle.refusals.specs.Answer.{answered};

@@ -14,17 +14,17 @@ use Rattle.arithmetic_distance.proofs.MissLaws.{Under}
 use Rattle.surface_laws.proofs.Micrometre.{micrometre}
 use Rattle.surface_points.specs.Surfaces.{surface_at}
 use Rattle.surface_points.proofs.PlanLaws.{surface-fits}
-use Rattle.surface_points.specs.declared.points.Vector.{Vector}
+use Rattle.surface_points.specs.declared.points.PlanVector.{PlanVector}
 use Rattle.surface_locate.specs.declared.points.Place.{Place}
 use Rattle.surface_locate.specs.Locating.{miss_at, size_of, met_at}
 
 -- "the sum of the squares of target x less x and target y less y, all exact, with x and y those of `surface` at locate's pair, before they narrow": in units, 2^1074 to 1, under (1 / 1,000,000)^2
-abbrev pub Near : Road → List Float → Vector → Place → Type 0
+abbrev pub Near : Road → List Float → PlanVector → Place → Type 0
 Near road samples target at =
     let p = surface_at road samples at.s at.t in
     Under binary64 p.x target.x p.y target.y 1000000000000
 
-module _ (road : Road) (samples : List Float) (target : Vector) (at : Place) where
+module _ (road : Road) (samples : List Float) (target : PlanVector) (at : Place) where
   miss-near : Real binary64 target.x → Real binary64 target.y → lt (size_of (miss_at road samples target at)) meeting ≡ true → Near road samples target at
   unfolding miss_at
   miss-near rx ry h =

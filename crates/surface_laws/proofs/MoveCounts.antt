@@ -4,13 +4,13 @@ use native.Mathlib.Omega.{arith}
 use mathlib.Core.List.{List}
 use lib.Ieee.{Float}
 use Rattle.records.specs.Roads.{Road}
-use Rattle.surface_points.specs.declared.points.Vector.{Vector}
+use Rattle.surface_points.specs.declared.points.PlanVector.{PlanVector}
 use Rattle.surface_locate.specs.declared.points.Place.{Place}
 use Rattle.surface_locate.specs.declared.points.Move.{Move}
 use Rattle.surface_locate.specs.declared.points.Move.TheVariants.{Stay, Last, On}
 use Rattle.surface_locate.specs.Locating.{move_at, walk_by, walk_from, start_of, locate_of}
 
-module _ (road : Road) (samples : List Float) (target : Vector) where
+module _ (road : Road) (samples : List Float) (target : PlanVector) where
   walk-count : (n : ℕ) (at : Place) (k : ℕ) → (walk_from road samples target n at k).moves ≤ n + k
   unfolding walk_from
   walk-count zero at k = omega arith

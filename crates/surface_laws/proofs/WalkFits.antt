@@ -8,7 +8,7 @@ use Rattle.float_laws.specs.Binary64.{◌⊕◌, ◌⊖◌, ◌⊗◌, ◌⊘◌
 use Rattle.records.specs.Roads.{Road}
 use Rattle.line_pose.specs.Poses.{held}
 use Rattle.admission_laws.proofs.Fitting.{Fits64}
-use Rattle.surface_points.specs.declared.points.Vector.{Vector}
+use Rattle.surface_points.specs.declared.points.PlanVector.{PlanVector}
 use Rattle.surface_locate.specs.declared.points.Place.{Place}
 use Rattle.surface_locate.specs.declared.points.Move.{Move}
 use Rattle.surface_locate.specs.declared.points.Move.TheVariants.{Stay, Last, On}
@@ -48,7 +48,7 @@ move_by-fits s next dt t f =
     let p = place next (t ⊕ dt) in
     either (lt (abs_of (next ⊖ s) ⊕ abs_of dt) tolerance) (Last p) (On p) (f, add-fits binary64 t dt) (f, add-fits binary64 t dt)
 
-newton-fits : (length : Float) (at : Place) (r along across : Vector) → Fits64 length → MoveFits (newton_move length at r along across)
+newton-fits : (length : Float) (at : Place) (r along across : PlanVector) → Fits64 length → MoveFits (newton_move length at r along across)
 unfolding newton_move
 newton-fits length at r along across f =
     let det = det_of along across in
@@ -57,7 +57,7 @@ newton-fits length at r along across f =
     let next = held length (at.s ⊕ ds) in
     either (lt (abs_of det) least_determinant) Stay (move_by at.s next dt at.t) tt (move_by-fits at.s next dt at.t (held_fits length (at.s ⊕ ds) f (add-fits binary64 at.s ds)))
 
-module _ (road : Road) (samples : List Float) (target : Vector) (f : Fits64 road.length) where
+module _ (road : Road) (samples : List Float) (target : PlanVector) (f : Fits64 road.length) where
   move-fits : (at : Place) → MoveFits (move_at road samples target at)
   unfolding move_at
   move-fits at =

@@ -9,12 +9,12 @@ use lib.Ieee.{Float, lt}
 use Rattle.records.specs.Roads.{Road}
 use Rattle.surface_points.specs.Plan.{footing_of, plan_on}
 use Rattle.surface_points.proofs.PlanLaws.{plan-is-surface}
-use Rattle.surface_points.specs.declared.points.Vector.{Vector}
+use Rattle.surface_points.specs.declared.points.PlanVector.{PlanVector}
 use Rattle.surface_locate.specs.declared.points.Place.{Place}
 use Rattle.surface_locate.specs.declared.points.Move.TheVariants.{Stay, Last, On}
 use Rattle.surface_locate.specs.Locating.{tolerance, place, miss_on, miss_at, size_of, move_at, ended, walk_by, walk_from}
 
-module _ (road : Road) (samples : List Float) (target : Vector) where
+module _ (road : Road) (samples : List Float) (target : PlanVector) where
   pub miss_is : (s t : Float) → miss_on target (plan_on road (footing_of road samples s) t) ≡ miss_at road samples target (place s t)
   unfolding miss_at
   miss_is s t = ap (miss_on target) (plan-is-surface road samples s t)

@@ -11,18 +11,18 @@ use Rattle.records.specs.Roads.{Road, geom_index}
 use Rattle.line_pose.specs.Poses.{held, pose_of}
 use Rattle.admission.specs.Limits.{on_road}
 use Rattle.admission_arguments.specs.Arguments.{across_road}
-use Rattle.surface_points.specs.declared.points.Vector.{Vector}
+use Rattle.surface_points.specs.declared.points.PlanVector.{PlanVector}
 use Rattle.surface_points.specs.Surfaces.{surface_at}
-use Rattle.surface_points.specs.Plan.{plan_of}
+use Rattle.surface_points.specs.Plan.{difference_of, plan_of}
 use Rattle.surface_locate.specs.declared.points.Place.{Place}
 use Rattle.surface_locate.specs.declared.points.Walk.{Walk}
 use Rattle.surface_locate.specs.declared.points.Position.{Position}
 use Rattle.surface_locate.specs.declared.points.Move.{Move}
 use Rattle.surface_locate.specs.declared.points.Move.TheVariants.{Stay, Last, On}
 
--- 1e-4: so far it steps to measure how the surface moves
-abbrev pub stride : Float
-stride = f64 0x3f1a_36e2_eb1c_432d
+-- 1e-4: how far from a place the rates there are measured
+abbrev pub rate_step : Float
+rate_step = f64 0x3f1a_36e2_eb1c_432d
 
 -- 1e-9: a miss, and a move, below which it stops
 abbrev pub tolerance : Float
@@ -42,28 +42,28 @@ place s t = record { s = s; t = t }
 -- ---- the miss, and how fast it changes
 
 -- of a point seen from above
-abbrev pub miss_on : Vector → Vector → Vector
-miss_on target p = record { x = p.x ⊖ target.x; y = p.y ⊖ target.y }
+abbrev pub miss_on : PlanVector → PlanVector → PlanVector
+miss_on target p = difference_of p target
 
 -- of `surface` before it narrows
-unfoldable pub miss_at : Road → List Float → Vector → Place → Vector
+unfoldable pub miss_at : Road → List Float → PlanVector → Place → PlanVector
 miss_at road samples target at = miss_on target (plan_of (surface_at road samples at.s at.t))
 
 -- "hypot: root of a×a + b×b"
-abbrev pub size_of : Vector → Float
+abbrev pub size_of : PlanVector → Float
 size_of r = hypot_of r.x r.y
 
 -- from r to a, h metres on
-unfoldable pub rate_of : Vector → Vector → Float → Vector
-rate_of a r h = record { x = (a.x ⊖ r.x) ⊘ h; y = (a.y ⊖ r.y) ⊘ h }
+unfoldable pub rate_of : PlanVector → PlanVector → Float → PlanVector
+rate_of a r h = let change = difference_of a r in record { x = change.x ⊘ h; y = change.y ⊘ h }
 
 -- ahead, or back where that would pass the road's end
 unfoldable pub ahead_of : Float → Float → Float
-ahead_of length s = cond (le (s ⊕ stride) length) stride (neg stride)
+ahead_of length s = cond (le (s ⊕ rate_step) length) rate_step (neg rate_step)
 
 -- ---- one move
 
-abbrev pub det_of : Vector → Vector → Float
+abbrev pub det_of : PlanVector → PlanVector → Float
 det_of along across = along.x ⊗ across.y ⊖ along.y ⊗ across.x
 
 -- to the next pair, which is the last where |next s - s| + |dt| is below 1e-9
@@ -71,21 +71,21 @@ abbrev pub move_by : Float → Float → Float → Float → Move
 move_by s next dt t = cond (lt (abs_of (next ⊖ s) ⊕ abs_of dt) tolerance) (Last (place next (t ⊕ dt))) (On (place next (t ⊕ dt)))
 
 -- none where |det| < 1e-12; else by ds and dt, s kept to 0..length
-unfoldable pub newton_move : Float → Place → Vector → Vector → Vector → Move
+unfoldable pub newton_move : Float → Place → PlanVector → PlanVector → PlanVector → Move
 newton_move length at r along across =
     let det = det_of along across in
     let ds = (r.y ⊗ across.x ⊖ r.x ⊗ across.y) ⊘ det in
     let dt = (r.x ⊗ along.y ⊖ r.y ⊗ along.x) ⊘ det in
     cond (lt (abs_of det) least_determinant) Stay (move_by at.s (held length (at.s ⊕ ds)) dt at.t)
 
-module _ (road : Road) (samples : List Float) (target : Vector) where
-  abbrev pub along_rate : Place → Vector
+module _ (road : Road) (samples : List Float) (target : PlanVector) where
+  abbrev pub along_rate : Place → PlanVector
   along_rate at =
       let h = ahead_of road.length at.s in
       rate_of (miss_at road samples target (place (at.s ⊕ h) at.t)) (miss_at road samples target at) h
 
-  abbrev pub across_rate : Place → Vector
-  across_rate at = rate_of (miss_at road samples target (place at.s (at.t ⊕ stride))) (miss_at road samples target at) stride
+  abbrev pub across_rate : Place → PlanVector
+  across_rate at = rate_of (miss_at road samples target (place at.s (at.t ⊕ rate_step))) (miss_at road samples target at) rate_step
 
   -- none where the miss is below 1e-9
   unfoldable pub move_at : Place → Move

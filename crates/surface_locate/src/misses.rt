@@ -8,7 +8,7 @@ ghost use Rattle.surface_locate.specs.Locating.{tolerance, miss_on, miss_at, siz
 
 use crate::points::Place;
 use line_samples::SampledRoad;
-use surface_points::{Footing, Vector, footing_at, plan_on};
+use surface_points::{Footing, PlanVector, footing_at, plan_on};
 
 // A miss, and a move, below which it stops.
 pub(crate) const TOLERANCE: f64 = 1e-9;
@@ -20,23 +20,20 @@ const MEETING: f64 = 0.0000009;
 #[derive(Clone, Copy)]
 pub(crate) struct Search<'a> {
     pub lent: &'a SampledRoad<'a>,
-    pub target: Vector,
+    pub target: PlanVector,
 }
 
 impl<'a> Search<'a> {
-    // At t of a station.
-    pub(crate) fn miss_on(&self, here: Footing, t: f64) -> Vector
+    // The miss at t of a station.
+    pub(crate) fn miss_on(&self, here: Footing, t: f64) -> PlanVector
         ensures { result ≡ miss_on self.now.target (plan_on self.now.lent.now.road here t) }
     {
-        let p = plan_on(&self.lent.road, here, t);
-        Vector {
-            x: p.x - self.target.x,
-            y: p.y - self.target.y,
-        }
+        plan_on(&self.lent.road, here, t) - self.target
     }
 
+    // The miss at a place, whose station is worked out for it.
     #[tactic(auto, using(crate::proofs::WalkLaws::miss_is))]
-    pub(crate) fn miss(&self, at: Place) -> Vector
+    pub(crate) fn miss(&self, at: Place) -> PlanVector
         ensures { result ≡ miss_at self.now.lent.now.road self.now.lent.now.samples.now self.now.target at }
     {
         self.miss_on(footing_at(self.lent, at.s), at.t)
@@ -45,7 +42,7 @@ impl<'a> Search<'a> {
 
 // Whether the size of r is under a bound. Its root is worked out only where the sum of the squares lies between the two brackets of the bound's square.
 #[tactic(auto, unfolding(arithmetic::specs::Root::hypot_of))]
-fn under(r: Vector, low: f64, high: f64, bound: f64) -> bool
+fn under(r: PlanVector, low: f64, high: f64, bound: f64) -> bool
     requires { brackets low high bound ≡ true }
     ensures { result ≡ lt (size_of r) bound }
 {
@@ -59,15 +56,15 @@ fn under(r: Vector, low: f64, high: f64, bound: f64) -> bool
     arithmetic::root(sum) < bound
 }
 
-// A miss that ends the moves.
-pub(crate) fn small(r: Vector) -> bool
+// Whether a miss is so small that it ends the moves.
+pub(crate) fn small(r: PlanVector) -> bool
     ensures { result ≡ lt (size_of r) tolerance }
 {
     under(r, 9.999e-19, 1.0001e-18, TOLERANCE)
 }
 
-// A miss that meets the target.
-pub(crate) fn near(r: Vector) -> bool
+// Whether a miss is so small that it meets the target.
+pub(crate) fn near(r: PlanVector) -> bool
     ensures { result ≡ lt (size_of r) meeting }
 {
     under(r, 8.0999e-13, 8.1001e-13, MEETING)
@@ -75,11 +72,12 @@ pub(crate) fn near(r: Vector) -> bool
 
 // How fast the miss changes from r to a, h metres on.
 #[tactic(auto, unfolding(crate::specs::Locating::rate_of))]
-pub(crate) fn rate(a: Vector, r: Vector, h: f64) -> Vector
+pub(crate) fn rate(a: PlanVector, r: PlanVector, h: f64) -> PlanVector
     ensures { result ≡ rate_of a r h }
 {
-    Vector {
-        x: (a.x - r.x) / h,
-        y: (a.y - r.y) / h,
+    let change = a - r;
+    PlanVector {
+        x: change.x / h,
+        y: change.y / h,
     }
 }

@@ -7,29 +7,29 @@ ghost use Rattle.surface_locate.specs.Locating.{tolerance, miss_at, size_of, ahe
 use crate::misses::{Search, TOLERANCE, rate};
 use crate::points::{Move, Place};
 use arithmetic_ranges::{abs, clamp};
-use surface_points::{Footing, Vector};
+use surface_points::{Footing, PlanVector};
 
-// How far it steps to measure the rates.
-const STRIDE: f64 = 1e-4;
+// How far from a place the rates there are measured.
+const RATE_STEP: f64 = 1e-4;
 
 // A smaller determinant, and the two rates do not span the plane.
 const LEAST_DETERMINANT: f64 = 1e-12;
 
-// The step along the road: back from its end.
+// The step along the road by which a rate is measured: ahead, or back where that would pass the road's end.
 #[tactic(auto, unfolding(crate::specs::Locating::ahead_of))]
 fn ahead(length: f64, s: f64) -> f64
     ensures { result ≡ ahead_of length s }
 {
-    if s + STRIDE <= length {
-        STRIDE
+    if s + RATE_STEP <= length {
+        RATE_STEP
     } else {
-        -STRIDE
+        -RATE_STEP
     }
 }
 
 // The move from a place with its miss r and the two rates.
 #[tactic(auto, unfolding(crate::specs::Locating::newton_move))]
-fn newton(length: f64, at: Place, r: Vector, along: Vector, across: Vector) -> Move
+fn newton(length: f64, at: Place, r: PlanVector, along: PlanVector, across: PlanVector) -> Move
     ensures { result ≡ newton_move length at r along across }
 {
     let det = along.x * across.y - along.y * across.x;
@@ -51,7 +51,7 @@ fn newton(length: f64, at: Place, r: Vector, along: Vector, across: Vector) -> M
 impl<'a> Search<'a> {
     // The move from a place whose miss r isn't small; here is its station.
     #[tactic(auto, using(crate::proofs::WalkLaws::miss_is), unfolding(crate::specs::Locating::move_at))]
-    pub(crate) fn move_from(&self, here: Footing, at: Place, r: Vector) -> Move
+    pub(crate) fn move_from(&self, here: Footing, at: Place, r: PlanVector) -> Move
         requires { (here ≡ footing_of self.now.lent.now.road self.now.lent.now.samples.now at.s) × (r ≡ miss_at self.now.lent.now.road self.now.lent.now.samples.now self.now.target at) × (lt (size_of r) tolerance ≡ false) }
         ensures { result ≡ move_at self.now.lent.now.road self.now.lent.now.samples.now self.now.target at }
     {
@@ -62,7 +62,7 @@ impl<'a> Search<'a> {
             t: at.t,
         };
         let along = rate(self.miss(on), r, h);
-        let across = rate(self.miss_on(here, at.t + STRIDE), r, STRIDE);
+        let across = rate(self.miss_on(here, at.t + RATE_STEP), r, RATE_STEP);
         newton(length, at, r, along, across)
     }
 }

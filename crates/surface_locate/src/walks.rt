@@ -13,7 +13,7 @@ use crate::starts::first_t;
 use arithmetic_ranges::clamp;
 use line_samples::SampledRoad;
 use records::LentRoad;
-use surface_points::{Footing, Vector, footing_at};
+use surface_points::{Footing, PlanVector, footing_at};
 
 const MOST_MOVES: u32 = 24;
 
@@ -21,7 +21,7 @@ const MOST_MOVES: u32 = 24;
 #[derive(Clone, Copy)]
 struct Arrival {
     walk: Walk,
-    miss: Vector,
+    miss: PlanVector,
 }
 
 impl<'a> Search<'a> {
@@ -56,7 +56,7 @@ impl<'a> Search<'a> {
     }
 }
 
-fn arrived(place: Place, moves: u32, miss: Vector) -> Arrival
+fn arrived(place: Place, moves: u32, miss: PlanVector) -> Arrival
     ensures { result ≡ record { walk = record { place = place; moves = moves }; miss = miss } }
 {
     let walk = Walk { place, moves };
@@ -64,7 +64,7 @@ fn arrived(place: Place, moves: u32, miss: Vector) -> Arrival
 }
 
 // Whether a place lies on the road with a miss under 0.0000009 m.
-fn met(road: &LentRoad, at: Place, miss: Vector) -> bool
+fn met(road: &LentRoad, at: Place, miss: PlanVector) -> bool
     ensures { result ≡ (on_road road.now at.s && across_road at.t && lt (size_of miss) meeting) }
 {
     admission_arguments::on_road(road, at.s) & admission_arguments::across(at.t) & near(miss)
@@ -72,7 +72,7 @@ fn met(road: &LentRoad, at: Place, miss: Vector) -> bool
 
 // The place that the moves find from a guess of s, the count of moves, and the mark.
 #[tactic(auto, unfolding(crate::specs::Locating::locate_of, crate::specs::Locating::start_of, crate::specs::Locating::met_at, crate::specs::Locating::first_t, surface_points::specs::Plan::footing_of, surface_station::specs::Station::pose_at))]
-pub fn locate_from(lent: &SampledRoad, target: Vector, guess: f64) -> Position
+pub fn locate_from(lent: &SampledRoad, target: PlanVector, guess: f64) -> Position
     ensures { result ≡ locate_of lent.now.road lent.now.samples.now target guess }
 {
     let s = clamp(lent.road.length(), guess);

@@ -7,23 +7,25 @@ ghost use Rattle.surface_points.specs.Raised.{plain_by, lifted, raised_at};
 use crate::points::SurfacePoint;
 use arithmetic_sine::SinCos;
 use line_pose::Bearing;
-use line_samples::{Pose, SampledRoad};
+use line_samples::SampledRoad;
 use records_active::{slope, value};
 use surface_station::{Axis, bearing_at, up_by};
 
-// The point itself; h is of the heading, b of the bank.
-fn plain_by(p: Pose, h: SinCos, b: SinCos, elevation: f64, t: f64) -> SurfacePoint
-    ensures { result ≡ plain_by p h.sin h.cos b.sin b.cos elevation t }
+// The point at t of a pose, before it is stood off.
+fn plain_by(at: Bearing, bank: SinCos, elevation: f64, t: f64) -> SurfacePoint
+    ensures { result ≡ plain_by at.pose at.turn.sin at.turn.cos bank.sin bank.cos elevation t }
 {
-    let reach = t * b.cos;
+    let Bearing { pose, turn } = at;
+    let reach = t * bank.cos;
     SurfacePoint {
-        x: p.x - reach * h.sin,
-        y: p.y + reach * h.cos,
-        z: elevation + t * b.sin,
-        heading: p.heading,
+        x: pose.x - reach * turn.sin,
+        y: pose.y + reach * turn.cos,
+        z: elevation + t * bank.sin,
+        heading: pose.heading,
     }
 }
 
+// The point stood off by a height along an axis.
 fn lift(p: SurfacePoint, up: Axis, height: f64) -> SurfacePoint
     ensures { result ≡ lifted p up height }
 {
@@ -35,7 +37,7 @@ fn lift(p: SurfacePoint, up: Axis, height: f64) -> SurfacePoint
     }
 }
 
-// The point at s and t, with the lent samples, stood off by height; at a height of 0 the axes are not asked for. bank is of the road at s.
+// The point at s and t, with the lent samples, stood off by height; at a height of 0 the axes are not asked for. The bank's pair is handed in, since the height has asked for it.
 #[tactic(auto, unfolding(crate::specs::Raised::raised_at, crate::specs::Raised::plain_at, surface_station::specs::Axes::axes_at, surface_station::specs::Axes::axes_by))]
 pub(crate) fn raised_xyz(
     lent: &SampledRoad,
@@ -47,12 +49,12 @@ pub(crate) fn raised_xyz(
     requires { bank ≡ sin_cos_of (value_in lent.now.road.superelevations s) }
     ensures { result ≡ raised_at lent.now.road lent.now.samples.now s t height }
 {
-    let Bearing { pose, turn } = bearing_at(lent, s);
+    let at = bearing_at(lent, s);
     let elevation = value(&lent.road.elevations(), s);
-    let plain = plain_by(pose, turn, bank, elevation, t);
+    let plain = plain_by(at, bank, elevation, t);
     if height == 0.0 {
         return plain;
     }
     let grade = slope(&lent.road.elevations(), s);
-    lift(plain, up_by(turn, grade, bank), height)
+    lift(plain, up_by(at.turn, grade, bank), height)
 }

@@ -35,23 +35,23 @@ unit_of v = record { x = v.x ⊘ length_of v; y = v.y ⊘ length_of v; z = v.z �
 -- along the reference line
 unfoldable pub along_by : Float → Float → Float → Axis
 unfolding unit_of
-along_by sin_h cos_h grade = unit_of (record { x = cos_h; y = sin_h; z = grade })
+along_by sin_turn cos_turn grade = unit_of (record { x = cos_turn; y = sin_turn; z = grade })
 
 -- across the road, tilted by the bank
 abbrev pub tilted_by : Float → Float → Float → Float → Axis
-tilted_by sin_h cos_h sin_p cos_p = record { x = neg sin_h ⊗ cos_p; y = cos_h ⊗ cos_p; z = sin_p }
+tilted_by sin_turn cos_turn sin_bank cos_bank = record { x = neg sin_turn ⊗ cos_bank; y = cos_turn ⊗ cos_bank; z = sin_bank }
 
 -- square to both
 unfoldable pub up_by : Float → Float → Float → Float → Float → Axis
 unfolding unit_of cross_of along_by
-up_by sin_h cos_h grade sin_p cos_p = unit_of (cross_of (along_by sin_h cos_h grade) (tilted_by sin_h cos_h sin_p cos_p))
+up_by sin_turn cos_turn grade sin_bank cos_bank = unit_of (cross_of (along_by sin_turn cos_turn grade) (tilted_by sin_turn cos_turn sin_bank cos_bank))
 
 -- the second is `cross` of the third and the first, not normalised
 unfoldable pub axes_by : Float → Float → Float → Float → Float → Axes
 unfolding cross_of along_by up_by
-axes_by sin_h cos_h grade sin_p cos_p =
-    let along = along_by sin_h cos_h grade in
-    let up = up_by sin_h cos_h grade sin_p cos_p in
+axes_by sin_turn cos_turn grade sin_bank cos_bank =
+    let along = along_by sin_turn cos_turn grade in
+    let up = up_by sin_turn cos_turn grade sin_bank cos_bank in
     record { along = along; across = cross_of up along; up = up }
 
 -- ---- of a road at s, with the lent samples

@@ -1,4 +1,5 @@
-// The road's own axes. The sines and cosines of the heading and of the bank are worked out once and handed on.
+// The road's own axes. The pairs of the heading (turn) and of the bank are worked out once and handed on.
+// The two stay two parameters: as one struct, three contracts would read `angles.turn.sin` for `turn.sin` in twelve places, and the three functions that have the pairs, each by a call of its own, would build the struct first.
 ghost use Rattle.std.specs.Prelude.{◌≡◌};
 ghost use Rattle.surface_station.specs.Axes.{along_by, up_by, axes_by, axes_at};
 
@@ -9,38 +10,38 @@ use arithmetic_sine::SinCos;
 use line_samples::SampledRoad;
 use records_active::slope;
 
-// Along the reference line, up its grade; h is of the heading.
+// Along the reference line, up its grade.
 #[tactic(auto, unfolding(crate::specs::Axes::along_by))]
-pub fn along_by(h: SinCos, grade: f64) -> Axis
-    ensures { result ≡ along_by h.sin h.cos grade }
+pub fn along_by(turn: SinCos, grade: f64) -> Axis
+    ensures { result ≡ along_by turn.sin turn.cos grade }
 {
     unit(Axis {
-        x: h.cos,
-        y: h.sin,
+        x: turn.cos,
+        y: turn.sin,
         z: grade,
     })
 }
 
-// Square to the reference line and to the banked cross section; h is of the heading, p of the bank.
+// Square to the reference line and to the banked cross section.
 #[tactic(auto, unfolding(crate::specs::Axes::up_by))]
-pub fn up_by(h: SinCos, grade: f64, p: SinCos) -> Axis
-    ensures { result ≡ up_by h.sin h.cos grade p.sin p.cos }
+pub fn up_by(turn: SinCos, grade: f64, bank: SinCos) -> Axis
+    ensures { result ≡ up_by turn.sin turn.cos grade bank.sin bank.cos }
 {
     let tilted = Axis {
-        x: -h.sin * p.cos,
-        y: h.cos * p.cos,
-        z: p.sin,
+        x: -turn.sin * bank.cos,
+        y: turn.cos * bank.cos,
+        z: bank.sin,
     };
-    unit(cross(along_by(h, grade), tilted))
+    unit(cross(along_by(turn, grade), tilted))
 }
 
-// The three of them. The second is the cross product of the other two, not brought to length 1 again.
+// All three axes. The second is the cross product of the other two, not brought to length 1 again.
 #[tactic(auto, unfolding(crate::specs::Axes::axes_by))]
-fn axes_by(h: SinCos, grade: f64, p: SinCos) -> Axes
-    ensures { result ≡ axes_by h.sin h.cos grade p.sin p.cos }
+fn axes_by(turn: SinCos, grade: f64, bank: SinCos) -> Axes
+    ensures { result ≡ axes_by turn.sin turn.cos grade bank.sin bank.cos }
 {
-    let along = along_by(h, grade);
-    let up = up_by(h, grade, p);
+    let along = along_by(turn, grade);
+    let up = up_by(turn, grade, bank);
     let across = cross(up, along);
     Axes { along, across, up }
 }
@@ -50,8 +51,7 @@ fn axes_by(h: SinCos, grade: f64, p: SinCos) -> Axes
 pub fn axes_at(lent: &SampledRoad, s: f64) -> Axes
     ensures { result ≡ axes_at lent.now.road lent.now.samples.now s }
 {
-    let b = bearing_at(lent, s);
-    let h = b.turn;
+    let turn = bearing_at(lent, s).turn;
     let grade = slope(&lent.road.elevations(), s);
-    axes_by(h, grade, bank_at(&lent.road, s))
+    axes_by(turn, grade, bank_at(&lent.road, s))
 }

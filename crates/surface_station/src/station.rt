@@ -19,7 +19,7 @@ pub fn pose_at(lent: &SampledRoad, s: f64) -> Pose
     line_pose::pose(lent, geom_at(&lent.road, s), s)
 }
 
-// That pose with the sine and the cosine of its heading.
+// The pose at s with the sine and the cosine of its heading.
 #[tactic(auto, unfolding(crate::specs::Station::pose_at))]
 pub fn bearing_at(lent: &SampledRoad, s: f64) -> Bearing
     ensures { result ≡ bearing_of (pose_at lent.now.road lent.now.samples.now s) }
@@ -45,16 +45,16 @@ pub fn station_at(lent: &SampledRoad, s: f64) -> RefPoint
     ensures { result ≡ station_of lent.now.road lent.now.samples.now s }
 {
     let p = pose_at(lent, s);
-    let elev = lent.road.elevations();
-    let bank = lent.road.superelevations();
+    let elevations = lent.road.elevations();
+    let banks = lent.road.superelevations();
     RefPoint {
         s,
         x: p.x,
         y: p.y,
         heading: p.heading,
-        z: value(&elev, s),
-        grade: slope(&elev, s),
-        bank: value(&bank, s),
-        bank_rate: slope(&bank, s),
+        z: value(&elevations, s),
+        grade: slope(&elevations, s),
+        bank: value(&banks, s),
+        bank_rate: slope(&banks, s),
     }
 }

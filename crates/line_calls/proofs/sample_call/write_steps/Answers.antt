@@ -1,24 +1,24 @@
-use mathlib.Core.Path.{sym, ◌∙◌}
-use Prim.Native.Nat.{◌+◌, ◌*◌}
-use Rattle.line_calls.proofs.SampleWriting.{steps-none, steps-turn, steps-end}
+use native.Mathlib.Omega.{arith}
+use mathlib.Core.Path.{◌∙◌}
+use Prim.Native.Nat.{◌*◌, ◌/◌}
+use lib.ListN.{length}
+use Rattle.line_calls.proofs.SampleWriting.{put-part, steps-turn, steps-end}
 use Rattle.line_calls.proofs.sample_call.write_steps.Goals as goal
-
-pub loop-i-init : goal.loop-i-init
-loop-i-init c =
-    let a = c.args in
-    let of = a.spiral.now in
-    steps-none of.geom of.k0 of.k1 a.samples.now a.at a.n a.p
 
 pub loop-i-preserved : goal.loop-i-preserved
 loop-i-preserved c =
     let at = c.loop-i in
-    let a = c.args in
-    let of = a.spiral.now in
-    steps-turn of.geom of.k0 of.k1 a.at a.n at.i at.last at.samples c.loop-i-test.true c.next_sample-last.ensures c.put.ensures ∙ at.invariant
+    let of = c.args.spiral.now in
+    let n = length c.args.part.now / 4 in
+    let more = c.loop-i-test.true in
+    let l = at.auto.part in
+    let r = c.requires in
+    steps-turn of.geom of.k0 of.k1 n at.i at.last at.part more c.next_sample-last.ensures (put-part c.next_sample-last.result at.part (at.i * 4) c.put.ensures (omega arith))
+    ∙ at.invariant
 
 pub returns : goal.returns
 returns c =
     let at = c.loop-i in
     let a = c.args in
     let of = a.spiral.now in
-    sym (steps-end of.geom of.k0 of.k1 (a.at + at.i * 4) a.n at.i at.last at.samples c.loop-i-test.false) ∙ at.invariant
+    steps-end of.geom of.k0 of.k1 (length a.part.now / 4) at.i a.p at.last a.part.now at.part c.loop-i-test.false c.requires at.invariant
