@@ -1,5 +1,5 @@
 // A track line: points in a lent slice, three f32 each.
-ghost use Rattle.std.specs.Prelude.{◌≡◌, suc, ◌<◌, ◌^◌};
+ghost use Rattle.std.specs.Prelude.{◌≡◌, ◌<◌, ◌^◌};
 ghost use Rattle.coordinates.specs.Points.{point_at};
 ghost use Rattle.tracks.specs.Lines.{count_of, segment_at};
 
@@ -10,15 +10,17 @@ use std::marker::Model;
 
 #[derive(Drop)]
 pub struct Track<'a> {
-    numbers: &'a [f32],
+    pub(crate) numbers: &'a [f32],
 }
 
 impl<'a> Model for Track<'a> {
-    ghost use Rattle.std.specs.Prelude.{List, Float};
+    ghost use Rattle.std.specs.Prelude.{◌<◌, ◌^◌, length, List, Float};
 
     ghost Value = { List Float };
 
     ghost view = { λ t. t.numbers.now };
+
+    ghost invariant = { λ t. length t.numbers.now < 2 ^ 63 };
 }
 
 impl<'a> Track<'a> {
@@ -43,14 +45,14 @@ impl<'a> Track<'a> {
         point(self.numbers, i)
     }
 
-    // Segment i, from point i to the next.
+    // Segment i, from point i to the next. No track has as many points as a usize counts: past the last number the one after it is itself, and both points are NaNs.
+    #[tactic(auto, using(crate::proofs::NextPoints::segment_is))]
     pub(crate) fn segment(&self, i: usize) -> Segment
-        requires { suc i < 2 ^ 64 }
         ensures { result ≡ segment_at (point_at self.now) i }
     {
         Segment {
-            from: self.point(i),
-            to: self.point(i + 1),
+            from: point(self.numbers, i),
+            to: point(self.numbers, i.saturating_add(1)),
         }
     }
 }

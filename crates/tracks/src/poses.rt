@@ -1,5 +1,5 @@
 // A track's position and heading at an arc length.
-ghost use Rattle.std.specs.Prelude.{◌≡◌, suc, ◌<◌, ◌^◌};
+ghost use Rattle.std.specs.Prelude.{◌≡◌, suc};
 ghost use Rattle.float_laws.specs.Binary32.{clamp_of};
 ghost use Rattle.coordinates.specs.Points.{point_at};
 ghost use Rattle.tracks.specs.Lines.{count_of};
@@ -66,7 +66,6 @@ impl<'a> Track<'a> {
     fn stretch_at(&self, s: f32) -> Stretch
         ensures segment_value { result.segment ≡ segment_of (point_at self.now) (count_of self.now) s }
         ensures from_value { (result.from ≡ length_to (point_at self.now) result.segment) × (result.to ≡ length_to (point_at self.now) (suc result.segment)) }
-        ensures upper_bound { suc result.segment < 2 ^ 64 }
     {
         let mut on = Stretch {
             segment: 0,
@@ -90,8 +89,7 @@ impl<'a> Track<'a> {
     // The segment and the fraction at the arc length s, which is held to 0..length.
     #[tactic(auto, using(crate::proofs::PoseSteps::spot_is))]
     fn locate(&self, s: f32) -> Spot
-        ensures upper_bound { suc result.segment < 2 ^ 64 }
-        ensures value { result ≡ spot_of (point_at self.now) (count_of self.now) s }
+        ensures { result ≡ spot_of (point_at self.now) (count_of self.now) s }
     {
         let held = clamped(0.0, self.length(), s);
         let on = self.stretch_at(held);
@@ -102,12 +100,13 @@ impl<'a> Track<'a> {
     }
 
     // The heading t of the way along segment i, between the tangents of its ends.
-    #[tactic(auto, unfolding(crate::specs::Poses::heading_at))]
+    #[tactic(auto, using(crate::proofs::NextPoints::heading_is))]
     fn heading(&self, i: usize, t: f32) -> Vector
-        requires { suc i < 2 ^ 64 }
         ensures { result ≡ heading_at (point_at self.now) (count_of self.now) i t }
     {
-        vector_between(self.tangent(i), self.tangent(i + 1), t).unit()
+        // so that the proof knows how long a track may be
+        let _ = &self.numbers;
+        vector_between(self.tangent(i), self.tangent(i.saturating_add(1)), t).unit()
     }
 
     // The track's pose at the arc length s, held to 0..length. A NaN s is in the first segment.

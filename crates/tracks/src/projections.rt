@@ -1,5 +1,5 @@
 // The place of a track nearest to a given one.
-ghost use Rattle.std.specs.Prelude.{◌≡◌, ◌-◌, ◌<◌, ◌^◌};
+ghost use Rattle.std.specs.Prelude.{◌≡◌, ◌-◌};
 ghost use Rattle.coordinates.specs.Vectors.{from_to};
 ghost use Rattle.coordinates.specs.Points.{point_at};
 ghost use Rattle.tracks.specs.Lines.{count_of};
@@ -103,8 +103,7 @@ impl<'a> Track<'a> {
     // The nearest of all segments, the first of them where several are as near. No arc length is summed here: every segment's takes a root, and only those up to the chosen one count.
     #[tactic(auto, using(crate::proofs::ProjectionSteps::choices))]
     fn choose(&self, at: Point) -> Chosen
-        ensures value { result ≡ chosen_of (point_at self.now) at (count_of self.now - 1) }
-        ensures upper_bound { count_of self.now < 2 ^ 63 }
+        ensures { result ≡ chosen_of (point_at self.now) at (count_of self.now - 1) }
     {
         let mut best = Chosen {
             square: f32::INFINITY,
