@@ -33,7 +33,7 @@ struct Stretch {
 }
 
 // x raised to low where it is below, lowered to high where it is above; a NaN stays. The library's `clamp` wants low at most high, which an arc length that is NaN is not.
-pub(crate) fn clamped(low: f32, high: f32, x: f32) -> f32
+fn clamped(low: f32, high: f32, x: f32) -> f32
     ensures { result ≡ clamp_of low high x }
 {
     if x < low {
@@ -73,7 +73,7 @@ impl<'a> Track<'a> {
             to: 0.0 + self.segment(0).length(),
         };
         let behind = 0.0 <= s;
-        for i in 1..self.len().saturating_sub(1) {
+        for i in 1..self.segment_count() {
             if !(behind & (on.to <= s)) {
                 return on;
             }

@@ -7,7 +7,6 @@ ghost use Rattle.tracks.specs.Projections.{foot_of, candidate_of, project_of};
 ghost use Rattle.tracks.specs.ProjectionChoice.{closest_on, better_of, chosen_of};
 
 use crate::lines::Track;
-use crate::poses::clamped;
 use crate::segments::Segment;
 use coordinates::Vector;
 use records::Point;
@@ -45,7 +44,7 @@ fn foot(ab: Vector, ap: Vector) -> f32
 {
     let square = ab.dot(ab);
     if LEAST_SQUARE < square {
-        return clamped(0.0, 1.0, ap.dot(ab) / square);
+        return (ap.dot(ab) / square).clamp(0.0, 1.0);
     }
     0.0
 }
@@ -109,7 +108,7 @@ impl<'a> Track<'a> {
             square: f32::INFINITY,
             segment: None,
         };
-        for i in 0..self.len().saturating_sub(1) {
+        for i in 0..self.segment_count() {
             best = best.or_nearer(self.segment(i), at, i);
         }
         best

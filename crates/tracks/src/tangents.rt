@@ -5,7 +5,7 @@ ghost use Rattle.tracks.specs.Lines.{count_of};
 ghost use Rattle.tracks.specs.Tangents.{incoming_of, outgoing_of, tangent_of, tangent_numbers, tangents_listed, tangents_left};
 
 use crate::lines::Track;
-use coordinates::Vector;
+use coordinates::{POINT_STRIDE, Vector};
 
 impl<'a> Track<'a> {
     // The direction of the segment that ends at point i; zero at the first point.
@@ -23,7 +23,7 @@ impl<'a> Track<'a> {
     fn outgoing(&self, i: usize) -> Vector
         ensures { result ≡ outgoing_of (point_at self.now) (count_of self.now) i }
     {
-        if self.len().saturating_sub(1) <= i {
+        if self.segment_count() <= i {
             return Vector::ZERO;
         }
         self.segment(i).direction()
@@ -47,7 +47,7 @@ impl<'a> Track<'a> {
         for i in 0..self.len() {
             let outgoing = self.outgoing(i);
             let tangent = (incoming + outgoing).unit();
-            let at = i * 3;
+            let at = i * POINT_STRIDE;
             list[at] = tangent.x;
             list[at + 1] = tangent.y;
             list[at + 2] = tangent.z;
@@ -61,7 +61,7 @@ impl<'a> Track<'a> {
         ensures list_after { list.new ≡ tangents_left result (point_at self.now) (count_of self.now) list.old }
     {
         // the C interface lends the list flat
-        if list.len() / 3 < self.len() {
+        if list.len() / POINT_STRIDE < self.len() {
             return None;
         }
         self.write_tangents(list);

@@ -4,6 +4,7 @@ ghost use Rattle.refusals.specs.Answer.{answered};
 ghost use Rattle.tracks_calls.specs.TrackCalls.{tangents_call, tangents_list, track_pose_call, project_call};
 
 use crate::rows::{checked_track, point_inside};
+use coordinates::POINT_STRIDE;
 use records::Point;
 use refusals::Refusal;
 use tracks::{Projection, Track, TrackPose};
@@ -14,7 +15,7 @@ pub fn tangents(points: &[f32], list: &mut [f32]) -> Result<usize, Refusal>
     ensures list_after { list.new ≡ tangents_list points.now list.old }
 {
     // room is row 13's and comes before row 14, so that it is asked of the list, lent flat, before the track is checked
-    if list.len() / 3 < Track::new(points).len() {
+    if list.len() / POINT_STRIDE < Track::new(points).len() {
         return Err(Refusal::TrackCount);
     }
     checked_track(points)?

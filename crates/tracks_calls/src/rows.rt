@@ -3,11 +3,12 @@ ghost use Rattle.std.specs.Prelude.{◌≡◌, length};
 ghost use Rattle.refusals.specs.Answer.{answered};
 ghost use Rattle.tracks_calls.specs.TrackCalls.{track_counted, inside_size, all_inside, point_inside, track_call};
 
+use coordinates::POINT_STRIDE;
 use records::Point;
 use refusals::Refusal;
 use tracks::Track;
 
-// How many points a track has.
+// The fewest and the most points of a track.
 const LEAST_POINTS: usize = 2;
 
 const MOST_POINTS: usize = 512;
@@ -20,7 +21,7 @@ fn counted(points: &[f32]) -> bool
     ensures { result ≡ track_counted (length points.now) }
 {
     let count = Track::new(points).len();
-    points.len() % 3 == 0 && (LEAST_POINTS..=MOST_POINTS).contains(&count)
+    points.len() % POINT_STRIDE == 0 && (LEAST_POINTS..=MOST_POINTS).contains(&count)
 }
 
 // Whether a coordinate is at most 2,000,000 in size; a NaN is not.
