@@ -4,5 +4,5 @@
 mod points;
 mod vectors;
 
-pub use points::{coordinate, point};
+pub use points::{POINT_STRIDE, coordinate, point};
 pub use vectors::{Vector, place_between, vector_between};

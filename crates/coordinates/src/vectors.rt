@@ -124,7 +124,7 @@ impl Vector {
         root32(self.dot(self))
     }
 
-    // The vector over its length, by one quotient; zero where the length is 0 or not finite.
+    // The vector over its length, by one quotient; zero where the length is 0 or not finite. By two comparisons, as the definition says it: `is_finite` tests the size of a length that has no sign.
     #[tactic(auto, unfolding(crate::specs::Vectors::unit_of))]
     pub fn unit(self) -> Vector
         ensures { result ≡ unit_of self }

@@ -1,8 +1,7 @@
 -- The nearest place as the code finds it: a turn of the loop over the segments, and that the segment chosen by it is the one of the definition.
-use Prim.Native.Nat.{ℕ, zero, suc, ◌+◌, ◌-◌, ◌<◌}
-use native.Mathlib.Omega.{arith}
+use Prim.Native.Nat.{ℕ, zero, suc, ◌+◌, ◌-◌}
 use native.Mathlib.Numerals.{add-one}
-use mathlib.Core.Path.{◌≡◌, refl, sym, ap, ◌∙◌, subst}
+use mathlib.Core.Path.{◌≡◌, refl, sym, ap, ◌∙◌}
 use mathlib.Core.Bool.{Bool, true, false, cond}
 use lib.Ieee.{Float, lt}
 use Rattle.std.specs.declared.option.Option.{Option}
@@ -69,35 +68,6 @@ module _ (p : ℕ → Point) (at : Point) where
       → r ≡ candidate_of (from_to on.from on.to) closest.t closest.point closest.apart from → r ≡ project_of p n at
   unfolding closest_on
   project_on_segment n h e ho hc hf hr = rw (← project-is n h, e, hr, hf, hc, ho)
-
-  -- ---- the segment chosen is one of those that were looked at
-
-  abbrev Below : ℕ → Option ℕ → Type 0
-  Below k None = ℕ
-  Below k (Some i) = i < k
-
-  weaker : (k : ℕ) (o : Option ℕ) → Below k o → Below (suc k) o
-  weaker k None h = h
-  weaker k (Some i) h = omega arith
-
-  below-better : (k : ℕ) (c : Chosen) → Below k c.segment → Below (suc k) (better_of c (segment_at p k) at k).segment
-  unfolding better_of
-  below-better k c h = go (lt (square_to (closest_of (p k) (p (suc k)) at) at) c.square)
-    where
-      taken : Chosen
-      taken = record { square = square_to (closest_of (p k) (p (suc k)) at) at; segment = Some k }
-
-      go : (b : Bool) → Below (suc k) (cond b taken c).segment
-      go true = omega arith
-      go false = weaker k c.segment h
-
-  below : (k : ℕ) → Below k (chosen_of p at k).segment
-  unfolding chosen_of
-  below zero = 0
-  below (suc k) = below-better k (chosen_of p at k) (below k)
-
-  pub chosen_below : (k : ℕ) {i : ℕ} {c : Chosen} → c ≡ chosen_of p at k → c.segment ≡ Some i → i < k
-  chosen_below k h e = subst (λ (o : Option ℕ). Below k o) e (subst (λ (x : Chosen). Below k x.segment) (sym h) (below k))
 
 pub ruleset choices = (chosen_none, chosen_next)
 

@@ -1,5 +1,5 @@
 -- Document 02, Point 1: `vertex_tangents` of src/geometry.rs, "no end tangents given".
-use Rattle.std.specs.Prelude.{ℕ, zero, suc, ◌+◌, ◌*◌, Bool, true, false, cond, List, [], ◌∷◌, ◌++◌, drop, ltb, Float}
+use Rattle.std.specs.Prelude.{ℕ, zero, suc, ◌+◌, ◌*◌, cond, Option, Some, None, List, [], ◌∷◌, ◌++◌, drop, leb, ltb, Float}
 use Rattle.records.specs.declared.points.Point.{Point}
 use Rattle.coordinates.specs.declared.vectors.Vector.{Vector}
 use Rattle.coordinates.specs.Vectors.{from_to, horizontal_of, unit_of, sum_of, zero_vector}
@@ -28,7 +28,11 @@ unfolding tangent_of
 tangent_numbers p n zero = []
 tangent_numbers p n (suc k) = tangent_numbers p n k ++ ((tangent_of p n k).x ∷ (tangent_of p n k).y ∷ (tangent_of p n k).z ∷ [])
 
+-- how many points' tangents are written into a list with room for `room`; none where there is no room for all n
+abbrev pub tangents_listed : ℕ → ℕ → Option ℕ
+tangents_listed n room = cond (leb n room) (Some n) None
+
 -- the lent list afterwards: "Lists lent here .. stay as they were past what is written"; all of it stays where there is no room
-abbrev pub tangents_left : Bool → (ℕ → Point) → ℕ → List Float → List Float
-tangents_left true p n xs = tangent_numbers p n n ++ drop (n * 3) xs
-tangents_left false p n xs = xs
+abbrev pub tangents_left : Option ℕ → (ℕ → Point) → ℕ → List Float → List Float
+tangents_left (Some k) p n xs = tangent_numbers p n n ++ drop (n * 3) xs
+tangents_left None p n xs = xs

@@ -1,5 +1,5 @@
 // A track's position and heading at an arc length.
-ghost use Rattle.std.specs.Prelude.{◌≡◌, suc, ◌<◌, ◌^◌};
+ghost use Rattle.std.specs.Prelude.{◌≡◌, suc};
 ghost use Rattle.float_laws.specs.Binary32.{clamp_of};
 ghost use Rattle.coordinates.specs.Points.{point_at};
 ghost use Rattle.tracks.specs.Lines.{count_of};
@@ -33,7 +33,7 @@ struct Stretch {
 }
 
 // x raised to low where it is below, lowered to high where it is above; a NaN stays. The library's `clamp` wants low at most high, which an arc length that is NaN is not.
-pub(crate) fn clamped(low: f32, high: f32, x: f32) -> f32
+fn clamped(low: f32, high: f32, x: f32) -> f32
     ensures { result ≡ clamp_of low high x }
 {
     if x < low {
@@ -66,7 +66,6 @@ impl<'a> Track<'a> {
     fn stretch_at(&self, s: f32) -> Stretch
         ensures segment_value { result.segment ≡ segment_of (point_at self.now) (count_of self.now) s }
         ensures from_value { (result.from ≡ length_to (point_at self.now) result.segment) × (result.to ≡ length_to (point_at self.now) (suc result.segment)) }
-        ensures upper_bound { suc result.segment < 2 ^ 64 }
     {
         let mut on = Stretch {
             segment: 0,
@@ -74,7 +73,7 @@ impl<'a> Track<'a> {
             to: 0.0 + self.segment(0).length(),
         };
         let behind = 0.0 <= s;
-        for i in 1..self.len().saturating_sub(1) {
+        for i in 1..self.segment_count() {
             if !(behind & (on.to <= s)) {
                 return on;
             }
@@ -90,8 +89,7 @@ impl<'a> Track<'a> {
     // The segment and the fraction at the arc length s, which is held to 0..length.
     #[tactic(auto, using(crate::proofs::PoseSteps::spot_is))]
     fn locate(&self, s: f32) -> Spot
-        ensures upper_bound { suc result.segment < 2 ^ 64 }
-        ensures value { result ≡ spot_of (point_at self.now) (count_of self.now) s }
+        ensures { result ≡ spot_of (point_at self.now) (count_of self.now) s }
     {
         let held = clamped(0.0, self.length(), s);
         let on = self.stretch_at(held);
@@ -102,12 +100,13 @@ impl<'a> Track<'a> {
     }
 
     // The heading t of the way along segment i, between the tangents of its ends.
-    #[tactic(auto, unfolding(crate::specs::Poses::heading_at))]
+    #[tactic(auto, using(crate::proofs::NextPoints::heading_is))]
     fn heading(&self, i: usize, t: f32) -> Vector
-        requires { suc i < 2 ^ 64 }
         ensures { result ≡ heading_at (point_at self.now) (count_of self.now) i t }
     {
-        vector_between(self.tangent(i), self.tangent(i + 1), t).unit()
+        // so that the proof knows how long a track may be
+        let _ = &self.numbers;
+        vector_between(self.tangent(i), self.tangent(i.saturating_add(1)), t).unit()
     }
 
     // The track's pose at the arc length s, held to 0..length. A NaN s is in the first segment.

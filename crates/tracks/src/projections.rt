@@ -1,5 +1,5 @@
 // The place of a track nearest to a given one.
-ghost use Rattle.std.specs.Prelude.{◌≡◌, ◌-◌, ◌<◌, ◌^◌};
+ghost use Rattle.std.specs.Prelude.{◌≡◌, ◌-◌};
 ghost use Rattle.coordinates.specs.Vectors.{from_to};
 ghost use Rattle.coordinates.specs.Points.{point_at};
 ghost use Rattle.tracks.specs.Lines.{count_of};
@@ -7,7 +7,6 @@ ghost use Rattle.tracks.specs.Projections.{foot_of, candidate_of, project_of};
 ghost use Rattle.tracks.specs.ProjectionChoice.{closest_on, better_of, chosen_of};
 
 use crate::lines::Track;
-use crate::poses::clamped;
 use crate::segments::Segment;
 use coordinates::Vector;
 use records::Point;
@@ -45,7 +44,7 @@ fn foot(ab: Vector, ap: Vector) -> f32
 {
     let square = ab.dot(ab);
     if LEAST_SQUARE < square {
-        return clamped(0.0, 1.0, ap.dot(ab) / square);
+        return (ap.dot(ab) / square).clamp(0.0, 1.0);
     }
     0.0
 }
@@ -103,14 +102,13 @@ impl<'a> Track<'a> {
     // The nearest of all segments, the first of them where several are as near. No arc length is summed here: every segment's takes a root, and only those up to the chosen one count.
     #[tactic(auto, using(crate::proofs::ProjectionSteps::choices))]
     fn choose(&self, at: Point) -> Chosen
-        ensures value { result ≡ chosen_of (point_at self.now) at (count_of self.now - 1) }
-        ensures upper_bound { count_of self.now < 2 ^ 63 }
+        ensures { result ≡ chosen_of (point_at self.now) at (count_of self.now - 1) }
     {
         let mut best = Chosen {
             square: f32::INFINITY,
             segment: None,
         };
-        for i in 0..self.len().saturating_sub(1) {
+        for i in 0..self.segment_count() {
             best = best.or_nearer(self.segment(i), at, i);
         }
         best

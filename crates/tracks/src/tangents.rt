@@ -1,11 +1,11 @@
 // The tangents of a track's points.
-ghost use Rattle.std.specs.Prelude.{◌≡◌, ◌++◌, ◌*◌, ◌/◌, ◌≤◌, leb, length, drop};
+ghost use Rattle.std.specs.Prelude.{◌≡◌, ◌++◌, ◌*◌, ◌/◌, ◌≤◌, length, drop};
 ghost use Rattle.coordinates.specs.Points.{point_at};
 ghost use Rattle.tracks.specs.Lines.{count_of};
-ghost use Rattle.tracks.specs.Tangents.{incoming_of, outgoing_of, tangent_of, tangent_numbers, tangents_left};
+ghost use Rattle.tracks.specs.Tangents.{incoming_of, outgoing_of, tangent_of, tangent_numbers, tangents_listed, tangents_left};
 
 use crate::lines::Track;
-use coordinates::Vector;
+use coordinates::{POINT_STRIDE, Vector};
 
 impl<'a> Track<'a> {
     // The direction of the segment that ends at point i; zero at the first point.
@@ -23,7 +23,7 @@ impl<'a> Track<'a> {
     fn outgoing(&self, i: usize) -> Vector
         ensures { result ≡ outgoing_of (point_at self.now) (count_of self.now) i }
     {
-        if self.len().saturating_sub(1) <= i {
+        if self.segment_count() <= i {
             return Vector::ZERO;
         }
         self.segment(i).direction()
@@ -38,6 +38,7 @@ impl<'a> Track<'a> {
     }
 
     // Writes the tangent of each point into the list, three f32 each. A segment's direction is worked out once, at the point it leaves, and kept for the next.
+    // By index: the chunks of three that a list may be cut into would go with the points' numbers, and no contract of an adapter over mutable chunks tells what was written.
     fn write_tangents(&self, list: &mut [f32])
         requires { count_of self.now * 3 ≤ length list.old }
         ensures { list.new ≡ tangent_numbers (point_at self.now) (count_of self.now) (count_of self.now) ++ drop (count_of self.now * 3) list.old }
@@ -46,7 +47,7 @@ impl<'a> Track<'a> {
         for i in 0..self.len() {
             let outgoing = self.outgoing(i);
             let tangent = (incoming + outgoing).unit();
-            let at = i * 3;
+            let at = i * POINT_STRIDE;
             list[at] = tangent.x;
             list[at + 1] = tangent.y;
             list[at + 2] = tangent.z;
@@ -54,16 +55,16 @@ impl<'a> Track<'a> {
         }
     }
 
-    // Writes the tangents where the list holds three f32 for each point, and tells whether it does; else it stays as it was.
-    pub fn list_tangents(&self, list: &mut [f32]) -> bool
-        ensures value { result ≡ leb (count_of self.now) (length list.old / 3) }
+    // Writes the tangents and answers of how many points; none where the list does not hold three f32 for each, and then it stays as it was.
+    pub fn list_tangents(&self, list: &mut [f32]) -> Option<usize>
+        ensures value { result ≡ tangents_listed (count_of self.now) (length list.old / 3) }
         ensures list_after { list.new ≡ tangents_left result (point_at self.now) (count_of self.now) list.old }
     {
         // the C interface lends the list flat
-        if list.len() / 3 < self.len() {
-            return false;
+        if list.len() / POINT_STRIDE < self.len() {
+            return None;
         }
         self.write_tangents(list);
-        true
+        Some(self.len())
     }
 }

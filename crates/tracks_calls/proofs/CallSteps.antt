@@ -7,8 +7,11 @@ use lib.Dec.{leb}
 use borrow.Author.Tests.{le-leb, lt-leb}
 use lib.ListN.{length}
 use lib.Ieee.{Float}
+use Rattle.std.specs.declared.option.Option.{Option}
+use Rattle.std.specs.declared.option.Option.TheVariants.{Some}
 use Rattle.std.specs.declared.result.Result.{Result}
 use Rattle.std.specs.declared.result.Result.TheVariants.{Ok, Err}
+use Rattle.std.specs.Option.{ok_or}
 use Rattle.float_laws.proofs.Nearest.{apart}
 use Rattle.refusals.specs.Answer.{Answer, value, refused, answered, row, checked}
 use Rattle.refusals.specs.Refusal.{number_of}
@@ -18,7 +21,7 @@ use Rattle.records.specs.declared.points.Point.{Point}
 use Rattle.coordinates.specs.Points.{point_at}
 use Rattle.tracks.specs.declared.poses.TrackPose.{TrackPose}
 use Rattle.tracks.specs.declared.projections.Projection.{Projection}
-use Rattle.tracks.specs.Tangents.{tangents_left}
+use Rattle.tracks.specs.Tangents.{tangents_listed, tangents_left}
 use Rattle.tracks.specs.Poses.{track_pose_of}
 use Rattle.tracks.specs.Projections.{project_of}
 use Rattle.tracks_calls.specs.TrackCalls.{track_counted, all_inside, point_inside, track_call, tangents_call, tangents_after, tangents_list, track_pose_call, project_call}
@@ -118,9 +121,9 @@ module _ (xs : List Float) where
           go (by_count e f) = rw (e, f)
           go (by_range e f g) = rw (e, f, room, g)
 
-      pub tangents_passed : {ys : List Float} {n : ℕ} → r ≡ Ok ys → n ≡ length ys / 3 → value n ≡ tangents_call xs len
+      pub tangents_passed : {ys : List Float} → r ≡ Ok ys → value (length xs / 3) ≡ tangents_call xs len
       unfolding tangents_call
-      tangents_passed k e = let ok = passed k in rw (e, ok.0, ok.1, ok.2, room)
+      tangents_passed k = let ok = passed k in rw (ok.1, ok.2, room)
 
   pub no_room : (len : ℕ) → len / 3 < length xs / 3 → refused 13 ≡ tangents_call xs len
   unfolding tangents_call
@@ -135,12 +138,19 @@ room n len l = le-leb n (len / 3) l
 
 -- ---- the list of tangents
 
--- a list with room is written
-pub list_written : (xs list : List Float) {ys zs : List Float} {b : Bool} → ys ≡ xs → leb (length xs / 3) (length list / 3) ≡ true → b ≡ leb (length ys / 3) (length list / 3) → zs ≡ tangents_left b (point_at ys) (length ys / 3) list → zs ≡ tangents_left true (point_at xs) (length xs / 3) list
-list_written xs list {ys} {zs} {b} e l f h =
-    let left = λ (c : Bool) (vs : List Float). tangents_left c (point_at vs) (length vs / 3) list in
-    let full : leb (length ys / 3) (length list / 3) ≡ true = ap (λ (vs : List Float). leb (length vs / 3) (length list / 3)) e ∙ l in
-    h ∙ ap (λ (c : Bool). left c ys) (f ∙ full) ∙ ap (left true) e
+pub counted_new : (xs : List Float) {ys : List Float} {n : ℕ} → ys ≡ xs → n ≡ length ys / 3 → n ≡ length xs / 3
+counted_new xs e f = rw (f, e)
+
+-- an answer that is there is the call's
+pub answered_by : {o : Option ℕ} (e : Refusal) {r : Result ℕ Refusal} {n : ℕ} → r ≡ ok_or o e → o ≡ Some n → answered r ≡ value n
+answered_by e f g = rw (f, g)
+
+-- a list with room is written, and the answer is how many points it has
+pub listed : (xs list : List Float) {ys : List Float} {o : Option ℕ} → ys ≡ xs → leb (length xs / 3) (length list / 3) ≡ true → o ≡ tangents_listed (length ys / 3) (length list / 3) → o ≡ Some (length xs / 3)
+listed xs list e l f = rw (f, e, l)
+
+pub list_written : (xs list : List Float) {ys zs : List Float} {o : Option ℕ} → ys ≡ xs → o ≡ Some (length xs / 3) → zs ≡ tangents_left o (point_at ys) (length ys / 3) list → zs ≡ tangents_left (Some (length xs / 3)) (point_at xs) (length xs / 3) list
+list_written xs list e f h = rw (h, f, e)
 
 pub list_by : (xs list : List Float) {ys : List Float} {a : Answer ℕ} → a ≡ tangents_call xs (length list) → ys ≡ tangents_after a xs list → ys ≡ tangents_list xs list
 unfolding tangents_list

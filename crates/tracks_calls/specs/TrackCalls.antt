@@ -1,6 +1,6 @@
 -- Document 02, Point 1: the three calls on a track. "Answers: 13, fewer than 2 or more than 512 points, a slice that is not three f32 a point, or a list lent for tangents shorter than the points, checked first;
 -- 14, a coordinate outside or NaN, the projected point's included, checked next". What the Rust turns down or panics on beyond these: nothing (tracks_laws, TrackLaws).
-use Rattle.std.specs.Prelude.{ℕ, ◌/◌, ◌%◌, Bool, true, ◌&&◌, List, [], ◌∷◌, length, leb, eqb, Float}
+use Rattle.std.specs.Prelude.{ℕ, ◌/◌, ◌%◌, Bool, Some, ◌&&◌, List, [], ◌∷◌, length, leb, eqb, Float}
 use Rattle.std.specs.List.{list_all}
 use Rattle.std.specs.Float.Ieee.{neg, le}
 use Rattle.float_laws.specs.Binary32.{f32}
@@ -67,7 +67,7 @@ tangents_call xs len = checked (tangent_rows xs len) (value (length xs / 3))
 
 -- and the list afterwards: a refusal changes nothing
 abbrev pub tangents_after : Answer ℕ → List Float → List Float → List Float
-tangents_after (value n) xs list = tangents_left true (point_at xs) (length xs / 3) list
+tangents_after (value n) xs list = tangents_left (Some n) (point_at xs) (length xs / 3) list
 tangents_after (refused n) xs list = list
 
 unfoldable pub tangents_list : List Float → List Float → List Float

@@ -3,11 +3,12 @@ ghost use Rattle.std.specs.Prelude.{◌≡◌, length};
 ghost use Rattle.refusals.specs.Answer.{answered};
 ghost use Rattle.tracks_calls.specs.TrackCalls.{track_counted, inside_size, all_inside, point_inside, track_call};
 
+use coordinates::POINT_STRIDE;
 use records::Point;
 use refusals::Refusal;
 use tracks::Track;
 
-// How many points a track has.
+// The fewest and the most points of a track.
 const LEAST_POINTS: usize = 2;
 
 const MOST_POINTS: usize = 512;
@@ -19,8 +20,8 @@ const GREATEST_COORDINATE: f32 = 2000000.0;
 fn counted(points: &[f32]) -> bool
     ensures { result ≡ track_counted (length points.now) }
 {
-    let n = points.len();
-    n % 3 == 0 && (LEAST_POINTS..=MOST_POINTS).contains(&(n / 3))
+    let count = Track::new(points).len();
+    points.len() % POINT_STRIDE == 0 && (LEAST_POINTS..=MOST_POINTS).contains(&count)
 }
 
 // Whether a coordinate is at most 2,000,000 in size; a NaN is not.
@@ -31,7 +32,7 @@ fn inside(x: f32) -> bool
     (-GREATEST_COORDINATE <= x) & (x <= GREATEST_COORDINATE)
 }
 
-// Whether all coordinates are.
+// Whether all coordinates of a slice are at most 2,000,000 in size.
 fn all_inside(points: &[f32]) -> bool
     ensures { result ≡ all_inside points.now }
 {
@@ -39,7 +40,7 @@ fn all_inside(points: &[f32]) -> bool
     points.iter().fold(true, |ok, x| ok & inside(*x))
 }
 
-// Whether a point's three coordinates are.
+// Whether the three coordinates of a point are at most 2,000,000 in size.
 pub(crate) fn point_inside(p: Point) -> bool
     ensures { result ≡ point_inside p }
 {
