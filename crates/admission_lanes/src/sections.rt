@@ -30,11 +30,11 @@ pub fn section_extent(road: &LentRoad, i: usize) -> f64
     end - section_start(road, i)
 }
 
-#[tactic(auto, unfolding(admission::specs::Limits::height_limited))]
+#[tactic(auto, using(arithmetic_ranges::proofs::FiniteLaws::finite_is), unfolding(admission::specs::Limits::height_limited))]
 fn height_limited(h: HeightDef) -> bool
     ensures { result ≡ height_limited h }
 {
-    sized(LARGEST, h.s_offset)
+    h.s_offset.is_finite()
         && sized(GREATEST_LANE_HEIGHT, h.inner)
         && sized(GREATEST_LANE_HEIGHT, h.outer)
 }

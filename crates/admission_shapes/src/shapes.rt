@@ -9,6 +9,7 @@ ghost use Rattle.admission.specs.Limits.{road_cubics_within, profile_limited, te
 use admission::{on_road, road_cubics_within};
 use admission_bounds::{cubics_within, greatest_bound};
 use arithmetic_ranges::LARGEST;
+use arithmetic_sine::horner;
 use records::{LentRoad, StripKind};
 use records_shapes::{profile_count, profile_start, shapes, strip, strip_column};
 
@@ -52,14 +53,15 @@ fn column_bound(road: &LentRoad, i: usize, column: usize) -> f64
 }
 
 // The four terms at their greatest, by Horner at 88.
+#[tactic(auto, unfolding(arithmetic_sine::specs::Sine::horner))]
 fn terms_bound(road: &LentRoad, i: usize) -> f64
     ensures { result ≡ terms_bound road.now (strip_at road.now i) }
 {
     let cubic = column_bound(road, i, 4);
     let square = column_bound(road, i, 3);
     let linear = column_bound(road, i, 2);
-    ((cubic * FARTHEST_ACROSS + square) * FARTHEST_ACROSS + linear) * FARTHEST_ACROSS
-        + column_bound(road, i, 1)
+    let constant = column_bound(road, i, 1);
+    horner(FARTHEST_ACROSS, cubic, &[square, linear, constant])
 }
 
 // A strip's column: starts on the road, and B at most the limit.

@@ -1,6 +1,6 @@
 // An f64 narrowed to an f32, by integer work on the bit pattern: the digits that an f32 has no room for are dropped, to the nearest and half to even.
 //
-// The library's `nearest_f64_to_f32_with_nan` is as fast, and not used: narrowing and the root are to rest on one rounding fact, `round-pattern` of float_laws.
+// The library's `nearest_f64_to_f32_with_nan` is as fast, and not used: document 01 has it that root and narrowing share one rounding fact, which is `round-pattern` of float_laws.
 //
 // By the exponent's field of the f64: to 872 the value is under half the smallest f32; to 896 it is a subnormal f32, with fewer digits the smaller it is; to 1150 it is a normal one, with 24 digits of the 53; beyond, it is too large.
 ghost use Rattle.std.specs.Prelude.{◌≡◌, ◌<◌, ◌^◌};

@@ -1,6 +1,6 @@
 // The square root of a float, nearest to the exact one, by integer work on the bit pattern, for both widths; and hypot, which is made of it.
 //
-// Not the library's `sqrt`, which is the machine's: the root is to be made in whole numbers, from leading zeros and digits.
+// Not the library's `sqrt`, which is the machine's: document 01 has the root align its operand by leading zeros, then go digit by digit.
 //
 // A format keeps P digits, the leading one not in the pattern, and ONES is the exponent's field of its infinity.
 // x is m * 2^j of the smallest value, 2^-1074 for an f64. Leading zeros move m's leading digit to bit P - 1, for a subnormal x too, and one digit more makes the power of two that is
