@@ -1,6 +1,6 @@
 // Records in lent numbers, one after another.
 ghost use Rattle.std.specs.Prelude.{◌≡◌, ◌+◌, ◌*◌, ◌<◌, ℕ, List, Float, length, get_or};
-ghost use Rattle.records_lent.specs.Lists.{record_at, records_of, span};
+ghost use Rattle.records_lent.specs.Lists.{records_of, span};
 
 use crate::access::part;
 use std::marker::{Model, PhantomData};
@@ -22,16 +22,6 @@ pub trait Record: Copy {
     // What stands for a record where there is none.
     fn none() -> Self
         ensures { result ≡ none };
-
-    // The record whose numbers begin at a place, none where they are not all there.
-    final fn read(numbers: &[f64], at: usize) -> Self
-        ensures { result ≡ record_at from none STRIDE numbers.now at }
-    {
-        if numbers.len() < at.saturating_add(Self::STRIDE) {
-            return Self::none();
-        }
-        Self::from_part(&numbers[at..at + Self::STRIDE])
-    }
 
     ghost stride_positive: { 0 < STRIDE };
 
@@ -85,9 +75,9 @@ impl<'a, T: Record> Records<'a, T> {
     pub fn get(&self, i: usize) -> T
         ensures { result ≡ get_or self.now i T.none }
     {
-        let numbers = self.numbers;
-        if i < numbers.len() / T::STRIDE {
-            T::read(numbers, i * T::STRIDE)
+        if i < self.len() {
+            let at = i * T::STRIDE;
+            T::from_part(&self.numbers[at..at + T::STRIDE])
         } else {
             T::none()
         }

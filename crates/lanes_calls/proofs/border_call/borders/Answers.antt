@@ -32,7 +32,7 @@ returns-then-not-list_borders c =
     let listed = c.list_borders.ensures in
     let e =
     borders-admitted w d s (length xs) c.in_ok-road.ensures
-    (λ r. list-short w d s (length xs) r c.on_road.ensures c.if-not-on_road.false c.section_at-section.ensures listed.value c.if-not-list_borders.true)
+    (λ r. list-short w d s (length xs) r c.on_road.ensures c.if-not-on_road.false c.section_index-section.ensures listed.value c.if-not-list_borders.true)
     in
     record { result_value = e; list_after = list-by w d s xs e (list-kept w d s xs _ _ listed.list_after c.if-not-list_borders.true) }
 
@@ -45,6 +45,6 @@ returns c =
     let listed = c.list_borders.ensures in
     let e =
     borders-admitted w d s (length xs) c.in_ok-road.ensures
-    (λ r. list-long w d s (length xs) r c.on_road.ensures c.if-not-on_road.false c.section_at-section.ensures listed.value c.if-not-list_borders.false c.section_lanes.ensures)
+    (λ r. list-long w d s (length xs) r c.on_road.ensures c.if-not-on_road.false c.section_index-section.ensures listed.value c.if-not-list_borders.false c.section_lanes.ensures)
     in
-    record { result_value = e; list_after = list-by w d s xs e (list-made w d s xs _ _ listed.list_after c.if-not-list_borders.false (admitted-road w d c.in_ok-road.ensures) c.section_at-section.ensures c.section_lanes.result) }
+    record { result_value = e; list_after = list-by w d s xs e (list-made w d s xs _ _ listed.list_after c.if-not-list_borders.false (admitted-road w d c.in_ok-road.ensures) c.section_index-section.ensures c.section_lanes.result) }
