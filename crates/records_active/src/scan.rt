@@ -42,11 +42,13 @@ pub fn active<T: Starting>(records: &Records<T>, s: f64) -> Option<usize>
     (0..records.len()).rfind(|i| records.get(*i).start() <= s + ACTIVE_MARGIN)
 }
 
-// The active cubic of a list, by value.
+// The active cubic of a list, by value. Not by `map`: the prover infers nothing of a closure that calls `get`, and its clause in words would be the longer
+// form.
 fn active_cubic(cubics: &Cubics, s: f64) -> Option<Cubic>
     ensures { result ≡ option_map (cubic_at cubics.now) (active_in cubics.now s) }
 {
-    active(cubics, s).map(|i| cubics.get(i))
+    let i = active(cubics, s)?;
+    Some(cubics.get(i))
 }
 
 // The value at s of the active cubic, 0 where none is.

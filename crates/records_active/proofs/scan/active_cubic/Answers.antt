@@ -1,10 +1,15 @@
 -- `active_cubic`: the cubic at the place that was found, or none.
-use Rattle.std.proofs.Common.{rules}
+use mathlib.Core.Path.{◌∙◌, ap, sym}
+use Rattle.std.specs.declared.option.Option.TheVariants.{Some}
+use Rattle.std.specs.Option.{option_map}
 use Rattle.records_cubic.specs.Cubics.{cubic_at}
 use Rattle.records.specs.Active.{last_start, active_in}
-use Rattle.records_active.proofs.FirstLaws.{found_mapped}
 use Rattle.records_active.proofs.scan.active_cubic.Goals as goal
+
+pub returns-in_err-i : goal.returns-in_err-i
+unfolding active_in last_start
+returns-in_err-i c = c.from_residual.ensures ∙ ap (option_map (cubic_at c.args.cubics.now)) (sym c.in_err-i.was ∙ c.active.ensures)
 
 pub returns : goal.returns
 unfolding active_in last_start
-returns c = rw (← c.active.ensures) (found_mapped (cubic_at c.args.cubics.now) c.active.result c.map.ensures.cases (λ x y k. search rules))
+returns c = ap Some c.get.ensures ∙ ap (option_map (cubic_at c.args.cubics.now)) (sym c.in_ok-i.was ∙ c.active.ensures)
