@@ -56,8 +56,8 @@ impl<'a, T: Record> Records<'a, T> {
         }
     }
 
-    // Of a table that begins at a base, so many lines from the first on, each a record. The sums saturate, so that any numbers may be asked: beyond the
-    // last number there is none, and a word's sums are too small for the compiler to keep the test.
+    // Of a table that begins at a base, so many lines from the first on, each a record. The sums saturate, so that any numbers may be asked: so far on there
+    // is none. First and count are two parameters, since a road's flat tables have a count alone.
     pub fn of_table(numbers: &'a [f64], base: usize, first: usize, count: usize) -> Self
         ensures { result ≡ records_of T.from T.STRIDE (span numbers.now (base + first * T.STRIDE) (count * T.STRIDE)) }
     {
@@ -71,7 +71,8 @@ impl<'a, T: Record> Records<'a, T> {
         self.numbers.len() / T::STRIDE
     }
 
-    // The i-th record, none past the last.
+    // The i-th record, none past the last. Callers go by index, over ranges: the tests of an order look at the next record too, and one law of ranges serves
+    // them all.
     pub fn get(&self, i: usize) -> T
         ensures { result ≡ get_or self.now i T.none }
     {
