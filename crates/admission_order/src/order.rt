@@ -7,6 +7,7 @@ ghost use Rattle.records.specs.Roads.{height_def_at, geom_at, section_of, no_lan
 ghost use Rattle.admission_order.specs.Order.{least_gap, never_fall, rise_strictly, apart, cubics_in_order, lane_in_order, section_in_order, strip_in_order, ordered};
 
 use crate::marks::all_marks_in_order;
+use records::layout::{STRIP_COLUMNS, STRIPS};
 use records::{Heights, LentRoad};
 use records_cubic::Cubics;
 use records_geometry::geom;
@@ -98,13 +99,13 @@ fn shapes_in_order(road: &LentRoad) -> bool
 fn strip_in_order(road: &LentRoad, i: usize) -> bool
     ensures { result ≡ strip_in_order (strip_at road.now i) }
 {
-    (0..5).all(|column| cubics_in_order(&strip_column(road, i, column)))
+    (0..STRIP_COLUMNS).all(|column| cubics_in_order(&strip_column(road, i, column)))
 }
 
 fn strips_in_order(road: &LentRoad) -> bool
     ensures { result ≡ all_below (λ i. strip_in_order (strip_at road.now i)) 4 }
 {
-    (0..4).all(|i| strip_in_order(road, i))
+    (0..STRIPS).all(|i| strip_in_order(road, i))
 }
 
 fn first_at_zero(road: &LentRoad) -> bool

@@ -10,6 +10,7 @@ use admission::{on_road, road_cubics_within};
 use admission_bounds::{cubics_within, greatest_bound};
 use arithmetic_ranges::LARGEST;
 use arithmetic_sine::horner;
+use records::layout::{STRIP_TERMS, STRIPS};
 use records::{LentRoad, StripKind};
 use records_shapes::{profile_count, profile_start, shapes, strip, strip_column};
 
@@ -74,7 +75,7 @@ fn column_within(road: &LentRoad, i: usize, column: usize, limit: f64) -> bool
 fn terms_within(road: &LentRoad, i: usize) -> bool
     ensures { result ≡ all_below (λ (term : ℕ). road_cubics_within road.now (column_of (strip_at road.now i) (term + 1)) largest) 4 }
 {
-    (0..4).all(|term| column_within(road, i, term + 1, LARGEST))
+    (0..STRIP_TERMS).all(|term| column_within(road, i, term + 1, LARGEST))
 }
 
 #[tactic(auto, unfolding(admission::specs::Limits::strip_limited))]
@@ -100,5 +101,5 @@ fn strip_limited(road: &LentRoad, i: usize) -> bool
 pub fn strips_limited(road: &LentRoad) -> bool
     ensures { result ≡ all_below (λ (i : ℕ). strip_limited road.now (strip_at road.now i)) 4 }
 {
-    (0..4).all(|i| strip_limited(road, i))
+    (0..STRIPS).all(|i| strip_limited(road, i))
 }

@@ -12,7 +12,8 @@ use records::layout::{
     MOST_HEIGHTS, MOST_HEIGHTS_A_LANE, MOST_LANES, MOST_LANES_A_SIDE, MOST_OFFSETS, MOST_PROFILES,
     MOST_SECTIONS, MOST_SHAPES, MOST_SHAPES_A_PROFILE, MOST_SHIFTS, NUMBERS_NEEDED,
     OFFSET_COUNT_AT, PROFILE_COUNT_AT, PROFILE_STRIDE, PROFILE_WORDS, RIGHT_WORDS, SECTION_COUNT_AT,
-    SECTION_STRIDE, SECTION_WORDS, STRIP_STRIDE, STRIP_WORDS, TSHIFT_COUNT_AT, WORDS_NEEDED,
+    SECTION_STRIDE, SECTION_WORDS, STRIP_COLUMNS, STRIP_STRIDE, STRIP_WORDS, STRIPS,
+    TSHIFT_COUNT_AT, WORDS_NEEDED,
 };
 use records_lent::word;
 
@@ -134,7 +135,7 @@ fn columns_ok(words: &[u16], i: usize) -> bool
     requires { i < 4 }
     ensures { result ≡ all_below (column_ok words.now i) 5 }
 {
-    (0..5).all(|column| column_ok(words, i, column))
+    (0..STRIP_COLUMNS).all(|column| column_ok(words, i, column))
 }
 
 // Of a strip that is not there no column is read.
@@ -150,7 +151,7 @@ fn strip_ok(words: &[u16], i: usize) -> bool
 fn strips_ok(words: &[u16]) -> bool
     ensures { result ≡ all_below (strip_ok words.now) 4 }
 {
-    (0..4).all(|i| strip_ok(words, i))
+    (0..STRIPS).all(|i| strip_ok(words, i))
 }
 
 // Whether the lent slices hold a road at all: long enough, counts within their limits, codes listed, ranges inside their tables.

@@ -7,7 +7,7 @@ ghost use Rattle.lanes_calls.specs.LaneCalls.{borders_call, borders_list};
 use admission_arguments::on_road;
 use admission_calls::admit;
 use lanes_border_list::list_borders;
-use records_active::section_at;
+use records_active::section_index;
 use refusals::Refusal;
 
 // Writes the borders at s of the section's lanes, left outward, then right, and answers how many lanes; rows 3, 4, 5, 7 and 11. The rest of the list, and all of it on a refusal, stays as it was.
@@ -19,6 +19,6 @@ pub fn borders(words: &[u16], numbers: &[f64], s: f64, list: &mut [f64]) -> Resu
     if !on_road(&road, s) {
         return Err(Refusal::Station);
     }
-    let section = section_at(&road, s);
+    let section = section_index(&road, s);
     list_borders(&road, section, s, list).ok_or(Refusal::BorderSpace)
 }

@@ -7,7 +7,7 @@ ghost use Rattle.lanes_calls.specs.LaneCalls.{lane_named_call};
 use admission_arguments::{across, on_road};
 use admission_calls::admit;
 use lanes_naming::lane_named_in;
-use records_active::section_at;
+use records_active::section_index;
 use refusals::Refusal;
 
 // The id of the lane at s and t, positive on the left and negative on the right: none at the base and on a side without lanes, and the outermost's beyond all borders; rows 3, 4, 5, 7 and 8.
@@ -21,5 +21,5 @@ pub fn lane_named(words: &[u16], numbers: &[f64], s: f64, t: f64) -> Result<Opti
     if !across(t) {
         return Err(Refusal::Offset);
     }
-    Ok(lane_named_in(&road, section_at(&road, s), s, t))
+    Ok(lane_named_in(&road, section_index(&road, s), s, t))
 }

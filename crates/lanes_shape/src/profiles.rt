@@ -4,7 +4,7 @@ ghost use Rattle.lanes.specs.Lateral.{profile_height, shape_between, shape_of};
 
 use arithmetic_ranges::blend;
 use records::LentRoad;
-use records_active::{active, profile_at};
+use records_active::{active, profile_index};
 use records_shapes::{profile_count, profile_start, shapes};
 
 // The i-th profile at t; before its first shape that shape's a.
@@ -33,7 +33,7 @@ pub fn shape_at(road: &LentRoad, s: f64, t: f64) -> f64
     ensures { result ≡ shape_of road.now s t }
 {
     let count = profile_count(road);
-    match profile_at(road, s) {
+    match profile_index(road, s) {
         Some(i) if i + 1 < count => shape_between(road, i, s, t),
         Some(i) => profile_height(road, i, t),
         None if count == 0 => 0.0,

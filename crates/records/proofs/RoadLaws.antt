@@ -11,10 +11,12 @@ use lib.Dec.{eqb}
 use lib.Ieee.{Float, nan, eq}
 use Rattle.float_laws.specs.Binary64.{zero64}
 use Rattle.records.specs.declared.points.GeomRec.{GeomRec}
+use Rattle.records.specs.declared.points.GeomShape.{GeomShape}
+use Rattle.records.specs.declared.points.GeomShape.TheVariants.{Line, Arc, Spiral}
 use Rattle.records.specs.declared.points.StripKind.TheVariants.{Absent, Absolute, Relative}
 use Rattle.records_lent.specs.Lists.{tabulate, span}
 use Rattle.records.specs.Active.{last_start, or_first, active_up_to}
-use Rattle.records.specs.Roads.{Road, Section, Profile, Strip, absent, present, road_of, geom_in, unused_in, lane_in, section_in, profile_in, column_in, strip_in, word_at, geom_from, no_geom, geom_at, all_zero, unused_zero, no_section, section_of, no_lane, lane_of, no_mark, mark_at, mark_in, no_profile, profile_at, strip_at, strip_kind_of, column_of, geom_index, section_index}
+use Rattle.records.specs.Roads.{Road, Section, Profile, Strip, absent, present, road_of, geom_in, unused_in, lane_in, section_in, profile_in, column_in, strip_in, word_at, geom_shape_of, geom_from, no_geom, geom_at, all_zero, unused_zero, no_section, section_of, no_lane, lane_of, no_mark, mark_at, mark_in, no_profile, profile_at, strip_at, strip_kind_of, column_of, geom_index, section_index}
 use Rattle.records_lent.proofs.TableLaws.{length-table, table_at, table-past, span-at, span-table}
 use Rattle.records.proofs.ScanLaws.{last_start-same}
 
@@ -175,8 +177,13 @@ module _ (words : List ℕ) (numbers : List Float) where
 abbrev there : List ℕ → List Float → ℕ → ℕ → Strip
 there words numbers i code = present (record { relative = eqb code 2; width = column_in words numbers i 0; terms = tabulate (λ j. column_in words numbers i (j + 1)) 4 })
 
--- a list of columns is zero by the tests on them
-zero-tests : (p q : Bool) (x y : Float) → cond p (eq y zero64) (cond q true (eq x zero64 && eq y zero64)) ≡ all_zero (cond p (y ∷ []) (cond q [] (x ∷ y ∷ [])))
+-- whether the columns that a shape does not use are zero, by the shape
+abbrev pub zero_unused : GeomShape → Float → Float → Bool
+zero_unused Line x y = eq x zero64 && eq y zero64
+zero_unused (Arc k) x y = eq y zero64
+zero_unused (Spiral k l) x y = true
+
+zero-tests : (p q : Bool) (x y : Float) → zero_unused (cond p (Arc x) (cond q (Spiral x y) Line)) x y ≡ all_zero (cond p (y ∷ []) (cond q [] (x ∷ y ∷ [])))
 zero-tests true q x y = sym (and-true (eq y zero64))
 zero-tests false true x y = refl
 zero-tests false false x y = ap (λ (b : Bool). eq x zero64 && b) (sym (and-true (eq y zero64)))
@@ -189,12 +196,12 @@ module _ (words : List ℕ) (numbers : List Float) where
   geom-by i h e f = rw (e, f) (sym (geom_in_lem words numbers i h))
 
   pub unused-by :
-      (i : ℕ) {kind : ℕ} {x y : Float} → i < get_or words 0 0 → kind ≡ get_or words (7 + i) 0 → x ≡ get_or numbers (6 + i * 7) nan → y ≡ get_or numbers (7 + i * 7) nan
-      → cond (eqb kind 1) (eq y zero64) (cond (eqb kind 2) true (eq x zero64 && eq y zero64)) ≡ unused_zero (road_of words numbers) i
+      (i : ℕ) {xs : List Float} {kind : ℕ} {shape : GeomShape} {x y : Float} → i < get_or words 0 0 → xs ≡ span numbers (1 + i * 7) 7 → kind ≡ get_or words (7 + i) 0
+      → x ≡ get_or xs 5 nan → y ≡ get_or xs 6 nan → geom_shape_of kind x y ≡ shape → zero_unused shape x y ≡ unused_zero (road_of words numbers) i
   unfolding unused_in
-  unused-by i h e f g =
-      rw (e, f, g, ← plus 1 5 (i * 7), ← plus 1 6 (i * 7)) (zero-tests (eqb (get_or words (7 + i) 0) 1) (eqb (get_or words (7 + i) 0) 2) (get_or numbers (1 + i * 7 + 5) nan) (get_or numbers (1 + i * 7 + 6) nan))
-      ∙ ap all_zero (sym (unused_in_lem words numbers i h))
+  unused-by i h e f g k l =
+      rw (← l, g, k, e, f, span-at numbers (1 + i * 7) 7 5 nan (omega arith), span-at numbers (1 + i * 7) 7 6 nan (omega arith))
+      (zero-tests (eqb (get_or words (7 + i) 0) 1) (eqb (get_or words (7 + i) 0) 2) (get_or numbers (1 + i * 7 + 5) nan) (get_or numbers (1 + i * 7 + 6) nan) ∙ ap all_zero (sym (unused_in_lem words numbers i h)))
 
   pub strip_by_lem : (i : ℕ) {code : ℕ} → i < 4 → code ≡ get_or words (1303 + i * 11) 0
       → cond (eqb code 0) Absent (cond (eqb code 2) Relative Absolute) ≡ strip_kind_of (strip_at (road_of words numbers) i)

@@ -62,7 +62,7 @@ pub struct Mark {
 }
 
 // A strip of the cross section: not there, with a height of its own, or standing on the inner strip's edge.
-#[derive(Clone, Copy)]
+#[derive(Clone, Copy, Debug, PartialEq, Eq)]
 pub enum StripKind {
     Absent,
     Absolute,

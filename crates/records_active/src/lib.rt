@@ -5,4 +5,4 @@ mod scan;
 mod stations;
 
 pub use scan::{ACTIVE_MARGIN, Starting, active, slope, value};
-pub use stations::{geom_at, profile_at, section_at};
+pub use stations::{geom_index, profile_index, section_index};

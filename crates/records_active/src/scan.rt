@@ -1,4 +1,4 @@
-// The active record: the last whose start is at most s + 1e-9. Scanned from the end, since the one wanted is mostly the last or near it.
+// The active record: the last whose start is at most s + 1e-9. Scanned from the end, where the first that passes is the last that has started.
 ghost use Rattle.std.specs.Prelude.{◌≡◌, ℕ, Float, get_or, length};
 ghost use Rattle.std.specs.Option.{option_map};
 ghost use Rattle.records_cubic.specs.Cubics.{cubic_at};
@@ -42,7 +42,8 @@ pub fn active<T: Starting>(records: &Records<T>, s: f64) -> Option<usize>
     (0..records.len()).rfind(|i| records.get(*i).start() <= s + ACTIVE_MARGIN)
 }
 
-// The active cubic of a list, by value.
+// The active cubic of a list, by value. Not by `map`: the prover infers nothing of a closure that calls `get`, and its clause in words would be the longer
+// form.
 fn active_cubic(cubics: &Cubics, s: f64) -> Option<Cubic>
     ensures { result ≡ option_map (cubic_at cubics.now) (active_in cubics.now s) }
 {
@@ -57,7 +58,7 @@ pub fn value(cubics: &Cubics, s: f64) -> f64
     active_cubic(cubics, s).map_or(0.0, |cubic| cubic.eval(s))
 }
 
-// Its slope at s, 0 where none is.
+// The slope at s of the active cubic, 0 where none is.
 pub fn slope(cubics: &Cubics, s: f64) -> f64
     ensures { result ≡ slope_in cubics.now s }
 {

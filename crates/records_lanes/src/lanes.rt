@@ -27,7 +27,8 @@ impl<'a> Model for LentLane<'a> {
     ghost view = { λ lane. record { border = lane.border; level = lane.level; extents = lane.extents; heights = lane.heights } };
 }
 
-// The lane that a line of the lane table has. It takes the slices: a road's model has lanes by section, side and place, and no lines.
+// The lane that a line of the lane table has. It takes the slices: a road's model has lanes by section, side and place, and no lines. A line is a u32, so
+// that its place fits whatever a caller asks.
 pub fn lane_in<'a>(words: &[u16], numbers: &'a [f64], line: u32) -> LentLane<'a>
     ensures { result ≡ lane_in words.now numbers.now line }
 {

@@ -67,7 +67,7 @@ impl<'a> LentSide<'a> {
         self.count
     }
 
-    // The k-th lane, one without extents and heights where there is none.
+    // The k-th lane, one without extents and heights where there is none. Callers go by index, as over `Records`, since a lane's place has it.
     pub fn get(&self, k: usize) -> LentLane<'a>
         ensures { result ≡ get_or self.now k no_lane }
     {

@@ -12,7 +12,7 @@ use Rattle.std.proofs.Math.Nat.{div-mul-le_self, mul-le-mul_right}
 use Rattle.std.proofs.lemmas.Bool.{cases_lt}
 use Rattle.std.specs.Prelude.{Float}
 use borrow.Author.Tests.{le-leb}
-use Rattle.records_lent.specs.Lists.{tabulate, record_at, span, all_below, any_below, last_that}
+use Rattle.records_lent.specs.Lists.{tabulate, records_of, span, all_below, any_below, last_that}
 
 -- ---- tables
 
@@ -33,10 +33,13 @@ table-past f n i d h = get_or-eq_default (tabulate f n) d (rw length-table h)
 -- ---- records
 
 -- a record that is counted is held whole
-pub record-held : {A : Type 0} (from : List Float → ℕ → A) (none : A) (stride : ℕ) (xs : List Float) (i : ℕ) → i < length xs / stride
-    → record_at from none stride xs (i * stride) ≡ from xs (i * stride)
-record-held from none stride xs i h = rw (le-leb (i * stride + stride) (length xs) (whole (mul-le-mul_right stride h) (div-mul-le_self (length xs) stride)))
+pub record-whole : {A : Type 0} (from : List Float → ℕ → A) (stride : ℕ) (xs : List Float) {rs : List A} {n i : ℕ} → n ≡ length rs → records_of from stride xs ≡ rs → i < n
+    → (i < length xs / stride) × (i * stride + stride ≤ length xs)
+record-whole from stride xs {n = n} {i = i} e f h = (counted, whole (mul-le-mul_right stride counted) (div-mul-le_self (length xs) stride))
   where
+    counted : i < length xs / stride
+    counted = let a = ap length f in let b = length-table (λ i. from xs (i * stride)) (length xs / stride) in omega arith
+
     whole : suc i * stride ≤ length xs / stride * stride → length xs / stride * stride ≤ length xs → i * stride + stride ≤ length xs
     whole a b = omega arith
 

@@ -6,10 +6,6 @@ unfoldable pub tabulate : {A : Type 0} → (ℕ → A) → ℕ → List A
 tabulate f zero = []
 tabulate f (suc n) = f zero ∷ tabulate (λ k. f (suc k)) n
 
--- the record whose numbers, as many as a stride, begin at a place; none where they are not all there
-abbrev pub record_at : {A : Type 0} → (List Float → ℕ → A) → A → ℕ → List Float → ℕ → A
-record_at from none stride xs at = cond (leb (at + stride) (length xs)) (from xs at) none
-
 -- the records that numbers hold, one each stride, read from its place on; what is left over at the end is none
 abbrev pub records_of : {A : Type 0} → (List Float → ℕ → A) → ℕ → List Float → List A
 records_of from stride xs = tabulate (λ i. from xs (i * stride)) (length xs / stride)

@@ -1,6 +1,6 @@
 // Records in lent numbers, one after another.
 ghost use Rattle.std.specs.Prelude.{◌≡◌, ◌+◌, ◌*◌, ◌<◌, ℕ, List, Float, length, get_or};
-ghost use Rattle.records_lent.specs.Lists.{record_at, records_of, span};
+ghost use Rattle.records_lent.specs.Lists.{records_of, span};
 
 use crate::access::part;
 use std::marker::{Model, PhantomData};
@@ -22,16 +22,6 @@ pub trait Record: Copy {
     // What stands for a record where there is none.
     fn none() -> Self
         ensures { result ≡ none };
-
-    // The record whose numbers begin at a place, none where they are not all there.
-    final fn read(numbers: &[f64], at: usize) -> Self
-        ensures { result ≡ record_at from none STRIDE numbers.now at }
-    {
-        if numbers.len() < at.saturating_add(Self::STRIDE) {
-            return Self::none();
-        }
-        Self::from_part(&numbers[at..at + Self::STRIDE])
-    }
 
     ghost stride_positive: { 0 < STRIDE };
 
@@ -66,8 +56,8 @@ impl<'a, T: Record> Records<'a, T> {
         }
     }
 
-    // Of a table that begins at a base, so many lines from the first on, each a record. The sums saturate, so that any numbers may be asked: beyond the
-    // last number there is none, and a word's sums are too small for the compiler to keep the test.
+    // Of a table that begins at a base, so many lines from the first on, each a record. The sums saturate, so that any numbers may be asked: so far on there
+    // is none. First and count are two parameters, since a road's flat tables have a count alone.
     pub fn of_table(numbers: &'a [f64], base: usize, first: usize, count: usize) -> Self
         ensures { result ≡ records_of T.from T.STRIDE (span numbers.now (base + first * T.STRIDE) (count * T.STRIDE)) }
     {
@@ -81,13 +71,14 @@ impl<'a, T: Record> Records<'a, T> {
         self.numbers.len() / T::STRIDE
     }
 
-    // The i-th record, none past the last.
+    // The i-th record, none past the last. Callers go by index, over ranges: the tests of an order look at the next record too, and one law of ranges serves
+    // them all.
     pub fn get(&self, i: usize) -> T
         ensures { result ≡ get_or self.now i T.none }
     {
-        let numbers = self.numbers;
-        if i < numbers.len() / T::STRIDE {
-            T::read(numbers, i * T::STRIDE)
+        if i < self.len() {
+            let at = i * T::STRIDE;
+            T::from_part(&self.numbers[at..at + T::STRIDE])
         } else {
             T::none()
         }

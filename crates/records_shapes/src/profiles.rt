@@ -11,7 +11,6 @@ use records::{LentRoad, StripKind};
 use records_cubic::Cubics;
 use records_lent::{number_in, word};
 
-// ---- profiles and strips
 pub fn profile_count(road: &LentRoad) -> usize
     ensures value { result ≡ length road.now.profiles }
     ensures small { result < 65536 }
@@ -52,6 +51,8 @@ pub fn shapes<'a>(road: &LentRoad<'a>, i: usize) -> Cubics<'a>
     }
 }
 
+// A strip by its presence code, a number as the C interface lends it. Every code has a kind, so it is no `TryFrom`, whose refusal would be turned into
+// `Absolute` here.
 fn kind_of(code: usize) -> StripKind
     ensures { result ≡ cond (eqb code 0) Absent (cond (eqb code 2) Relative Absolute) }
 {
@@ -73,7 +74,9 @@ pub fn strip(road: &LentRoad, i: usize) -> StripKind
     }
 }
 
-// The cubics of a strip's width (column 0) or of its term (column term + 1); none of a strip that is not there.
+// The cubics of a strip's width (column 0) or of its term (column term + 1); none of a strip that is not there. Strip and column are places: a value that
+// a strip which is there answers would be made again at each of its columns, since callers go over both by index. Place and code are tested here again, not
+// by `strip`: it bounds the place by the road's model alone, and the five sums of places would each want that bound out of it.
 pub fn strip_column<'a>(road: &LentRoad<'a>, i: usize, column: usize) -> Cubics<'a>
     ensures { result ≡ column_of (strip_at road.now i) column }
 {

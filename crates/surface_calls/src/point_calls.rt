@@ -8,7 +8,7 @@ use crate::entries::enter;
 use crate::lane_ids::lane_with_id;
 use admission_arguments::across;
 use records::RefPoint;
-use records_active::section_at;
+use records_active::section_index;
 use refusals::Refusal;
 use surface_points::{SurfacePoint32, lane_surface_in, surface_in};
 use surface_station::{Axes, axes_at, station_at};
@@ -65,6 +65,6 @@ pub fn lane_surface(
     if !across(t) {
         return Err(Refusal::Offset);
     }
-    let place = lane_with_id(&lent.road, section_at(&lent.road, s), id).ok_or(Refusal::Lane)?;
+    let place = lane_with_id(&lent.road, section_index(&lent.road, s), id).ok_or(Refusal::Lane)?;
     Ok(lane_surface_in(&lent, place, s, t))
 }

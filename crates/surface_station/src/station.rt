@@ -9,14 +9,14 @@ use arithmetic_sine::{SinCos, sin_cos};
 use line_pose::{Bearing, bearing_of};
 use line_samples::{Pose, SampledRoad};
 use records::{LentRoad, RefPoint};
-use records_active::{geom_at, slope, value};
+use records_active::{geom_index, slope, value};
 
 // The pose at s of the geometry in use there, with the lent samples.
 #[tactic(auto, unfolding(crate::specs::Station::pose_at))]
 pub fn pose_at(lent: &SampledRoad, s: f64) -> Pose
     ensures { result ≡ pose_at lent.now.road lent.now.samples.now s }
 {
-    line_pose::pose(lent, geom_at(&lent.road, s), s)
+    line_pose::pose(lent, geom_index(&lent.road, s), s)
 }
 
 // The pose at s with the sine and the cosine of its heading.
@@ -24,7 +24,7 @@ pub fn pose_at(lent: &SampledRoad, s: f64) -> Pose
 pub fn bearing_at(lent: &SampledRoad, s: f64) -> Bearing
     ensures { result ≡ bearing_of (pose_at lent.now.road lent.now.samples.now s) }
 {
-    bearing_of(lent, geom_at(&lent.road, s), s)
+    bearing_of(lent, geom_index(&lent.road, s), s)
 }
 
 // The sine and the cosine of the bank at s, which needn't be worked out for a road without banks.

@@ -31,7 +31,7 @@ pub extern "C" fn probe_across(
     let road = LentRoad::new(words, numbers);
     *shape = lanes_shape::shape_at(&road, s, t);
     *cross = lanes_shape::cross_height(&road, s, t, toward);
-    *at = records_active::section_at(&road, s);
+    *at = records_active::section_index(&road, s);
     *count = records_sections::lane_count(&road, section, right != 0);
     lanes_shape::height_toward(&road, s, t, toward)
 }

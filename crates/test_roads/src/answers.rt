@@ -26,7 +26,7 @@ fn lane_across(road: &LentRoad, s: f64, lane: u64) -> Across
 {
     let bank = records_active::value(&road.superelevations(), s);
     let place = LanePlace {
-        section: records_active::section_at(road, s),
+        section: records_active::section_index(road, s),
         right: lane % 2 == 1,
         k: (lane / 2) as usize,
     };

@@ -31,7 +31,7 @@ returns c =
     let xs = c.args.list.now in
     let listed = c.list_borders.ensures in
     let told = c.ok_or.ensures.value in
-    let section = c.section_at-section.ensures in
+    let section = c.section_index-section.ensures in
     let road = c.in_ok-road.ensures in
     let e = borders-admitted w d s (length xs) road (λ r. list-asked w d s (length xs) r c.on_road.ensures c.if-not-on_road.false section listed.value told) in
     record { result_value = e; list_after = list-by w d s xs e (list-left w d s xs (admitted-road w d road) section listed.list_after listed.value told) }

@@ -29,4 +29,4 @@ returns c =
     let w = a.words.now in
     let d = a.numbers.now in
     named-admitted w d a.s a.t c.in_ok-road.ensures
-    (λ r. name-found w d a.s a.t r c.on_road.ensures c.if-not-on_road.false c.across.ensures c.if-not-across.false c.section_at.ensures c.lane_named_in.ensures)
+    (λ r. name-found w d a.s a.t r c.on_road.ensures c.if-not-on_road.false c.across.ensures c.if-not-across.false c.section_index.ensures c.lane_named_in.ensures)

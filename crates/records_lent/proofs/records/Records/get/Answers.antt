@@ -1,19 +1,42 @@
 -- `Records::get`: the i-th line of the table, or none.
-use Prim.Native.Nat.{ℕ, ◌*◌}
-use mathlib.Core.Path.{◌∙◌, ap, sym}
-use Rattle.records_lent.proofs.TableLaws.{record-held, table_at, table-past}
-use Rattle.records_lent.specs.Lists.{record_at}
+use Prim.Native.Nat.{◌+◌, ◌-◌, ◌*◌}
+use native.Mathlib.Omega.{arith}
+use mathlib.Core.Path.{◌≡◌, ◌∙◌, sym}
+use Rattle.records_lent.proofs.TableLaws.{record-whole, table_at, table-past}
 use Rattle.records_lent.proofs.records.Records.get.Goals as goal
 
-pub returns-then-i-numbers : goal.returns-then-i-numbers
-returns-then-i-numbers g c =
+pub overflow_mul-at : goal.overflow_mul-at
+overflow_mul-at g c =
+    let t = g.T.Record in
+    let w = record-whole t.from t.STRIDE c.self.inside.numbers.now c.len.ensures c.self.view_is c.if-i-len.true in
+    let fits = c.self.told in
+    rw c.STRIDE.ensures (omega arith)
+
+pub overflow_add-at : goal.overflow_add-at
+overflow_add-at g c =
+    let t = g.T.Record in
+    let w = record-whole t.from t.STRIDE c.self.inside.numbers.now c.len.ensures c.self.view_is c.if-i-len.true in
+    let fits = c.self.told in
+    rw (c.STRIDE.ensures, c.STRIDE-then-i-len.ensures) (omega arith)
+
+pub offset_bounds-self-inside-at : goal.offset_bounds-self-inside-at
+offset_bounds-self-inside-at g c =
+    let t = g.T.Record in
+    let w = record-whole t.from t.STRIDE c.self.inside.numbers.now c.len.ensures c.self.view_is c.if-i-len.true in
+    let fits = c.self.told in
+    rw c.STRIDE.ensures (omega arith)
+
+pub slice_bounds-from_part-end : goal.slice_bounds-from_part-end
+slice_bounds-from_part-end g c =
+    let t = g.T.Record in
+    let w = record-whole t.from t.STRIDE c.self.inside.numbers.now c.len.ensures c.self.view_is c.if-i-len.true in
+    rw (c.STRIDE.ensures, c.STRIDE-then-i-len.ensures) w.1
+
+pub returns-then-i-len : goal.returns-then-i-len
+returns-then-i-len g c =
     let t = g.T.Record in
     let xs = c.self.inside.numbers.now in
     let i = c.args.i in
-    let h = rw c.STRIDE.ensures at c.if-i-numbers.true in
-    rw (← c.self.view_is)
-    (c.read.ensures ∙ ap (λ (k : ℕ). record_at t.from t.none t.STRIDE xs (i * k)) c.STRIDE-then-i-numbers.ensures
-    ∙ record-held t.from t.none t.STRIDE xs i h ∙ sym (table_at _ _ i _ h))
-
-pub returns-else-i-numbers : goal.returns-else-i-numbers
-returns-else-i-numbers g c = rw (← c.self.view_is) (c.none.ensures ∙ sym (table-past _ _ c.args.i _ (rw c.STRIDE.ensures at c.if-i-numbers.false)))
+    let w = record-whole t.from t.STRIDE xs c.len.ensures c.self.view_is c.if-i-len.true in
+    let own : i * t.STRIDE + t.STRIDE - i * t.STRIDE ≡ t.STRIDE = omega arith in
+    rw (← c.self.view_is) (c.from_part.ensures ∙ rw (c.STRIDE.ensures, c.STRIDE-then-i-len.ensures, own) (g.met.T.Record.own_numbers xs (i * t.STRIDE)) ∙ sym (table_at _ _ i _ w.0))

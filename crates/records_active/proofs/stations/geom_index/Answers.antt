@@ -1,9 +1,9 @@
--- `geom_at`: the scan reads the starts where they stand.
+-- `geom_index`: the scan reads the starts where they stand.
 use mathlib.Core.Path.{◌∙◌, ap}
 use Rattle.records.specs.Active.{or_first}
 use Rattle.records.proofs.RoadLaws.{geom_count_read, geom_index_lem}
 use Rattle.records_active.proofs.FirstLaws.{found_or_first}
-use Rattle.records_active.proofs.stations.geom_at.Goals as goal
+use Rattle.records_active.proofs.stations.geom_index.Goals as goal
 
 pub returns : goal.returns
 returns c =

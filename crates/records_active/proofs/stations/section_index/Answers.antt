@@ -1,9 +1,9 @@
--- `section_at`: the scan reads the starts where they stand.
+-- `section_index`: the scan reads the starts where they stand.
 use mathlib.Core.Path.{◌∙◌, ap}
 use Rattle.records.specs.Active.{or_first}
 use Rattle.records.proofs.RoadLaws.{section_count_read, section_index_lem}
 use Rattle.records_active.proofs.FirstLaws.{found_or_first}
-use Rattle.records_active.proofs.stations.section_at.Goals as goal
+use Rattle.records_active.proofs.stations.section_index.Goals as goal
 
 pub returns : goal.returns
 returns c =
