@@ -3,7 +3,7 @@ use mathlib.Core.Path.{sym, ◌∙◌}
 use Rattle.records.specs.Roads.{strip_at}
 use Rattle.lanes.specs.Sides.{sign_of, outer_of}
 use Rattle.lanes.proofs.LateralLaws.{past-none, past-absolute, past-relative, past-inner}
-use Rattle.lanes_shape.proofs.strips.SideAt.past_width.Goals as goal
+use Rattle.lanes_shape.proofs.strips.CrossSide.past_width.Goals as goal
 
 pub returns-in-Absent : goal.returns-in-Absent
 returns-in-Absent c =
