@@ -59,9 +59,10 @@ pub fn border_from(lane: &LentLane, into: f64, sign: f64, inner: f64) -> LaneBor
     }
 }
 
-// The borders of the lane at a place, at s.
+// The borders at s of the lane at a place: where the lane before it ends, and its width from there.
 pub fn lane_borders(road: &LentRoad, place: LanePlace, s: f64) -> LaneBorders
     ensures { result ≡ borders_of road.now place.section s place.right place.k }
 {
-    SideAt::new(road, place.section, place.right, s).borders_at(place.k)
+    let side = SideAt::new(road, place.section, place.right, s);
+    side.border(place.k, side.outer_after(place.k))
 }

@@ -79,8 +79,8 @@ fn level_up_to(lanes: &LentSide, k: usize) -> bool
 fn tilted_across(road: &LentRoad, side: &SideAt, k: usize, s: f64) -> Across
     ensures { (i : ℕ) (right : Bool) (tangent : Float) → side.now ≡ side_at road.now i right s → level_up_to side.now.lanes k ≡ false → result ≡ across_at road.now i s tangent right k }
 {
-    let b = side.borders_at(k);
     let lane = side.lanes.get(k);
+    let b = border_from(&lane, side.into, side.sign, side.outer_after(k));
     let own = height_at(&lane.heights, side.into);
     across_of(b, tilted_heights(road, s, own, b, side.sign))
 }

@@ -43,7 +43,8 @@ fn column_value(road: &LentRoad, i: usize, column: usize, s: f64) -> f64
     value(&strip_column(road, i, column), s)
 }
 
-// The height of a strip that is there, dt across it.
+// The height of a strip that is there, dt across it. That it is there is a premise, here and twice below: records_shapes finds columns by a strip's
+// number, and no value stands for a strip.
 fn strip_height(road: &LentRoad, i: usize, s: f64, dt: f64) -> f64
     ensures { (d : StripDef) → strip_at road.now i ≡ present d → result ≡ strip_height d s dt }
 {
@@ -71,20 +72,21 @@ impl<'r, 'a> CrossSide<'r, 'a> {
     {
         let CrossSide { road, right, s } = *self;
         let inner = inner_of(right);
+        let outer = outer_of(right);
         let sign = sign_of(right);
-        if w < sign * t {
-            let outer = outer_of(right);
-            let edge = sign * w;
-            match strip(road, outer) {
-                StripKind::Absent => strip_height(road, inner, s, t),
-                // 0.0 in place of the inner strip's height: -0 comes out as 0
-                StripKind::Absolute => 0.0 + strip_height(road, outer, s, t - edge),
-                StripKind::Relative => {
-                    strip_height(road, inner, s, edge) + strip_height(road, outer, s, t - edge)
-                }
-            }
+        let edge = sign * w;
+        let kind = if w < sign * t {
+            strip(road, outer)
         } else {
-            strip_height(road, inner, s, t)
+            StripKind::Absent
+        };
+        match kind {
+            StripKind::Absent => strip_height(road, inner, s, t),
+            // 0.0 in place of the inner strip's height: -0 comes out as 0
+            StripKind::Absolute => 0.0 + strip_height(road, outer, s, t - edge),
+            StripKind::Relative => {
+                strip_height(road, inner, s, edge) + strip_height(road, outer, s, t - edge)
+            }
         }
     }
 
