@@ -8,7 +8,7 @@ use Rattle.records.specs.declared.points.HeightDef.{HeightDef}
 use Rattle.records_cubic.specs.Cubics.{cubic_at, eval_at}
 use Rattle.records.specs.Active.{active_in, value_in, last_start, active_up_to}
 use Rattle.records.specs.Roads.{Road, Strip, StripDef, absent, present, profile_at, strip_at, height_def_at, column_by}
-use Rattle.lanes.specs.declared.pairs.Pair.{Pair}
+use Rattle.lanes.specs.declared.border_heights.BorderHeights.{BorderHeights}
 use Rattle.lanes.specs.Sides.{sign_of, inner_of, outer_of}
 
 -- ---- profiles
@@ -41,23 +41,23 @@ shape_of road s t = shape_from road s t (last_start (λ i. (profile_at road i).s
 -- ---- `height_at`: a lane's heights, s metres into its section, by the same rule
 
 -- "linear between neighbours"
-abbrev pub height_between : HeightDef → HeightDef → Float → Pair
+abbrev pub height_between : HeightDef → HeightDef → Float → BorderHeights
 height_between a b s =
     let f = (s ⊖ a.s_offset) ⊘ (b.s_offset ⊖ a.s_offset) in
     record { inner = blend a.inner b.inner f; outer = blend a.outer b.outer f }
 
 -- "constant outside"; (0, 0) without heights
-abbrev pub height_held : HeightDef → Pair
+abbrev pub height_held : HeightDef → BorderHeights
 height_held h = record { inner = h.inner; outer = h.outer }
 
-abbrev pub no_heights : Pair
+abbrev pub no_heights : BorderHeights
 no_heights = record { inner = zero64; outer = zero64 }
 
-abbrev pub height_from : List HeightDef → Float → Option ℕ → Pair
+abbrev pub height_from : List HeightDef → Float → Option ℕ → BorderHeights
 height_from hs s (Some i) = cond (ltb (i + 1) (length hs)) (height_between (height_def_at hs i) (height_def_at hs (i + 1)) s) (height_held (height_def_at hs i))
 height_from hs s None = cond (eqb (length hs) 0) no_heights (height_held (height_def_at hs 0))
 
-unfoldable pub height_of : List HeightDef → Float → Pair
+unfoldable pub height_of : List HeightDef → Float → BorderHeights
 unfolding last_start
 height_of hs s = height_from hs s (last_start (λ i. (height_def_at hs i).s_offset) (active_up_to s) (length hs))
 

@@ -6,7 +6,10 @@ ghost use Rattle.lanes_border_list.specs.BorderList.{listed_by};
 use lanes_borders::SideAt;
 use records::LentRoad;
 
-// Writes the borders of a side's lanes into a list that holds three numbers for each.
+// The numbers that a lane's borders take in a lent list: inner, outer, width. The C interface lends the list flat.
+const BORDERS_STRIDE: usize = 3;
+
+// Writes the borders of a side's lanes into a list that has room for them and no more.
 fn write_side(side: &SideAt, list: &mut [f64])
     requires { length list.old ≡ length side.now.lanes * 3 }
     ensures { list.new ≡ side_list (borders_at side.now.lanes side.now.sign side.now.base side.now.into) (length side.now.lanes) }
@@ -16,26 +19,25 @@ fn write_side(side: &SideAt, list: &mut [f64])
     // so far hold.
     for k in 0..side.lanes.len() {
         let b = side.border(k, inner);
-        list[k * 3] = b.inner;
-        list[k * 3 + 1] = b.outer;
-        list[k * 3 + 2] = b.width;
+        list[k * BORDERS_STRIDE] = b.inner;
+        list[k * BORDERS_STRIDE + 1] = b.outer;
+        list[k * BORDERS_STRIDE + 2] = b.width;
         inner = b.outer;
     }
 }
 
-// Writes the borders of a section's lanes at s, left outward, then right, and answers how many lanes; none where the list has no room for three numbers a lane, and then it stays as it was.
+// Writes the borders of a section's lanes at s, left outward, then right, and answers how many lanes; none where the list has no room for all, and then it stays as it was.
 pub fn list_borders(road: &LentRoad, section: usize, s: f64, list: &mut [f64]) -> Option<usize>
     ensures value { result ≡ cond (leb (lanes_of road.now section) (length list.old / 3)) (Some (lanes_of road.now section)) None }
     ensures list_after { list.new ≡ listed_by (leb (lanes_of road.now section) (length list.old / 3)) road.now section s list.old }
 {
     let (left, right) = SideAt::both(road, section, s);
     let lanes = left.lanes.len() + right.lanes.len();
-    // the C interface lends the list as flat f64, three a lane
-    if list.len() / 3 < lanes {
+    if list.len() / BORDERS_STRIDE < lanes {
         return None;
     }
-    let (written, _) = list.split_at_mut(lanes * 3);
-    let (lefts, rights) = written.split_at_mut(left.lanes.len() * 3);
+    let (written, _) = list.split_at_mut(lanes * BORDERS_STRIDE);
+    let (lefts, rights) = written.split_at_mut(left.lanes.len() * BORDERS_STRIDE);
     write_side(&left, lefts);
     write_side(&right, rights);
     Some(lanes)

@@ -1,5 +1,5 @@
 -- Document 01, "Values": "Lanes by `side_borders`": the t of each lane's borders, from the center outward.
--- sign is 1 for the left side and -1 for the right, base the t of the center. s is the distance into the section; from `base_at` on it is the station.
+-- sign is 1 for the left side and -1 for the right, base the t of the center. into is the distance into the section, s the station.
 use Rattle.std.specs.Prelude.{ℕ, zero, suc, ◌+◌, Bool, true, false, cond, List, [], ◌∷◌, ◌++◌, length, get_or, Float, Option, Some, None}
 use Rattle.float_laws.specs.Binary64.{◌⊕◌, ◌⊖◌, ◌⊗◌, zero64}
 use Rattle.records_cubic.specs.Cubics.{cubic_at, eval_at}
@@ -11,30 +11,30 @@ use Rattle.arithmetic_ranges.specs.Ranges.{not_below_zero}
 
 -- a border lane's width: from its inner border to the border record's t; none active is 0 wide, not a border at 0
 abbrev pub border_width : Lane → Float → Float → Float → Option ℕ → Float
-border_width lane sign inner s (Some i) = sign ⊗ (eval_at (cubic_at lane.extents i) s ⊖ inner)
-border_width lane sign inner s None = zero64
+border_width lane sign inner into (Some i) = sign ⊗ (eval_at (cubic_at lane.extents i) into ⊖ inner)
+border_width lane sign inner into None = zero64
 
 -- "Width: NaN or below 0 becomes 0"
 unfoldable pub width_of : Lane → Float → Float → Float → Float
 unfolding active_in value_in
-width_of lane sign inner s =
-    not_below_zero (cond lane.border (border_width lane sign inner s (active_in lane.extents s)) (value_in lane.extents s))
+width_of lane sign inner into =
+    not_below_zero (cond lane.border (border_width lane sign inner into (active_in lane.extents into)) (value_in lane.extents into))
 
 -- the outer border after k lanes of a side; the base after none
 unfoldable pub outer_after : List Lane → Float → Float → Float → ℕ → Float
 unfolding width_of
-outer_after lanes sign base s zero = base
-outer_after lanes sign base s (suc k) =
-    let inner = outer_after lanes sign base s k in inner ⊕ sign ⊗ width_of (get_or lanes k no_lane) sign inner s
+outer_after lanes sign base into zero = base
+outer_after lanes sign base into (suc k) =
+    let inner = outer_after lanes sign base into k in inner ⊕ sign ⊗ width_of (get_or lanes k no_lane) sign inner into
 
 -- a lane's borders from its inner one
 abbrev pub borders_from : Lane → Float → Float → Float → LaneBorders
-borders_from lane sign inner s = record { inner = inner; outer = inner ⊕ sign ⊗ width_of lane sign inner s; width = width_of lane sign inner s }
+borders_from lane sign inner into = record { inner = inner; outer = inner ⊕ sign ⊗ width_of lane sign inner into; width = width_of lane sign inner into }
 
 -- the k-th lane's borders
 unfoldable pub borders_at : List Lane → Float → Float → Float → ℕ → LaneBorders
 unfolding outer_after width_of
-borders_at lanes sign base s k = borders_from (get_or lanes k no_lane) sign (outer_after lanes sign base s k) s
+borders_at lanes sign base into k = borders_from (get_or lanes k no_lane) sign (outer_after lanes sign base into k) into
 
 -- ---- a section of a road at s
 

@@ -25,32 +25,33 @@ pub fn section_lanes(road: &LentRoad, section: usize) -> usize
     lane_count(road, section, false) + lane_count(road, section, true)
 }
 
-// From the inner border to the active border record's t, no width where none is active.
-fn border_width(lane: &LentLane, s: f64, sign: f64, inner: f64) -> f64
-    ensures { result ≡ border_width lane.now sign inner s (active_in lane.now.extents s) }
+// A border lane's width at a distance into its section: from its inner border to the active record's t, 0 where none is active.
+fn border_width(lane: &LentLane, into: f64, sign: f64, inner: f64) -> f64
+    ensures { result ≡ border_width lane.now sign inner into (active_in lane.now.extents into) }
 {
-    match active(&lane.extents, s) {
-        Some(i) => sign * (lane.extents.get(i).eval(s) - inner),
+    match active(&lane.extents, into) {
+        Some(i) => sign * (lane.extents.get(i).eval(into) - inner),
         None => 0.0,
     }
 }
 
-// The width of a lane, s metres into its section: the one way to a width.
-pub fn lane_width(lane: &LentLane, s: f64, sign: f64, inner: f64) -> f64
-    ensures { result ≡ width_of lane.now sign inner s }
+// The width of a lane at a distance into its section: the one way to a width.
+pub fn lane_width(lane: &LentLane, into: f64, sign: f64, inner: f64) -> f64
+    ensures { result ≡ width_of lane.now sign inner into }
 {
-    if lane.border {
-        not_below_zero(border_width(lane, s, sign, inner))
+    let width = if lane.border {
+        border_width(lane, into, sign, inner)
     } else {
-        not_below_zero(value(&lane.extents, s))
-    }
+        value(&lane.extents, into)
+    };
+    not_below_zero(width)
 }
 
-// A lane's borders from its inner one, s metres into its section: one step outward, for callers that go over all lanes of a side.
-pub fn border_from(lane: &LentLane, s: f64, sign: f64, inner: f64) -> LaneBorders
-    ensures { result ≡ borders_from lane.now sign inner s }
+// A lane's borders from its inner one, at a distance into its section: one step outward. sign is a number, since the function answers for every f64.
+pub fn border_from(lane: &LentLane, into: f64, sign: f64, inner: f64) -> LaneBorders
+    ensures { result ≡ borders_from lane.now sign inner into }
 {
-    let width = lane_width(lane, s, sign, inner);
+    let width = lane_width(lane, into, sign, inner);
     LaneBorders {
         inner,
         outer: inner + sign * width,
@@ -58,9 +59,10 @@ pub fn border_from(lane: &LentLane, s: f64, sign: f64, inner: f64) -> LaneBorder
     }
 }
 
-// The borders of the lane at a place, at s.
+// The borders at s of the lane at a place: where the lane before it ends, and its width from there.
 pub fn lane_borders(road: &LentRoad, place: LanePlace, s: f64) -> LaneBorders
     ensures { result ≡ borders_of road.now place.section s place.right place.k }
 {
-    SideAt::new(road, place.section, place.right, s).borders_at(place.k)
+    let side = SideAt::new(road, place.section, place.right, s);
+    side.border(place.k, side.outer_after(place.k))
 }

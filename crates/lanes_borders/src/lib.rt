@@ -1,4 +1,4 @@
-// Where the lanes of a section lie across the road. By section index; nothing inside checks the road.
+// Where the lanes of a section lie across the road. A section is asked for by its index; nothing here checks the road.
 #![tactic(auto)]
 
 mod across;

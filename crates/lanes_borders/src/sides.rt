@@ -1,7 +1,7 @@
 // The lanes of a side as they lie at a station.
 ghost use Rattle.std.specs.Prelude.{◌≡◌, true, false, get_or};
 ghost use Rattle.records.specs.Roads.{no_lane};
-ghost use Rattle.lanes_borders.specs.Borders.{outer_after, borders_from, borders_at};
+ghost use Rattle.lanes_borders.specs.Borders.{outer_after, borders_from};
 ghost use Rattle.lanes_borders.specs.Sides.{side_at};
 
 use crate::across::LaneBorders;
@@ -55,8 +55,8 @@ impl<'a> SideAt<'a> {
         border_from(&self.lanes.get(k), self.into, self.sign, inner)
     }
 
-    // The outer border of the first n lanes.
-    fn outer_after(&self, n: usize) -> f64
+    // The outer border of the first n lanes, the center where n is 0.
+    pub fn outer_after(&self, n: usize) -> f64
         ensures { result ≡ outer_after self.now.lanes self.now.sign self.now.base self.now.into n }
     {
         let mut t = self.base;
@@ -64,12 +64,5 @@ impl<'a> SideAt<'a> {
             t = self.border(k, t).outer;
         }
         t
-    }
-
-    // The k-th lane's borders: where the lane before it ends, and its width from there.
-    pub fn borders_at(&self, k: usize) -> LaneBorders
-        ensures { result ≡ borders_at self.now.lanes self.now.sign self.now.base self.now.into k }
-    {
-        self.border(k, self.outer_after(k))
     }
 }

@@ -6,7 +6,7 @@ use Rattle.float_laws.specs.Binary64.{◌⊕◌, ◌⊖◌, ◌⊗◌}
 use Rattle.records_lent.specs.Lists.{any_below}
 use Rattle.records.specs.Roads.{Road, Lane, no_lane, section_of}
 use Rattle.lanes_borders.specs.declared.across.LaneBorders.{LaneBorders}
-use Rattle.lanes.specs.declared.pairs.Pair.{Pair}
+use Rattle.lanes.specs.declared.border_heights.BorderHeights.{BorderHeights}
 use Rattle.lanes_heights.specs.declared.across.Across.{Across}
 use Rattle.lanes.specs.Lateral.{height_of, height_toward}
 use Rattle.lanes.specs.Sides.{sign_of}
@@ -17,30 +17,30 @@ unfoldable pub level_up_to : List Lane → ℕ → Bool
 level_up_to lanes zero = (get_or lanes 0 no_lane).level
 level_up_to lanes (suc k) = level_up_to lanes k || (get_or lanes (suc k) no_lane).level
 
--- a level lane's heights: its own on top of where its inner neighbour ends, outer
-abbrev pub level_heights : Pair → Float → Float → Float → Float → Pair
-level_heights own outer sign width tangent = record { inner = outer ⊕ own.inner; outer = (outer ⊖ sign ⊗ width ⊗ tangent) ⊕ own.outer }
+-- a level lane's heights: its own on top of the height at which its inner neighbour ends, foot
+abbrev pub level_heights : BorderHeights → Float → Float → Float → Float → BorderHeights
+level_heights own foot sign width tangent = record { inner = foot ⊕ own.inner; outer = (foot ⊖ sign ⊗ width ⊗ tangent) ⊕ own.outer }
 
 -- any other lane's: its own, and the road's at each border
-abbrev pub tilted_heights : Road → Float → Pair → LaneBorders → Float → Pair
+abbrev pub tilted_heights : Road → Float → BorderHeights → LaneBorders → Float → BorderHeights
 tilted_heights road s own b sign = record { inner = own.inner ⊕ height_toward road s b.inner sign; outer = own.outer ⊕ height_toward road s b.outer sign }
 
--- a lane across, from its own heights and its borders, where its inner neighbour ends at the height outer
-abbrev pub across_by : Road → Float → Pair → LaneBorders → Float → Float → Float → Bool → Across
-across_by road s own b outer sign tangent level =
-    let h = cond level (level_heights own outer sign b.width tangent) (tilted_heights road s own b sign) in
+-- a lane across, from its own heights and its borders, where its inner neighbour ends at the height foot
+abbrev pub across_by : Road → Float → BorderHeights → LaneBorders → Float → Float → Float → Bool → Across
+across_by road s own b foot sign tangent level =
+    let h = cond level (level_heights own foot sign b.width tangent) (tilted_heights road s own b sign) in
     record { inner_t = b.inner; outer_t = b.outer; inner_height = h.inner; outer_height = h.outer }
 
 module _ (road : Road) (i : ℕ) (s : Float) (tangent : Float) (right : Bool) where
   -- `height_at` of the k-th lane
-  abbrev pub own_heights : ℕ → Pair
+  abbrev pub own_heights : ℕ → BorderHeights
   own_heights k = height_of (get_or (side_lanes road i right) k no_lane).heights (s ⊖ (section_of road i).start)
 
-  -- the k-th lane's heights, its inner neighbour ending at outer
-  abbrev pub heights_from : Float → ℕ → Pair
-  heights_from outer k =
+  -- the k-th lane's heights, its inner neighbour ending at the height foot
+  abbrev pub heights_from : Float → ℕ → BorderHeights
+  heights_from foot k =
       cond (level_up_to (side_lanes road i right) k)
-      (level_heights (own_heights k) outer (sign_of right) (borders_of road i s right k).width tangent)
+      (level_heights (own_heights k) foot (sign_of right) (borders_of road i s right k).width tangent)
       (tilted_heights road s (own_heights k) (borders_of road i s right k) (sign_of right))
 
   -- the height at the outer border after k lanes; at the base after none
@@ -50,7 +50,7 @@ module _ (road : Road) (i : ℕ) (s : Float) (tangent : Float) (right : Bool) wh
   height_after (suc k) = (heights_from (height_after k) k).outer
 
   -- the k-th lane's heights at its borders
-  unfoldable pub heights_at : ℕ → Pair
+  unfoldable pub heights_at : ℕ → BorderHeights
   unfolding height_after level_up_to height_of height_toward
   heights_at k = heights_from (height_after k) k
 

@@ -8,33 +8,34 @@ ghost use Rattle.lanes_heights.specs.Heights.{level_up_to, level_heights, tilted
 
 use crate::across::Across;
 use crate::own_heights::height_at;
-use lanes::Pair;
+use lanes::BorderHeights;
 use lanes_borders::{LaneBorders, SideAt, border_from};
 use lanes_shape::height_toward;
 use records::{LanePlace, LentRoad};
 use records_lanes::{LentLane, LentSide};
 
-// A level lane's heights, on top of where its inner neighbour ends.
-fn level_heights(own: Pair, outer: f64, sign: f64, width: f64, tangent: f64) -> Pair
-    ensures { result ≡ level_heights own outer sign width tangent }
+// A level lane's heights, on top of the height at which its inner neighbour ends.
+fn level_heights(own: BorderHeights, foot: f64, sign: f64, width: f64, tangent: f64) -> BorderHeights
+    ensures { result ≡ level_heights own foot sign width tangent }
 {
-    Pair {
-        inner: outer + own.inner,
-        outer: outer - sign * width * tangent + own.outer,
+    BorderHeights {
+        inner: foot + own.inner,
+        outer: foot - sign * width * tangent + own.outer,
     }
 }
 
 // Any other lane's heights, on top of the road's.
-fn tilted_heights(road: &LentRoad, s: f64, own: Pair, b: LaneBorders, sign: f64) -> Pair
+fn tilted_heights(road: &LentRoad, s: f64, own: BorderHeights, b: LaneBorders, sign: f64) -> BorderHeights
     ensures { result ≡ tilted_heights road.now s own b sign }
 {
-    Pair {
+    BorderHeights {
         inner: own.inner + height_toward(road, s, b.inner, sign),
         outer: own.outer + height_toward(road, s, b.outer, sign),
     }
 }
 
-fn across_of(b: LaneBorders, h: Pair) -> Across
+// The lane between two borders with a height at each.
+fn across_of(b: LaneBorders, h: BorderHeights) -> Across
     ensures { result ≡ record { inner_t = b.inner; outer_t = b.outer; inner_height = h.inner; outer_height = h.outer } }
 {
     Across {
@@ -70,6 +71,7 @@ fn next_across(road: &LentRoad, side: &SideAt, lane: &LentLane, s: f64, tangent:
 fn level_up_to(lanes: &LentSide, k: usize) -> bool
     ensures { result ≡ level_up_to lanes.now k }
 {
+    // not `0..=k`: its range type has no law for `any` here, as `0..k` has, and takes a flag along at each turn
     (0..k).any(|j| lanes.get(j).level) | lanes.get(k).level
 }
 
@@ -77,8 +79,8 @@ fn level_up_to(lanes: &LentSide, k: usize) -> bool
 fn tilted_across(road: &LentRoad, side: &SideAt, k: usize, s: f64) -> Across
     ensures { (i : ℕ) (right : Bool) (tangent : Float) → side.now ≡ side_at road.now i right s → level_up_to side.now.lanes k ≡ false → result ≡ across_at road.now i s tangent right k }
 {
-    let b = side.borders_at(k);
     let lane = side.lanes.get(k);
+    let b = border_from(&lane, side.into, side.sign, side.outer_after(k));
     let own = height_at(&lane.heights, side.into);
     across_of(b, tilted_heights(road, s, own, b, side.sign))
 }

@@ -8,13 +8,14 @@ ghost use Rattle.lanes_heights.specs.Heights.{is_raised, section_raised};
 use records::LentRoad;
 use records_lanes::{LentLane, LentSide};
 
-// ---- whether a section's lanes stand off the road at all
+// Whether a lane has a height or is level.
 fn lane_raised(lane: &LentLane) -> bool
     ensures { result ≡ is_raised lane.now }
 {
     (0 < lane.heights.len()) | lane.level
 }
 
+// Whether a lane of a side is raised.
 fn side_raised(road: &LentRoad, section: usize, right: bool) -> bool
     ensures { result ≡ any_below (λ (k : ℕ). is_raised (get_or (side_lanes road.now section right) k no_lane)) (length (side_lanes road.now section right)) }
 {

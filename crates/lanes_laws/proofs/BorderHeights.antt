@@ -20,7 +20,7 @@ use Rattle.records_cubic.specs.Cubics.{cubic_at, eval_at}
 use Rattle.records.specs.Active.{active_in, value_in}
 use Rattle.records.specs.Roads.{Road, Lane, no_lane, section_index}
 use Rattle.admission_laws.proofs.RoadBounds.{OnRoad}
-use Rattle.lanes.specs.declared.pairs.Pair.{Pair}
+use Rattle.lanes.specs.declared.border_heights.BorderHeights.{BorderHeights}
 use Rattle.lanes.specs.Lateral.{height_toward}
 use Rattle.arithmetic_ranges.specs.Ranges.{not_below_zero}
 use Rattle.lanes_laws.proofs.LateralBounds.{two-wide, height-most}
@@ -167,7 +167,7 @@ module _ (road : Road) (a : Admits road) (s : Float) (o : OnRoad road s) (right 
         → AtMost binary64 (m + 119) (heights_from road at s tangent right outer k).inner × AtMost binary64 (m + 119) (heights_from road at s tangent right outer k).outer
     heights-most k l outer m w f h = go (level_up_to (side_lanes road at right) k)
       where
-        own : Pair
+        own : BorderHeights
         own = own_heights road at s tangent right k
 
         b : LaneBorders

@@ -18,7 +18,7 @@ use Rattle.std.specs.declared.option.Option.TheVariants.{Some, None}
 use Rattle.records_cubic.specs.Cubics.{cubic_at, eval_at}
 use Rattle.records.specs.Active.{active_in, value_in, last_start, active_up_to}
 use Rattle.records.specs.Roads.{Road, StripDef, present, profile_at, strip_at, height_def_at}
-use Rattle.lanes.specs.declared.pairs.Pair.{Pair}
+use Rattle.lanes.specs.declared.border_heights.BorderHeights.{BorderHeights}
 use Rattle.arithmetic_ranges.specs.Ranges.{largest, blend}
 use Rattle.admission.specs.Limits.{greatest_lane_height, greatest_shift, greatest_shape, farthest_across, greatest_strip_height}
 use Rattle.admission_arguments.specs.Arguments.{half_width}
@@ -39,7 +39,7 @@ abbrev pub outer_of : HeightDef → Float
 outer_of h = h.outer
 
 -- one border's height of a pair, by what it is of a height held, between two, and with none
-module _ (hs : List HeightDef) (s : Float) (border : HeightDef → Float) (part : Pair → Float) (held : (h : HeightDef) → part (height_held h) ≡ border h)
+module _ (hs : List HeightDef) (s : Float) (border : HeightDef → Float) (part : BorderHeights → Float) (held : (h : HeightDef) → part (height_held h) ≡ border h)
     (mid : (a b : HeightDef) → part (height_between a b s) ≡ blend (border a) (border b) ((s ⊖ a.s_offset) ⊘ (b.s_offset ⊖ a.s_offset))) (none : part no_heights ≡ zero64) where
   border-along : (f : Option ℕ) → along (λ (i : ℕ). (height_def_at hs i).s_offset) (λ (i : ℕ). border (height_def_at hs i)) (length hs) s f ≡ part (height_from hs s f)
   border-along (Some i) = go (ltb (i + 1) (length hs))
@@ -64,8 +64,8 @@ module _ (hs : List HeightDef) (s : Float) (border : HeightDef → Float) (part 
 pub height_within_lem : (hs : List HeightDef) (s : Float) {A B : Float} {j : ℕ} → Wider A B j → HeightsAt hs inner_of A → HeightsAt hs outer_of A → Within binary64 s far
     → Within binary64 (height_of hs s).inner B × Within binary64 (height_of hs s).outer B
 height_within_lem hs s w ki ko ws = (
-  border-within hs s inner_of (λ (p : Pair). p.inner) (λ h. refl) (λ a b. refl) refl w ki ws,
-  border-within hs s outer_of (λ (p : Pair). p.outer) (λ h. refl) (λ a b. refl) refl w ko ws,
+  border-within hs s inner_of (λ (p : BorderHeights). p.inner) (λ h. refl) (λ a b. refl) refl w ki ws,
+  border-within hs s outer_of (λ (p : BorderHeights). p.outer) (λ h. refl) (λ a b. refl) refl w ko ws,
 )
 
 -- a lane's heights are limited to 2; the f64 below 2.00001

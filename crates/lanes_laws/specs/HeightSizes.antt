@@ -9,7 +9,7 @@ use Rattle.admission.specs.Limits.{on_road}
 use Rattle.admission_arguments.specs.Arguments.{across_road}
 use Rattle.admission_laws.specs.Fractions.{IsF64, AllF64, AtMost, AtMostPart, Between}
 use Rattle.admission.specs.Admission.{admitted}
-use Rattle.lanes.specs.declared.pairs.Pair.{Pair}
+use Rattle.lanes.specs.declared.border_heights.BorderHeights.{BorderHeights}
 use Rattle.lanes.specs.Lateral.{shape_of, cross_height, height_toward, height_of}
 use Rattle.lanes_borders.specs.Borders.{side_lanes}
 use Rattle.lanes_heights.specs.declared.across.Across.{Across}
@@ -25,12 +25,12 @@ pub record AcrossKept (road : Road) (s t : Float) : Type 0 where
 -- ---- of a lane
 
 -- its own heights: 2.00001
-pub record OwnKept (own : Pair) : Type 0 where
+pub record OwnKept (own : BorderHeights) : Type 0 where
   pub own_inner : AtMostPart 200001 100000 own.inner
   pub own_outer : AtMostPart 200001 100000 own.outer
 
 -- 840 at its borders; 841 across it, with the fraction kept at every t in -80..80, with the fraction as it is at every t between its borders
-pub record LaneHeightsKept (heights : Pair) (lane : Across) : Type 0 where
+pub record LaneHeightsKept (heights : BorderHeights) (lane : Across) : Type 0 where
   pub of_inner_height : AtMost 840 heights.inner
   pub of_outer_height : AtMost 840 heights.outer
   pub kept_within : (t : Float) → IsF64 t → across_road t ≡ true → AtMost 841 (height_within lane t)

@@ -14,6 +14,7 @@ pub fn height_toward(road: &LentRoad, s: f64, t: f64, toward: f64) -> f64
     shape_at(road, s, t) + cross_height(road, s, t, toward)
 }
 
+// Whether there is a shift or a strip.
 fn has_cross_section(road: &LentRoad) -> bool
     ensures { result ≡ has_cross_section road.now }
 {

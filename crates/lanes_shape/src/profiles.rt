@@ -1,5 +1,5 @@
 // The lateral profiles: each a shape across the road at its own s, and linear from one to the next.
-ghost use Rattle.std.specs.Prelude.{◌≡◌, ◌<◌};
+ghost use Rattle.std.specs.Prelude.{◌≡◌, ◌+◌, ◌<◌, ◌^◌};
 ghost use Rattle.lanes.specs.Lateral.{profile_height, shape_between, shape_of};
 
 use arithmetic_ranges::blend;
@@ -18,9 +18,9 @@ fn profile_height(road: &LentRoad, i: usize, t: f64) -> f64
     }
 }
 
-// Straight from the i-th profile to the next.
+// The height at t straight from the i-th profile to the next.
 fn shape_between(road: &LentRoad, i: usize, s: f64, t: f64) -> f64
-    requires { i < 18446744073709551615 }
+    requires { i + 1 < 2 ^ 64 }
     ensures { result ≡ shape_between road.now i s t }
 {
     let from = profile_start(road, i);
@@ -28,7 +28,8 @@ fn shape_between(road: &LentRoad, i: usize, s: f64, t: f64) -> f64
     blend(profile_height(road, i, t), profile_height(road, i + 1, t), f)
 }
 
-// The profiles' height at s and t; 0 where there is none.
+// The profiles' height at s and t; 0 where there is none. Four cases, as the definition has them and as a lane's heights have theirs: a value between
+// (no neighbour, one, two) would be made by these four arms and be matched by three.
 pub fn shape_at(road: &LentRoad, s: f64, t: f64) -> f64
     ensures { result ≡ shape_of road.now s t }
 {

@@ -14,13 +14,11 @@ use records_shapes::{strip, strip_column};
 // Nearer the ridge than this the side is the one that toward points to.
 const RIDGE_MARGIN: f64 = 1e-9;
 
+// Whether the i-th strip is there.
 pub(crate) fn is_present(road: &LentRoad, i: usize) -> bool
     ensures { result ≡ is_present (strip_at road.now i) }
 {
-    match strip(road, i) {
-        StripKind::Absent => false,
-        StripKind::Absolute | StripKind::Relative => true,
-    }
+    matches!(strip(road, i), StripKind::Absolute | StripKind::Relative)
 }
 
 // The number of a side's inner strip, among left inner, left outer, right inner, right outer; by numbers, as `strip` and `strip_column` take them: an
@@ -45,7 +43,8 @@ fn column_value(road: &LentRoad, i: usize, column: usize, s: f64) -> f64
     value(&strip_column(road, i, column), s)
 }
 
-// The height of a strip that is there, dt across it.
+// The height of a strip that is there, dt across it. That it is there is a premise, here and twice below: records_shapes finds columns by a strip's
+// number, and no value stands for a strip.
 fn strip_height(road: &LentRoad, i: usize, s: f64, dt: f64) -> f64
     ensures { (d : StripDef) → strip_at road.now i ≡ present d → result ≡ strip_height d s dt }
 {
@@ -53,41 +52,45 @@ fn strip_height(road: &LentRoad, i: usize, s: f64, dt: f64) -> f64
     let c2 = column_value(road, i, 3, s);
     let c1 = column_value(road, i, 2, s);
     let c0 = column_value(road, i, 1, s);
+    // from 0.0 on, as the definition: a sum of -0 alone is 0
     (((0.0 * dt + c3) * dt + c2) * dt + c1) * dt + c0
 }
 
-// A side of the cross section at a station.
+// One side of the cross section at a station.
 #[derive(Clone, Copy)]
-struct SideAt<'r, 'a> {
+struct CrossSide<'r, 'a> {
     road: &'r LentRoad<'a>,
     right: bool,
     s: f64,
 }
 
-impl<'r, 'a> SideAt<'r, 'a> {
-    // Where the inner strip is there and w wide: past the width the outer strip, if there is one, from the inner one's edge on.
+impl<'r, 'a> CrossSide<'r, 'a> {
+    // The height at t of a side whose inner strip is there and w wide: past the width that of the outer strip, if there is one, from the inner one's
+    // edge on.
     fn past_width(&self, t: f64, w: f64) -> f64
         ensures { (d : StripDef) → strip_at self.now.road.now (inner_of self.now.right) ≡ present d → result ≡ past_width d (strip_at self.now.road.now (outer_of self.now.right)) self.now.s t (sign_of self.now.right) w }
     {
-        let SideAt { road, right, s } = *self;
+        let CrossSide { road, right, s } = *self;
         let inner = inner_of(right);
+        let outer = outer_of(right);
         let sign = sign_of(right);
-        if w < sign * t {
-            let outer = outer_of(right);
-            let edge = sign * w;
-            match strip(road, outer) {
-                StripKind::Absent => strip_height(road, inner, s, t),
-                StripKind::Absolute => 0.0 + strip_height(road, outer, s, t - edge),
-                StripKind::Relative => {
-                    strip_height(road, inner, s, edge) + strip_height(road, outer, s, t - edge)
-                }
-            }
+        let edge = sign * w;
+        let kind = if w < sign * t {
+            strip(road, outer)
         } else {
-            strip_height(road, inner, s, t)
+            StripKind::Absent
+        };
+        match kind {
+            StripKind::Absent => strip_height(road, inner, s, t),
+            // 0.0 in place of the inner strip's height: -0 comes out as 0
+            StripKind::Absolute => 0.0 + strip_height(road, outer, s, t - edge),
+            StripKind::Relative => {
+                strip_height(road, inner, s, edge) + strip_height(road, outer, s, t - edge)
+            }
         }
     }
 
-    // Where the inner strip is there.
+    // The height at t of a side whose inner strip is there.
     fn by_width(&self, t: f64) -> f64
         ensures { (d : StripDef) → strip_at self.now.road.now (inner_of self.now.right) ≡ present d → result ≡ by_width d (strip_at self.now.road.now (outer_of self.now.right)) self.now.s t (sign_of self.now.right) (active_in d.width self.now.s) }
     {
@@ -99,7 +102,7 @@ impl<'r, 'a> SideAt<'r, 'a> {
         }
     }
 
-    // 0 where there is no inner strip.
+    // The height at t, 0 where there is no inner strip.
     fn height(&self, t: f64) -> f64
         ensures { result ≡ by_side (strip_at self.now.road.now (inner_of self.now.right)) (strip_at self.now.road.now (outer_of self.now.right)) self.now.s t (sign_of self.now.right) }
     {
@@ -122,11 +125,11 @@ fn is_left(t: f64, toward: f64) -> bool
     }
 }
 
-// The cross section's height at s and t; 0 on a side with no strip.
+// The cross section's height at s and t; 0 on a side with no strip. toward is a number and no flag, since the function answers for every f64.
 pub fn cross_height(road: &LentRoad, s: f64, t: f64, toward: f64) -> f64
     ensures { result ≡ cross_height road.now s t toward }
 {
     let shifted = t - value(&road.tshifts(), s);
     let right = !is_left(shifted, toward);
-    SideAt { road, right, s }.height(shifted)
+    CrossSide { road, right, s }.height(shifted)
 }

@@ -10,7 +10,7 @@ use Rattle.records_lent.specs.Lists.{any_below}
 use Rattle.std.specs.Prelude.{Option, Some, None}
 use Rattle.records.specs.Active.{last_start, active_up_to}
 use Rattle.records.specs.Roads.{Road, Lane, no_lane, profile_at}
-use Rattle.lanes.specs.declared.pairs.Pair.{Pair}
+use Rattle.lanes.specs.declared.border_heights.BorderHeights.{BorderHeights}
 use Rattle.lanes.specs.Lateral.{profile_height, shape_between, shape_from, shape_of, cross_height, height_toward, has_cross_section, flat_across}
 use Rattle.lanes_borders.specs.declared.across.LaneBorders.{LaneBorders}
 use Rattle.lanes_borders.specs.Borders.{side_lanes}
@@ -20,7 +20,7 @@ use Rattle.marks_laws.specs.Unmarked.{unmarked}
 use Rattle.marks_laws.proofs.Sections.{start_is, side-is, borders-are}
 
 -- borders and heights as `across_at` lays them
-abbrev laid : LaneBorders → Pair → Across
+abbrev laid : LaneBorders → BorderHeights → Across
 laid b h = record { inner_t = b.inner; outer_t = b.outer; inner_height = h.inner; outer_height = h.outer }
 
 module _ (road : Road) where
@@ -61,7 +61,7 @@ module _ (road : Road) where
     height_after_lem : (k : ℕ) → height_after (unmarked road) i s tangent right k ≡ height_after road i s tangent right k
     unfolding height_after
     height_after_lem zero = toward-is s _ _
-    height_after_lem (suc k) = ap (λ (h : Pair). h.outer) (heights_from_lem (height_after_lem k) k)
+    height_after_lem (suc k) = ap (λ (h : BorderHeights). h.outer) (heights_from_lem (height_after_lem k) k)
 
     heights_at_lem : (k : ℕ) → heights_at (unmarked road) i s tangent right k ≡ heights_at road i s tangent right k
     unfolding heights_at

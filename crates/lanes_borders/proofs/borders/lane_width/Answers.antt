@@ -1,11 +1,12 @@
 -- `lane_width`: by the kind of the lane.
 use Rattle.lanes_borders.specs.Borders.{width_of}
 use Rattle.lanes_borders.proofs.borders.lane_width.Goals as goal
+use Rattle.lanes_borders.proofs.borders.lane_width.Goals.{then-lane, else-lane}
 
-pub returns-then-lane : goal.returns-then-lane
+pub returns : goal.returns
 unfolding width_of
-returns-then-lane c = rw (c.not_below_zero.ensures, c.border_width.ensures, ← c.lane.view_is, c.if-lane.true)
-
-pub returns-else-lane : goal.returns-else-lane
-unfolding width_of
-returns-else-lane c = rw (c.not_below_zero-else-lane.ensures, c.value.ensures, ← c.lane.view_is, c.if-lane.false)
+returns c =
+    elim c.if-lane.branch [
+      | then-lane w ↦ rw (c.not_below_zero.ensures, w.width-is, w.border_width-width.ensures, ← c.lane.view_is, w.if-lane.true)
+      | else-lane w ↦ rw (c.not_below_zero.ensures, w.width-is, w.value-width.ensures, ← c.lane.view_is, w.if-lane.false)
+    ]

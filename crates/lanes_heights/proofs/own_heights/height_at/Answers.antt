@@ -7,7 +7,7 @@ use Rattle.lanes_heights.proofs.own_heights.height_at.Goals as goal
 
 pub overflow_add-i : goal.overflow_add-i
 overflow_add-i c =
-    let h = height-below c.args.heights.now c.args.s c.len-count.ensures c.active.ensures _ c.in-Some.is in
+    let h = height-below c.args.heights.now c.args.into c.len-count.ensures c.active.ensures _ c.in-Some.is in
     omega arith
 
 pub returns-in-Some : goal.returns-in-Some
@@ -16,7 +16,7 @@ returns-in-Some c = rw (← c.active.ensures, c.in-Some.is, ← c.len-count.ensu
 
 pub returns-in-Some-2 : goal.returns-in-Some-2
 unfolding height_of
-returns-in-Some-2 c = rw (← c.active.ensures, c.in-Some.is, ← c.len-count.ensures, le-ltb _ _ c.if-i-count.false, c.held.ensures, c.get-in-Some-2.ensures)
+returns-in-Some-2 c = rw (← c.active.ensures, c.in-Some.is, ← c.len-count.ensures, le-ltb _ _ c.if-i-count.false, c.from.ensures, c.get-in-Some-2.ensures)
 
 pub returns-in-None : goal.returns-in-None
 unfolding height_of
@@ -24,4 +24,4 @@ returns-in-None c = rw (← c.active.ensures, c.in-None.is, ← c.len-count.ensu
 
 pub returns-in-None-2 : goal.returns-in-None-2
 unfolding height_of
-returns-in-None-2 c = rw (← c.active.ensures, c.in-None.is, ← c.len-count.ensures, ne_eqb _ _ c.if-count-eq0.false, c.held-in-None-2.ensures, c.get-in-None-2.ensures)
+returns-in-None-2 c = rw (← c.active.ensures, c.in-None.is, ← c.len-count.ensures, ne_eqb _ _ c.if-count-eq0.false, c.from-in-None-2.ensures, c.get-in-None-2.ensures)

@@ -6,10 +6,8 @@ use Rattle.records.specs.Roads.{strip_at}
 use Rattle.lanes.proofs.LateralLaws.{absent_by, present-by}
 use Rattle.lanes_shape.proofs.strips.is_present.Goals as goal
 
-pub returns-in-Absent : goal.returns-in-Absent
-returns-in-Absent c =
-    let a = c.args in
-    absent_by (strip_at a.road.now a.i) (sym c.strip.ensures ∙ c.in-Absent.is)
+pub returns-in_default : goal.returns-in_default
+returns-in_default c = absent_by (strip_at c.args.road.now c.args.i) (sym c.strip.ensures ∙ c.in_default.is)
 
 pub returns-in-Absolute : goal.returns-in-Absolute
 returns-in-Absolute c =

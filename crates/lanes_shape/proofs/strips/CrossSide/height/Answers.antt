@@ -3,7 +3,7 @@ use mathlib.Core.Path.{sym, ◌∙◌}
 use Rattle.records.specs.Roads.{strip_at}
 use Rattle.lanes.specs.Sides.{sign_of, inner_of, outer_of}
 use Rattle.lanes.proofs.LateralLaws.{side-there, side-none}
-use Rattle.lanes_shape.proofs.strips.SideAt.height.Goals as goal
+use Rattle.lanes_shape.proofs.strips.CrossSide.height.Goals as goal
 
 pub returns-then-is_present : goal.returns-then-is_present
 returns-then-is_present c =

@@ -1,6 +1,6 @@
 -- `by_width`: by whether a width is active.
 use Rattle.lanes.specs.Lateral.{strip_height}
-use Rattle.lanes_shape.proofs.strips.SideAt.by_width.Goals as goal
+use Rattle.lanes_shape.proofs.strips.CrossSide.by_width.Goals as goal
 
 pub returns-in-Some : goal.returns-in-Some
 unfolding strip_height

@@ -1,0 +1,24 @@
+// A lane's height off the road at its inner and outer border.
+ghost use Rattle.std.specs.Prelude.{◌≡◌};
+
+use records::HeightDef;
+
+#[derive(Clone, Copy)]
+pub struct BorderHeights {
+    pub inner: f64,
+    pub outer: f64,
+}
+
+// One height on its own, held from its place on.
+impl From<HeightDef> for BorderHeights {
+    ghost use Rattle.lanes.specs.Lateral.{height_held};
+
+    fn from(h: HeightDef) -> BorderHeights
+        ensures { result ≡ height_held h }
+    {
+        BorderHeights {
+            inner: h.inner,
+            outer: h.outer,
+        }
+    }
+}
