@@ -6,4 +6,4 @@ mod poses;
 mod spirals;
 
 pub use bearings::Bearing;
-pub use poses::{bearing_of, pose};
+pub use poses::{geom_bearing, pose};

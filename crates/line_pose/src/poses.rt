@@ -55,7 +55,7 @@ fn arc_or_line(g: GeomRec, k: f64, ds: f64) -> Bearing
 
 // The pose of the i-th geometry at s, with the lent samples, and the sine and the cosine of its heading.
 #[tactic(auto, unfolding(crate::specs::Poses::pose_of))]
-pub fn bearing_of(lent: &SampledRoad, i: usize, s: f64) -> Bearing
+pub fn geom_bearing(lent: &SampledRoad, i: usize, s: f64) -> Bearing
     ensures { result ≡ bearing_of (pose_of lent.now.road lent.now.samples.now i s) }
 {
     let g = geom(&lent.road, i);
@@ -78,5 +78,5 @@ pub fn bearing_of(lent: &SampledRoad, i: usize, s: f64) -> Bearing
 pub fn pose(lent: &SampledRoad, i: usize, s: f64) -> Pose
     ensures { result ≡ pose_of lent.now.road lent.now.samples.now i s }
 {
-    bearing_of(lent, i, s).pose
+    geom_bearing(lent, i, s).pose
 }

@@ -1,6 +1,6 @@
 // A spiral's samples, as far as a lent slice holds them, and the pose between two of them. A spiral stops at its first and last sample.
 ghost use Rattle.std.specs.Prelude.{◌≡◌, true, ℕ, ◌+◌, ◌-◌, ◌*◌, ◌<◌, ◌≤◌, length};
-ghost use Rattle.line_samples.specs.Samples.{sample_stride, sample_at};
+ghost use Rattle.line_samples.specs.Samples.{most_counted, counted_end, sample_stride, sample_at};
 ghost use Rattle.line_pose.specs.Poses.{leading, segment, fraction_of, between, spiral_pose};
 
 use arithmetic_ranges::{blend, clamp};
@@ -13,8 +13,11 @@ pub(crate) struct SpiralSamples<'a> {
     pub(crate) samples: &'a [f64],
     pub(crate) first: usize,
     pub(crate) count: usize,
-    ghost few: { (first < 268435456) × (count ≤ 2002) },
+    ghost few: { (first < counted_end) × (count ≤ most_counted) },
 }
+
+// How many samples are looked at with no branch between their tests.
+const AT_ONCE: usize = 8;
 
 // The first sample of the segment: the last leading one, but never the very last.
 fn segment_of(lead: usize, n: usize) -> usize
@@ -40,7 +43,7 @@ fn between_samples(a: Sample, b: Sample, f: f64) -> Pose
 }
 
 impl<'a> SpiralSamples<'a> {
-    // The k-th: a segment of fewer than two samples takes one past the last.
+    // The k-th sample: a segment of fewer than two samples takes one past the last.
     fn sample(&self, k: usize) -> Sample
         requires { k ≤ self.now.count + 1 }
         ensures { result ≡ sample_at self.now.samples.now self.now.first k }
@@ -54,7 +57,7 @@ impl<'a> SpiralSamples<'a> {
         }
     }
 
-    // Whether the eight from the k-th on all have a distance of at most d.
+    // Whether the eight samples from the k-th on all have a distance of at most d.
     fn eight_lead(&self, k: usize, d: f64) -> bool
         requires { (k ≤ self.now.count) × ((self.now.first + k + 8) * sample_stride ≤ length self.now.samples.now) }
         ensures { result ≡ true → (n : ℕ) → leading self.now.samples.now (self.now.first + k) d (n + 8) ≡ 8 + leading self.now.samples.now (self.now.first + k + 8) d n }
@@ -66,23 +69,23 @@ impl<'a> SpiralSamples<'a> {
         low & high
     }
 
-    // How many lead with a distance of at most d, as far as whole eights go: their tests need no branch between them, and one by one a long spiral takes near twice as long.
+    // How many samples lead with a distance of at most d, as far as whole eights of them go: their tests need no branch between them, and one by one a long spiral takes near twice as long.
     fn leading_eights(&self, d: f64) -> usize
         ensures n_value { leading self.now.samples.now self.now.first d self.now.count ≡ result + leading self.now.samples.now (self.now.first + result) d (self.now.count - result) }
         ensures small { result ≤ self.now.count }
     {
-        let eights = self.count / 8;
+        let eights = self.count / AT_ONCE;
         let whole = self.samples.len() / SAMPLE_STRIDE;
         (0..eights)
             .find(|&eight| {
-                let k = eight * 8;
-                whole < self.first + k + 8 || !self.eight_lead(k, d)
+                let k = eight * AT_ONCE;
+                whole < self.first + k + AT_ONCE || !self.eight_lead(k, d)
             })
             .unwrap_or(eights)
-            * 8
+            * AT_ONCE
     }
 
-    // How many lead with a distance of at most d. Each is looked at, since the distances of a lent slice may stand in any order.
+    // How many samples lead with a distance of at most d. Each is looked at, since the distances of a lent slice may stand in any order.
     fn leading(&self, d: f64) -> usize
         ensures value { result ≡ leading self.now.samples.now self.now.first d self.now.count }
         ensures small { result ≤ self.now.count }

@@ -53,6 +53,13 @@ count_by Line n = 0
 count_by (Arc k) n = 0
 count_by (Spiral k0 k1) n = suc n
 
+-- so of one geometry at most so many samples are counted, and of all the geometries of a road fewer than 2^28
+abbrev pub most_counted : ℕ
+most_counted = 2002
+
+abbrev pub counted_end : ℕ
+counted_end = 268435456
+
 -- the samples of one geometry, and those of all before the i-th
 unfoldable pub sample_count : GeomRec → ℕ
 unfolding spiral_steps

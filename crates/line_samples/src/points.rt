@@ -10,7 +10,7 @@ pub struct Sample {
     pub heading: f64,
 }
 
-// The numbers that a sample takes in a lent slice: the C interface lends samples flat.
+// The numbers that a sample takes in a lent slice: the C interface lends samples flat. They are no `records_lent::Records`, since a record that is cut off is none and a sample keeps the numbers that are there.
 pub const SAMPLE_STRIDE: usize = 4;
 
 // A geometry that is a spiral, with the curvatures at its ends.

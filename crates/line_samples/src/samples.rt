@@ -1,30 +1,29 @@
 // A spiral has no elementary form, so it is baked to samples by the midpoint rule: its start, then one a step of 0.25 m, the last shorter.
-ghost use Rattle.std.specs.Prelude.{◌≡◌, ◌<◌, ◌≤◌, T, leb};
-ghost use Rattle.std.specs.Float.Ieee.{le};
-ghost use Rattle.line_samples.specs.Quarters.{least_estimated, greatest_estimated, QuartersBelow};
-ghost use Rattle.line_samples.specs.Samples.{most_samples, most_steps, step_at, spiral_steps, sample_count, samples_before, samples_needed, first_sample, next_sample, turn_rate, heading_at};
+ghost use Rattle.std.specs.Prelude.{◌≡◌, ◌<◌, ◌≤◌, leb};
+ghost use Rattle.line_samples.specs.Quarters.{QuartersBelow};
+ghost use Rattle.line_samples.specs.Samples.{most_samples, most_steps, most_counted, counted_end, step_at, spiral_steps, sample_count, samples_before, samples_needed, first_sample, next_sample, turn_rate, heading_at};
 
 use crate::points::{Sample, Spiral};
 use records::{GeomRec, GeomShape, LentRoad};
 use records_geometry::geom;
+use std::num::saturating_f64_to_usize;
 
-// All steps are as long but the last.
+// The length of every step but the last.
 const WHOLE_STEP: f64 = 0.25;
 
-// A spiral goes on while what is left of it is more.
+// A spiral goes on while more than this is left of it.
 const END_MARGIN: f64 = 1e-9;
 
-// A spiral that is no longer has no turn rate.
+// A spiral of this length or less has no turn rate.
 const NO_TURN_LENGTH: f64 = 1e-9;
 
-// The most samples that a road may need; one step more is counted, to see that it is over.
+// The most samples that a road may need.
 const MOST_SAMPLES: usize = 2000;
 
-const MOST_STEPS: usize = 2001;
+// One step more than the samples that a road may need, so as to see that it is over.
+const MOST_STEPS: usize = MOST_SAMPLES + 1;
 
-// Between them the steps are estimated, elsewhere all are counted.
-const LEAST_ESTIMATED: f64 = 1.0;
-
+// The steps of a longer spiral are counted one by one: it is over in any case.
 const GREATEST_ESTIMATED: f64 = 10000.0;
 
 // The length of the step from u on.
@@ -34,21 +33,14 @@ fn step_at(length: f64, u: f64) -> f64
     (length - u).min(WHOLE_STEP)
 }
 
-// About how many steps of 0.25 fit below x: the low bits of a sum which is rounded to a whole number, 4 x less 1.
-fn estimate(x: f64) -> usize
-    requires { T (le least_estimated x) × T (le x greatest_estimated) }
-    ensures { result < 65536 }
-{
-    (f64::to_bits(x * 4.0 + 4503599627370495.0) % 65536) as usize
-}
-
-// Steps of 0.25 that end below x, at most 2,000 and all but one or two of them. The test is what makes sure of them.
+// Steps of 0.25 that end below x, at most 2,000 and all but one or two of them: 4 x less 1 is an estimate, and the test makes sure of it.
 fn quarters_below(x: f64) -> usize
     ensures { QuartersBelow x result }
 {
-    let inside = (LEAST_ESTIMATED <= x) & (x <= GREATEST_ESTIMATED);
-    if inside {
-        let n = estimate(x).min(MOST_SAMPLES);
+    if x <= GREATEST_ESTIMATED {
+        let n = saturating_f64_to_usize(x * 4.0)
+            .saturating_sub(1)
+            .min(MOST_SAMPLES);
         if n as f64 * WHOLE_STEP < x {
             return n;
         }
@@ -77,7 +69,7 @@ fn spiral_steps(length: f64) -> usize
 #[tactic(auto, unfolding(crate::specs::Samples::sample_count))]
 pub fn sample_count(g: GeomRec) -> usize
     ensures value { result ≡ sample_count g }
-    ensures small { result ≤ 2002 }
+    ensures small { result ≤ most_counted }
 {
     match g.shape {
         GeomShape::Spiral(_, _) => spiral_steps(g.length) + 1,
@@ -88,7 +80,7 @@ pub fn sample_count(g: GeomRec) -> usize
 // How many samples the geometries before the i-th have, where the first of its own stands.
 pub fn samples_before(road: &LentRoad, i: usize) -> usize
     ensures value { result ≡ samples_before road.now i }
-    ensures small { result < 268435456 }
+    ensures small { result < counted_end }
 {
     let mut sum = 0;
     for k in 0..i.min(road.geom_count()) {
@@ -101,7 +93,7 @@ pub fn samples_before(road: &LentRoad, i: usize) -> usize
 #[tactic(auto, unfolding(crate::specs::Samples::samples_needed))]
 pub fn samples_needed(road: &LentRoad) -> usize
     ensures value { result ≡ samples_needed road.now }
-    ensures small { result < 268435456 }
+    ensures small { result < counted_end }
 {
     samples_before(road, road.geom_count())
 }

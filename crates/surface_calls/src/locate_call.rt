@@ -2,23 +2,15 @@
 // Slices are lent and no `SampledRoad`: they are one only once `sampled` has answered it.
 ghost use Rattle.std.specs.Prelude.{◌≡◌};
 ghost use Rattle.refusals.specs.Answer.{answered};
-ghost use Rattle.arithmetic_ranges.specs.Ranges.{finite64};
 ghost use Rattle.surface_calls.specs.LocateCall.{on_map, locate_call};
 
-use arithmetic_ranges::{LARGEST, sized};
+use arithmetic_ranges::sized;
 use line_calls::sampled;
 use refusals::Refusal;
 use surface_locate::{Position, locate_from};
 use surface_points::PlanVector;
 
 const GREATEST_TARGET: f64 = 2000000.0;
-
-// Row 7: a guess that is finite.
-fn finite(guess: f64) -> bool
-    ensures { result ≡ finite64 guess }
-{
-    sized(LARGEST, guess)
-}
 
 // Row 9: a target in ±2,000,000.
 fn on_map(x: f64, y: f64) -> bool
@@ -28,7 +20,7 @@ fn on_map(x: f64, y: f64) -> bool
 }
 
 // Where the point x, y lies on the road, from a guess of s, with the lent samples: s and t, the count of moves, and whether they converged; rows 3, 4, 5, 6, 7 and 9. On a straight road along x from the origin, target 3, 2 and guess 3: s 3, t 2, no move, converged.
-#[tactic(auto, unfolding(crate::specs::LocateCall::locate_call))]
+#[tactic(auto, using(crate::proofs::FiniteLaws::finite_is), unfolding(crate::specs::LocateCall::locate_call))]
 pub fn locate(
     words: &[u16],
     numbers: &[f64],
@@ -40,7 +32,7 @@ pub fn locate(
     ensures { answered result ≡ locate_call words.now numbers.now samples.now x y guess }
 {
     let lent = sampled(words, numbers, samples)?;
-    if !finite(guess) {
+    if !guess.is_finite() {
         return Err(Refusal::Station);
     }
     if !on_map(x, y) {

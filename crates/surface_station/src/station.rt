@@ -6,7 +6,7 @@ ghost use Rattle.line_pose.specs.Bearings.{bearing_of};
 ghost use Rattle.surface_station.specs.Station.{pose_at, station_of};
 
 use arithmetic_sine::{SinCos, sin_cos};
-use line_pose::{Bearing, bearing_of};
+use line_pose::{Bearing, geom_bearing};
 use line_samples::{Pose, SampledRoad};
 use records::{LentRoad, RefPoint};
 use records_active::{geom_index, slope, value};
@@ -24,7 +24,7 @@ pub fn pose_at(lent: &SampledRoad, s: f64) -> Pose
 pub fn bearing_at(lent: &SampledRoad, s: f64) -> Bearing
     ensures { result ≡ bearing_of (pose_at lent.now.road lent.now.samples.now s) }
 {
-    bearing_of(lent, geom_index(&lent.road, s), s)
+    geom_bearing(lent, geom_index(&lent.road, s), s)
 }
 
 // The sine and the cosine of the bank at s, which needn't be worked out for a road without banks.
