@@ -7,7 +7,7 @@ ghost use Rattle.reader_cells.specs.Cells.{natural_at, hex_at, whole_at, listed_
 use crate::names::{Span, name_at};
 use reader_hex::{byte_at, digit, sixteen_at};
 use reader_schema::place_of;
-use reader_schema::tables::Kind;
+use reader_schema::tables::{Kind, NUMBERS, WHOLES};
 
 // A whole number n is kept as this and n. It has up to four digits, so that the sum is never negative and keeps the numbers' order.
 pub const WHOLE_BIAS: u64 = 10000;
@@ -100,8 +100,8 @@ pub fn cell_by_number(text: &[u8], at: usize, number: usize) -> Option<Span<u64>
     ensures { result ≡ cell_at text.now at number }
 {
     match number {
-        0 => hex_at(text, at),
-        1 => whole_at(text, at),
+        NUMBERS => hex_at(text, at),
+        WHOLES => whole_at(text, at),
         list => listed_at(text, at, list),
     }
 }

@@ -14,7 +14,7 @@ use borrow.Author.Tests.{lt-ltb, le-ltb, ltb-true, ltb-false}
 use Rattle.std.specs.Bool.{then_some}
 use Rattle.std.specs.Prelude.{Option, Some, None}
 use Rattle.std.proofs.lemmas.Option.{none-some, cond_some}
-use Rattle.reader_hex.specs.Hex.{digit_of, byte_at, digits_ok, digits_value, digits_at, word_within, hex_word_at}
+use Rattle.reader_hex.specs.Hex.{digit_of, byte_at, digits_ok, digits_value, digits_at, word_within, sixteen_before}
 
 and-false : (a : Bool) → a && false ≡ false
 and-false true = refl
@@ -91,8 +91,8 @@ module _ (text : List ℕ) (at : ℕ) where
 
 -- sixteen digits and the byte after them
 module _ (text : List ℕ) (at stop : ℕ) where
-  pub word-none : digits_at 16 text at ≡ None → None ≡ hex_word_at text at stop
-  unfolding digits_at hex_word_at word_within
+  pub word-none : digits_at 16 text at ≡ None → None ≡ sixteen_before text at stop
+  unfolding digits_at sixteen_before word_within
   word-none = go (digits_value text at 16) (digits_ok text at 16) (ltb (at + 16) (length text)) (eqb (byte_at text (at + 16)) stop)
     where
       go : (v : ℕ) (a b c : Bool) → cond a (Some v) None ≡ None → None ≡ cond b (cond (a && c) (Some v) None) None
@@ -100,8 +100,8 @@ module _ (text : List ℕ) (at stop : ℕ) where
       go v false true c e = refl
       go v false false c e = refl
 
-  pub word-outside : length text ≤ at + 16 → None ≡ hex_word_at text at stop
-  unfolding hex_word_at
+  pub word-outside : length text ≤ at + 16 → None ≡ sixteen_before text at stop
+  unfolding sixteen_before
   word-outside h = rw (le-ltb (at + 16) (length text) h)
 
   module _ {v b : ℕ} (e : digits_at 16 text at ≡ Some v) (h : at + 16 < length text) (f : b ≡ byte_at text (at + 16)) where
@@ -110,8 +110,8 @@ module _ (text : List ℕ) (at stop : ℕ) where
     all = cond_some (digits_ok text at 16) (digits_value text at 16) v e
 
     -- the byte after them is tested
-    pub word-closed : {r : Option ℕ} → r ≡ then_some (eqb b stop) v → r ≡ hex_word_at text at stop
-    unfolding hex_word_at word_within
+    pub word-closed : {r : Option ℕ} → r ≡ then_some (eqb b stop) v → r ≡ sixteen_before text at stop
+    unfolding sixteen_before word_within
     word-closed g = rw (lt-ltb (at + 16) (length text) h, all.0, ← f, all.1) (g ∙ some (eqb b stop))
       where
         some : (c : Bool) → then_some c v ≡ cond c (Some v) None

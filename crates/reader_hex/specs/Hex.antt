@@ -33,5 +33,5 @@ word_within text at stop =
     cond (digits_ok text at 16 && eqb (byte_at text (at + 16)) stop) (Some (digits_value text at 16)) None
 
 -- the number of sixteen digits at any place, with a given byte after it; none where the text ends before that byte
-unfoldable pub hex_word_at : List ℕ → ℕ → ℕ → Option ℕ
-hex_word_at text at stop = cond (ltb (at + 16) (length text)) (word_within text at stop) None
+unfoldable pub sixteen_before : List ℕ → ℕ → ℕ → Option ℕ
+sixteen_before text at stop = cond (ltb (at + 16) (length text)) (word_within text at stop) None

@@ -1,8 +1,8 @@
 // Hexadecimal digits as a number.
 ghost use Rattle.std.specs.Prelude.{◌≡◌, ℕ, ◌+◌, ◌<◌, ◌≤◌, length, get_or};
-ghost use Rattle.reader_hex.specs.Hex.{byte_at, digit_of, digits_at, hex_word_at};
+ghost use Rattle.reader_hex.specs.Hex.{byte_at, digit_of, digits_at, sixteen_before};
 
-use crate::bytes::digit;
+use crate::bytes::{NO_DIGIT, digit};
 
 // The values of N bytes as digits, good or not: with no way out between them, they are worked out together.
 // By index: no contract of an adapter over `iter_mut` tells what was written, and by `from_fn` the proof would have to carry from call to call what the
@@ -18,7 +18,7 @@ fn values_at<const N: usize>(text: &[u8], at: usize) -> [u8; N]
     values
 }
 
-// The number that N digits stand for; none where a byte is no digit, 16 as `digit` has it, or the text ends before.
+// The number that N digits stand for; none where a byte is no digit, or the text ends before.
 fn digits_at<const N: usize>(text: &[u8], at: usize) -> Option<u64>
     requires { (0 < N) × (N ≤ 16) }
     ensures { result ≡ digits_at N text.now at }
@@ -29,11 +29,10 @@ fn digits_at<const N: usize>(text: &[u8], at: usize) -> Option<u64>
     let values = values_at::<N>(text, at);
     let mut number: u64 = 0;
     for &value in &values {
-        let d = value as u64;
-        if 16 <= d {
+        if NO_DIGIT <= value {
             return None;
         }
-        number = number * 16 + d;
+        number = number * 16 + value as u64;
     }
     Some(number)
 }
@@ -52,9 +51,9 @@ pub fn sixteen_at(text: &[u8], at: usize) -> Option<u64>
     digits_at::<16>(text, at)
 }
 
-// The number of sixteen digits with the byte `stop` after them; none where the text ends before it.
-pub fn word_at(text: &[u8], at: usize, stop: u8) -> Option<u64>
-    ensures { result ≡ hex_word_at text.now at stop }
+// The number of sixteen digits before the byte `stop`; none where another byte stands there, or the text ends before it.
+pub fn sixteen_before(text: &[u8], at: usize, stop: u8) -> Option<u64>
+    ensures { result ≡ sixteen_before text.now at stop }
 {
     let number = sixteen_at(text, at)?;
     let after = *text.get(at + 16)?;

@@ -7,5 +7,5 @@ mod digits;
 mod patterns;
 
 pub use bytes::{byte_at, digit};
-pub use digits::{eight_at, sixteen_at, word_at};
+pub use digits::{eight_at, sixteen_at, sixteen_before};
 pub use patterns::{bits_of, of_bits};

@@ -3,7 +3,7 @@
 // that each use still needs a name, its value at first and its read, so it came out no shorter, and in the definitions, where both hold numbers, an order
 // and a line's cells would be of one type.
 ghost use Rattle.std.specs.Prelude.{◌≡◌, set};
-ghost use Rattle.reader_lines.specs.Columns.{no_order, no_cells, all_due, is_due, ordered_column, cell_of};
+ghost use Rattle.reader_lines.specs.Columns.{no_order, no_cells, all_due, is_due, met_in, ordered_by, ordered_column, valued_by, cell_of};
 
 use reader_schema::tables::COLUMNS_MOST;
 
@@ -43,6 +43,13 @@ impl Order {
         }
     }
 
+    // Names the column of word i.
+    pub(crate) fn name(&mut self, i: usize, column: u8)
+        ensures { self.new ≡ ordered_by self.old i column }
+    {
+        put(&mut self.of, i, column);
+    }
+
     // The column of word i.
     pub(crate) fn column(&self, i: usize) -> u8
         ensures { result ≡ ordered_column self.now i }
@@ -60,6 +67,13 @@ impl Cells {
         }
     }
 
+    // Keeps the cell of a column.
+    pub(crate) fn keep(&mut self, column: usize, cell: u64)
+        ensures { self.new ≡ valued_by self.old column cell }
+    {
+        put(&mut self.of, column, cell);
+    }
+
     // The cell of a column.
     pub fn at(&self, column: usize) -> u64
         ensures { result ≡ cell_of self.now column }
@@ -69,13 +83,21 @@ impl Cells {
 }
 
 impl Due {
-    // The first n columns are due.
+    // The first n columns are due. By hand: `from_fn` tells of each place by its index, and between that and the list of eight that the definition is it
+    // would take a law.
     pub(crate) fn all(n: usize) -> Due
         ensures { result ≡ all_due n }
     {
         Due {
             of: [0 < n, 1 < n, 2 < n, 3 < n, 4 < n, 5 < n, 6 < n, 7 < n],
         }
+    }
+
+    // Takes a column that was named off.
+    pub(crate) fn meet(&mut self, column: usize)
+        ensures { self.new ≡ met_in self.old column }
+    {
+        put(&mut self.of, column, false);
     }
 
     pub(crate) fn has(&self, column: usize) -> bool

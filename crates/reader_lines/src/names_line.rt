@@ -2,7 +2,7 @@
 ghost use Rattle.std.specs.Prelude.{◌≡◌};
 ghost use Rattle.reader_lines.specs.NamesLine.{column_at, head_at};
 
-use crate::columns::{Due, Order, put};
+use crate::columns::{Due, Order};
 use reader_cells::Span;
 
 // A space, then a name: the column of that name; none where no space stands, or the name is no column's.
@@ -36,8 +36,8 @@ pub fn head_at(text: &[u8], at: usize, table: usize) -> Option<Span<Order>>
         if !due.has(column) {
             return None;
         }
-        put(&mut order.of, i, named.value);
-        put(&mut due.of, column, false);
+        order.name(i, named.value);
+        due.meet(column);
         next = named.next;
     }
     if reader_hex::byte_at(text, next) != b'\n' {

@@ -2,7 +2,7 @@
 ghost use Rattle.std.specs.Prelude.{◌≡◌, ◌-◌};
 ghost use Rattle.reader_lines.specs.ValuesLine.{stop_of, values_at};
 
-use crate::columns::{Cells, Order, put};
+use crate::columns::{Cells, Order};
 use reader_cells::Span;
 
 // The byte after cell i of n, counted from 1.
@@ -25,7 +25,7 @@ pub fn values_at(text: &[u8], at: usize, table: usize, order: Order) -> Option<S
         if reader_hex::byte_at(text, cell.next) != stop_of(i + 1, n) {
             return None;
         }
-        put(&mut cells.of, column, cell.value);
+        cells.keep(column, cell.value);
         next = cell.next + 1;
     }
     Some(Span { value: cells, next })

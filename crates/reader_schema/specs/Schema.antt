@@ -6,7 +6,7 @@ use Prim.Native.String.{String}
 use Prim.Native.String as text
 use Rattle.records.specs.Layout.{most_geoms, most_elevs, most_banks, most_offsets, most_shifts, most_sections, most_lanes, most_extents, most_heights, most_profiles, most_shapes, most_cubics, most_marks, most_wants}
 use Rattle.reader_schema.specs.declared.tables.Kind.{Kind}
-use Rattle.reader_schema.specs.declared.tables.Kind.TheVariants.{Number, Whole, ShapeKind, ExtentKind, Bit, Side, Term}
+use Rattle.reader_schema.specs.declared.tables.Kind.TheVariants.{Number, Whole, GeomKind, ExtentKind, Bit, Side, Term}
 use Rattle.reader_schema.specs.Tables.{table_count, columns_most}
 
 -- a column: what it holds, as the code has it (an f64; a whole number; or one of a list's words: a geometry's kind; an extent's; the words 0 and 1; a side; a
@@ -39,8 +39,8 @@ keywords =
     []
 
 -- a column of the words of each of these lists
-abbrev pub shape_kind : String → Column
-shape_kind s = record { holds = ShapeKind; title = s }
+abbrev pub geom_kind : String → Column
+geom_kind s = record { holds = GeomKind; title = s }
 
 abbrev pub extent_kind : String → Column
 extent_kind s = record { holds = ExtentKind; title = s }
@@ -64,7 +64,7 @@ table s n cs = record { name = s; limit = n; columns = cs }
 abbrev pub tables : List Table
 tables =
     table "road" 1 (number "length" ∷ []) ∷
-    table "geom" most_geoms (number "s" ∷ number "x" ∷ number "y" ∷ number "hdg" ∷ number "length" ∷ shape_kind "kind" ∷ number "k0" ∷ number "k1" ∷ []) ∷
+    table "geom" most_geoms (number "s" ∷ number "x" ∷ number "y" ∷ number "hdg" ∷ number "length" ∷ geom_kind "kind" ∷ number "k0" ∷ number "k1" ∷ []) ∷
     table "elev" most_elevs (number "start" ∷ abcd) ∷
     table "bank" most_banks (number "start" ∷ abcd) ∷
     table "offset" most_offsets (number "start" ∷ abcd) ∷
@@ -140,7 +140,7 @@ word_count list = get_or counts list 0
 abbrev pub kind_by : Kind → ℕ
 kind_by Number = 0
 kind_by Whole = 1
-kind_by ShapeKind = table_count
+kind_by GeomKind = table_count
 kind_by ExtentKind = table_count + 1
 kind_by Bit = table_count + 2
 kind_by Side = table_count + 3

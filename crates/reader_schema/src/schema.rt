@@ -3,7 +3,7 @@
 ghost use Rattle.std.specs.Prelude.{◌≡◌};
 ghost use Rattle.reader_schema.specs.Schema.{kind_by, first_of, word_count, column_kind, word_of, listed_place, name_of, limit_of};
 
-use crate::tables::Kind::{self, Bit, ExtentKind, Number, ShapeKind, Side, Term, Whole};
+use crate::tables::Kind::{self, Bit, ExtentKind, Number, GeomKind, Side, Term, Whole};
 use crate::tables::{
     COLUMNS_MOST, CUBIC_TABLE, EXTENT_TABLE, GEOM_TABLE, HEIGHT_TABLE, LANE_TABLE, LIST_COUNT,
     MARK_TABLE, SHAPE_TABLE, STRIP_TABLE, TABLE_COUNT,
@@ -113,7 +113,7 @@ const KEYWORD_WORDS: usize = 14;
 
 const ALL_WORDS: usize = COLUMN_WORDS + KEYWORD_WORDS;
 
-// The words of all lists, one list after another: first each table's columns.
+// The words of the tables' columns, one table after another. They are the first words of all lists; those of the keyword columns come after them.
 const COLUMNS: [u64; COLUMN_WORDS] = [
     // road
     0x6c656e677468, // length
@@ -204,7 +204,7 @@ const COLUMNS: [u64; COLUMN_WORDS] = [
     0x74, // t
 ];
 
-// Then the words of each keyword column. They are sought cell by cell, so the short constant is kept apart from the long one; why, `TABLES` says.
+// The words of the keyword columns, one list after another. They are sought cell by cell, so the short constant is kept apart from the long one; why, `TABLES` says.
 const KEYWORDS: [u64; KEYWORD_WORDS] = [
     // kind
     0x6c696e65, // line
@@ -261,7 +261,7 @@ const LISTS: [List; LIST_COUNT] = [
 // What each column of a table holds, a number where it has no column. The other tables hold numbers alone.
 // Each table has a constant of its own, a short one, as `TABLES` says.
 const GEOM: [Kind; COLUMNS_MOST] = [
-    Number, Number, Number, Number, Number, ShapeKind, Number, Number,
+    Number, Number, Number, Number, Number, GeomKind, Number, Number,
 ];
 
 const LANE: [Kind; COLUMNS_MOST] = [

@@ -42,15 +42,15 @@ pub const COLUMNS_MOST: usize = 8;
 
 // The lists of words by number: lists 0 to 15 are the columns of that table, the words of keyword columns follow. A list is a number and no variant of an
 // enum: a table's number is its list's, and `place_of` and `count_of` take any number and must stay as wide.
-pub const SHAPE_KINDS: usize = TABLE_COUNT;
+pub const GEOM_KINDS: usize = TABLE_COUNT;
 
-pub const EXTENT_KINDS: usize = SHAPE_KINDS + 1;
+pub const EXTENT_KINDS: usize = GEOM_KINDS + 1;
 
-pub const BITS: usize = SHAPE_KINDS + 2;
+pub const BITS: usize = GEOM_KINDS + 2;
 
-pub const SIDES: usize = SHAPE_KINDS + 3;
+pub const SIDES: usize = GEOM_KINDS + 3;
 
-pub const TERMS: usize = SHAPE_KINDS + 4;
+pub const TERMS: usize = GEOM_KINDS + 4;
 
 pub const LIST_COUNT: usize = TABLE_COUNT + 5;
 
@@ -59,23 +59,28 @@ pub const LIST_COUNT: usize = TABLE_COUNT + 5;
 pub enum Kind {
     Number,
     Whole,
-    ShapeKind,
+    GeomKind,
     ExtentKind,
     Bit,
     Side,
     Term,
 }
 
-// The number of a kind: the list of its words, 0 for an f64 and 1 for a whole number, which have none. Those two are also the lists of two tables' column
+// The numbers of the kinds that have no list of words: an f64 and a whole number.
+pub const NUMBERS: usize = 0;
+
+pub const WHOLES: usize = 1;
+
+// The number of a kind: the list of its words, `NUMBERS` or `WHOLES` where it has none. Those two are also the lists of two tables' column
 // names: no column holds such a name, so as a kind's number each has one meaning.
 impl From<Kind> for usize {
     fn from(kind: Kind) -> usize
         ensures { result ≡ kind_by kind }
     {
         match kind {
-            Kind::Number => 0,
-            Kind::Whole => 1,
-            Kind::ShapeKind => SHAPE_KINDS,
+            Kind::Number => NUMBERS,
+            Kind::Whole => WHOLES,
+            Kind::GeomKind => GEOM_KINDS,
             Kind::ExtentKind => EXTENT_KINDS,
             Kind::Bit => BITS,
             Kind::Side => SIDES,

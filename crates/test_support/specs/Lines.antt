@@ -1,6 +1,6 @@
 -- A line of a list of cases: a letter, a space, 16 digits, a space, 16 digits, LF. Read `line_of` first.
 use Rattle.std.specs.Prelude.{ℕ, cond, List, length, ◌==◌, nat_le, Option, Some, None}
-use Rattle.reader_hex.specs.Hex.{byte_at, hex_word_at}
+use Rattle.reader_hex.specs.Hex.{byte_at, sixteen_before}
 use Rattle.test_support.specs.declared.lines.Line.{Line}
 
 -- a letter and two numbers
@@ -13,5 +13,5 @@ line_with letter None b = None
 unfoldable pub line_of : List ℕ → Option Line
 line_of list =
     cond (nat_le 36 (length list))
-    (cond (byte_at list 1 == 32) (line_with (byte_at list 0) (hex_word_at list 2 32) (hex_word_at list 19 10)) None)
+    (cond (byte_at list 1 == 32) (line_with (byte_at list 0) (sixteen_before list 2 32) (sixteen_before list 19 10)) None)
     None

@@ -5,7 +5,7 @@
 ghost use Rattle.std.specs.Prelude.{◌≡◌};
 ghost use Rattle.test_support.specs.Lines.{line_of};
 
-use reader_hex::word_at;
+use reader_hex::sixteen_before;
 
 pub const LINE_LENGTH: usize = 36;
 
@@ -24,8 +24,8 @@ pub fn line_of(list: &[u8]) -> Option<Line>
     if list.len() < LINE_LENGTH || list[1] != b' ' {
         return None;
     }
-    let a = word_at(list, 2, b' ')?;
-    let b = word_at(list, 19, b'\n')?;
+    let a = sixteen_before(list, 2, b' ')?;
+    let b = sixteen_before(list, 19, b'\n')?;
     Some(Line {
         letter: list[0],
         a,

@@ -10,10 +10,10 @@ returns-then-saturating_sub g c = digits-short c.args.text.now c.args.at g.row.N
 pub loop-value-init : goal.loop-value-init
 loop-value-init g c = (search rules, digits-none _ _, value_none _ _)
 
-pub returns-then-d-ge16 : goal.returns-then-d-ge16
-returns-then-d-ge16 g c =
+pub returns-then-value-ge-NO_DIGIT : goal.returns-then-value-ge-NO_DIGIT
+returns-then-value-ge-NO_DIGIT g c =
     let here = c.loop-value in
-    digits-broken c.args.text.now c.args.at here.value-index g.row.N (c.values_at-values.ensures here.value-index c.loop-value-test.true) c.loop-value-test.true c.if-d-ge16.true
+    digits-broken c.args.text.now c.args.at here.value-index g.row.N (c.values_at-values.ensures here.value-index c.loop-value-test.true) c.loop-value-test.true c.if-value-ge-NO_DIGIT.true
 
 pub overflow_mul-number : goal.overflow_mul-number
 overflow_mul-number g c =
@@ -23,14 +23,14 @@ overflow_mul-number g c =
 pub overflow_add-number : goal.overflow_add-number
 overflow_add-number g c =
     let here = c.loop-value in
-    record { fits = more-fits here.value-index here.number _ (omega arith) here.invariant.0 c.if-d-ge16.false }
+    record { fits = more-fits here.value-index here.number _ (omega arith) here.invariant.0 c.if-value-ge-NO_DIGIT.false }
 
 pub loop-value-preserved : goal.loop-value-preserved
 loop-value-preserved g c =
     let here = c.loop-value in
     let f = c.values_at-values.ensures here.value-index c.loop-value-test.true in (
-      more-below here.value-index here.number _ here.invariant.0 c.if-d-ge16.false,
-      digits_more c.args.text.now c.args.at here.value-index f here.invariant.1 c.if-d-ge16.false,
+      more-below here.value-index here.number _ here.invariant.0 c.if-value-ge-NO_DIGIT.false,
+      digits_more c.args.text.now c.args.at here.value-index f here.invariant.1 c.if-value-ge-NO_DIGIT.false,
       value-more c.args.text.now c.args.at here.value-index f here.invariant.2,
     )
 

@@ -18,7 +18,7 @@ returns-then-not-has c =
 pub loop-i-preserved : goal.loop-i-preserved
 loop-i-preserved c =
     let a = c.args in let at = c.loop-i in
-    at.invariant ∙ names-next a.text.now at.next a.table at.i _ at.due at.order c.column_at.ensures c.loop-i-test.true c.in_ok-named.was c.has.ensures c.if-not-has.false (rw c.put-in-loop-i.ensures) (rw c.put.ensures)
+    at.invariant ∙ names-next a.text.now at.next a.table at.i _ at.due at.order c.column_at.ensures c.loop-i-test.true c.in_ok-named.was c.has.ensures c.if-not-has.false c.meet.ensures c.name.ensures
 
 pub returns-then-byte_at-ne10 : goal.returns-then-byte_at-ne10
 returns-then-byte_at-ne10 c =

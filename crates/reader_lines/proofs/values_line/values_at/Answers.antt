@@ -22,7 +22,7 @@ overflow_add-next c = let h = stop-inside c.args.text.now _ _ c.byte_at.ensures 
 pub loop-i-preserved : goal.loop-i-preserved
 loop-i-preserved c =
     let a = c.args in let at = c.loop-i in
-    at.invariant ∙ row_next a.text.now at.next a.table a.order at.i _ at.cells c.column-column.ensures c.kind_of.ensures c.cell_at.ensures c.loop-i-test.true c.in_ok-cell.was c.byte_at.ensures c.stop_of.ensures c.if-byte_at-stop_of.false (rw c.put.ensures)
+    at.invariant ∙ row_next a.text.now at.next a.table a.order at.i _ at.cells c.column-column.ensures c.kind_of.ensures c.cell_at.ensures c.loop-i-test.true c.in_ok-cell.was c.byte_at.ensures c.stop_of.ensures c.if-byte_at-stop_of.false c.keep.ensures
 
 pub returns : goal.returns
 returns c =

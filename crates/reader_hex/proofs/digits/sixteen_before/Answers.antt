@@ -3,7 +3,7 @@ use mathlib.Core.Path.{sym, ◌∙◌}
 use native.Mathlib.Omega.{arith}
 use borrow.Author.Rules.{rules}
 use Rattle.reader_hex.proofs.HexDigits.{digits-inside, word-none, word-outside, word-closed}
-use Rattle.reader_hex.proofs.digits.word_at.Goals as goal
+use Rattle.reader_hex.proofs.digits.sixteen_before.Goals as goal
 
 pub returns-in_err-number : goal.returns-in_err-number
 returns-in_err-number c =
