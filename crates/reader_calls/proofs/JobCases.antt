@@ -17,7 +17,8 @@ use Rattle.reader_store.specs.declared.progress.Progress.{Progress}
 use Rattle.reader_calls.specs.Parts.{Agrees, judged_by, Filled}
 use Rattle.reader_calls.specs.Reading.{Outcome, done, stop, tables_from, admitted_as, judge, reading_by, reading_of, zeros, zero_numbers, verdict_of, words_held, numbers_held, wants_held}
 use Rattle.reader_calls.specs.declared.tables.Taken.{Taken}
-use Rattle.std.specs.Prelude.{Result, Ok, Err}
+use Rattle.std.specs.Prelude.{Result, Ok, Err, is_err}
+use Rattle.std.proofs.lemmas.Bool.{false≢true, true≢false}
 use Rattle.reader_calls.proofs.TakingCases.{no-refusal, same_Ok}
 
 refusal-number : {A : Type 0} {n m : ℕ} → ◌≡◌ {A = Answer A} (refused n) (refused m) → n ≡ m
@@ -85,16 +86,25 @@ module _ (text ws : List ℕ) (ns : List Float) (vs : List ℕ) where
 pub filled-same : {o q : Outcome} (r : Result ℕ Refusal) (us : List ℕ) (xs : List Float) (ys : List ℕ) → o ≡ q → Filled q r us xs ys → Filled o r us xs ys
 filled-same r us xs ys e h = rw e h
 
-module _ (n m l : ℕ) {r : Result ℕ Refusal} where
-  held-right : (o : Outcome) (us : List ℕ) (xs : List Float) (ys : List ℕ) {k : ℕ} → Filled o r us xs ys → r ≡ Ok k
+-- what an answer is not, by whether it is a refusal
+no-stop : {m : ℕ} (r : Result ℕ Refusal) → is_err r ≡ false → answered r ≡ refused m → ⊥
+no-stop (Ok k) e f = no-refusal f
+no-stop (Err f) e g = true≢false e
+
+no-done : {k : ℕ} (r : Result ℕ Refusal) → is_err r ≡ true → answered r ≡ value k → ⊥
+no-done (Ok k) e f = false≢true e
+no-done (Err f) e g = no-refusal (sym g)
+
+module _ (n m l : ℕ) (r : Result ℕ Refusal) where
+  held-right : (o : Outcome) (us : List ℕ) (xs : List Float) (ys : List ℕ) → Filled o r us xs ys → is_err r ≡ false
       → (answered r ≡ verdict_of o) × ((us ≡ words_held n o) × ((xs ≡ numbers_held m o) × (ys ≡ wants_held l o)))
   held-right (done p k t ws ns vs) us xs ys f e = (f.0, (f.1, (f.2, f.3)))
-  held-right (stop k) us xs ys f e = absurd (no-refusal (sym (ap answered e) ∙ f))
+  held-right (stop k) us xs ys f e = absurd (no-stop r e f)
 
-  held-wrong : (o : Outcome) (us : List ℕ) (xs : List Float) (ys : List ℕ) {k : Refusal} {us' : List ℕ} {xs' : List Float} {ys' : List ℕ}
-      → Filled o r us xs ys → r ≡ Err k → us' ≡ zeros n → xs' ≡ zero_numbers m → ys' ≡ zeros l
+  held-wrong : (o : Outcome) (us : List ℕ) (xs : List Float) (ys : List ℕ) {us' : List ℕ} {xs' : List Float} {ys' : List ℕ}
+      → Filled o r us xs ys → is_err r ≡ true → us' ≡ zeros n → xs' ≡ zero_numbers m → ys' ≡ zeros l
       → (answered r ≡ verdict_of o) × ((us' ≡ words_held n o) × ((xs' ≡ numbers_held m o) × (ys' ≡ wants_held l o)))
-  held-wrong (done p k t ws ns vs) us xs ys f e g h i = absurd (no-refusal (sym f.0 ∙ ap answered e))
+  held-wrong (done p k t ws ns vs) us xs ys f e g h i = absurd (no-done r e f.0)
   held-wrong (stop k) us xs ys f e g h i = (f, (g, (h, i)))
 
 module _ (text : List ℕ) (n m l : ℕ) (ws : List ℕ) (ns : List Float) (vs : List ℕ) (us : List ℕ) (xs : List Float) (ys : List ℕ)
@@ -105,10 +115,10 @@ module _ (text : List ℕ) (n m l : ℕ) (ws : List ℕ) (ns : List Float) (vs :
 
   module _ (r : Result ℕ Refusal) (f : Filled (reading_by text ws ns vs) r us xs ys) where
     -- an accepted reading keeps what was filled; a refused one has zeros
-    pub read_right : {k : ℕ} → r ≡ Ok k
+    pub read_right : is_err r ≡ false
         → (answered r ≡ verdict_of (reading_of text n m l)) × ((us ≡ words_held n (reading_of text n m l)) × ((xs ≡ numbers_held m (reading_of text n m l)) × (ys ≡ wants_held l (reading_of text n m l))))
-    read_right e = rw read_is (held-right n m l (reading_by text ws ns vs) us xs ys f e)
+    read_right e = rw read_is (held-right n m l r (reading_by text ws ns vs) us xs ys f e)
 
-    pub read-wrong : {k : Refusal} {us' : List ℕ} {xs' : List Float} {ys' : List ℕ} → r ≡ Err k → us' ≡ zeros n → xs' ≡ zero_numbers m → ys' ≡ zeros l
+    pub read-wrong : {us' : List ℕ} {xs' : List Float} {ys' : List ℕ} → is_err r ≡ true → us' ≡ zeros n → xs' ≡ zero_numbers m → ys' ≡ zeros l
         → (answered r ≡ verdict_of (reading_of text n m l)) × ((us' ≡ words_held n (reading_of text n m l)) × ((xs' ≡ numbers_held m (reading_of text n m l)) × (ys' ≡ wants_held l (reading_of text n m l))))
-    read-wrong e g h i = rw read_is (held-wrong n m l (reading_by text ws ns vs) us xs ys f e g h i)
+    read-wrong e g h i = rw read_is (held-wrong n m l r (reading_by text ws ns vs) us xs ys f e g h i)

@@ -71,11 +71,9 @@ pub fn read(
     ensures wants_after { wants.new ≡ wants_held (length wants.old) (reading_of text.now (length words.old) (length numbers.old) (length wants.old)) }
 {
     clear(words, numbers, wants);
-    match fill(text, words, numbers, wants) {
-        Ok(count) => Ok(count),
-        Err(refusal) => {
-            clear(words, numbers, wants);
-            Err(refusal)
-        }
+    let answer = fill(text, words, numbers, wants);
+    if answer.is_err() {
+        clear(words, numbers, wants);
     }
+    answer
 }

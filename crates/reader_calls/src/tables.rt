@@ -23,7 +23,7 @@ pub struct Taken {
 
 // The lines of a table up to an empty one. A line is tested for its form (1) before the table's limit (2). A `for` up to the limit would end the table
 // at two places, since the empty line may also follow the last line that is allowed.
-fn lines(
+fn table_lines(
     text: &[u8],
     from: usize,
     table: usize,
@@ -84,14 +84,14 @@ fn table_at(
         });
     }
     let head = reader_lines::head_at(text, name.next, table).ok_or(Refusal::Form)?;
-    lines(
+    table_lines(
         text, head.next, table, head.value, words, numbers, wants, progress,
     )
 }
 
-// A road without its line has too few. Admission tests the counts of the other tables.
+// What is remembered after a table of so many lines: a road without its line has too few. Admission tests the counts of the other tables.
 #[tactic(auto, unfolding(crate::specs::Reading::counted_progress))]
-fn counted(table: usize, lines: u16, progress: Progress) -> Progress
+fn road_there(table: usize, lines: u16, progress: Progress) -> Progress
     ensures { result ≡ counted_progress table lines progress }
 {
     if (table == ROAD_TABLE) & (lines == 0) {
@@ -110,21 +110,28 @@ pub(crate) fn tables(
 ) -> Result<Taken, Refusal>
     ensures { Agrees (tables_from table_count road_table text.now 0 0 start_progress words.old numbers.old wants.old) result words.new numbers.new wants.new }
 {
-    let mut progress = reader_store::start_progress();
-    let mut next = 0;
-    let mut lines: u16 = 0;
+    let mut so_far = Taken {
+        next: 0,
+        lines: 0,
+        progress: reader_store::start_progress(),
+    };
     for table in ROAD_TABLE..TABLE_COUNT {
-        let taken = table_at(text, next, table, words, numbers, wants, progress)?;
-        progress = counted(table, taken.lines, taken.progress);
-        next = taken.next;
-        lines = taken.lines;
+        let taken = table_at(
+            text,
+            so_far.next,
+            table,
+            words,
+            numbers,
+            wants,
+            so_far.progress,
+        )?;
+        so_far = Taken {
+            progress: road_there(table, taken.lines, taken.progress),
+            ..taken
+        };
     }
-    if next < text.len() {
+    if so_far.next < text.len() {
         return Err(Refusal::Form);
     }
-    Ok(Taken {
-        next,
-        lines,
-        progress,
-    })
+    Ok(so_far)
 }

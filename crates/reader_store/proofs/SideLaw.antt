@@ -1,4 +1,4 @@
--- Document 01: "Per section ids 1,2.. left then -1,-2.. right". What a lane's side tells of its id and of the section's lanes so far, whatever `side_of` is made of.
+-- Document 01: "Per section ids 1,2.. left then -1,-2.. right". What a lane's side tells of its id and of the section's lanes so far, whatever `side_word` is made of.
 use Prim.Native.Nat.{ℕ, ◌+◌}
 use mathlib.Core.Path.{◌≡◌, refl}
 use mathlib.Core.Bool.{Bool, true, false, ◌&&◌, cond}
@@ -6,22 +6,20 @@ use lib.Dec.{eqb}
 use borrow.Author.Tests.{eqb-true}
 use Rattle.std.specs.Prelude.{Option, Some, None}
 use Rattle.std.proofs.lemmas.Option.{none-some, same_Some}
-use Rattle.reader_store.specs.Parents.{side_of}
-use Rattle.reader_store.specs.declared.parents.Side.{Side}
-use Rattle.reader_store.specs.declared.parents.Side.TheVariants.{Left, Right}
+use Rattle.reader_store.specs.Parents.{side_word}
 
 -- "ids 1,2.. left then -1,-2.. right": a left lane has the next id of its side and comes before all right ones; a right lane has the next one of its side
-pub side-cases : {A : Type 0} (left right id : ℕ) (side : Side) → side_of left right id ≡ Some side
-    → (Left ≡ side → id ≡ left + 10001 → right ≡ 0 → A) → (Right ≡ side → id + right + 1 ≡ 10000 → A) → A
-unfolding side_of
+pub side-cases : {A : Type 0} (left right id : ℕ) (side : ℕ) → side_word left right id ≡ Some side
+    → (1 ≡ side → id ≡ left + 10001 → right ≡ 0 → A) → (2 ≡ side → id + right + 1 ≡ 10000 → A) → A
+unfolding side_word
 side-cases {A} left right id side e f g = go (eqb id (left + 10001)) (eqb right 0) (eqb (id + right + 1) 10000) refl refl refl e
   where
-    turn : Bool → Bool → Bool → Option Side
-    turn a b c = cond (a && b) (Some Left) (cond c (Some Right) None)
+    turn : Bool → Bool → Bool → Option ℕ
+    turn a b c = cond (a && b) (Some 1) (cond c (Some 2) None)
 
     go : (a b c : Bool) → eqb id (left + 10001) ≡ a → eqb right 0 ≡ b → eqb (id + right + 1) 10000 ≡ c → turn a b c ≡ Some side → A
-    go true true c p q r s = f (same_Some Left side s) (eqb-true id (left + 10001) p) (eqb-true right 0 q)
-    go true false true p q r s = g (same_Some Right side s) (eqb-true (id + right + 1) 10000 r)
+    go true true c p q r s = f (same_Some 1 side s) (eqb-true id (left + 10001) p) (eqb-true right 0 q)
+    go true false true p q r s = g (same_Some 2 side s) (eqb-true (id + right + 1) 10000 r)
     go true false false p q r s = absurd (none-some side s)
-    go false b true p q r s = g (same_Some Right side s) (eqb-true (id + right + 1) 10000 r)
+    go false b true p q r s = g (same_Some 2 side s) (eqb-true (id + right + 1) 10000 r)
     go false b false p q r s = absurd (none-some side s)

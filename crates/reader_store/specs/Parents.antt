@@ -12,8 +12,6 @@ use Rattle.reader_store.specs.declared.layout.Family.TheVariants.{Shape, Cubic, 
 use Rattle.reader_store.specs.declared.parents.Ranked.{Ranked}
 use Rattle.reader_store.specs.declared.parents.Counted.{Counted}
 use Rattle.reader_store.specs.declared.parents.SectionRecord.{SectionRecord}
-use Rattle.reader_store.specs.declared.parents.Side.{Side}
-use Rattle.reader_store.specs.declared.parents.Side.TheVariants.{Left, Right}
 
 -- A parent that is there is `Ranked`: its rank in the order that children follow, and its index in memory. Where a line is counted is `Counted`: its parent's
 -- rank, the word for the parent's first line where the parent has none yet, and the word for the count.
@@ -27,12 +25,12 @@ abbrev pub first_if : Bool → ℕ → Option ℕ
 first_if fresh place = cond fresh (Some place) None
 
 -- "section counts from 0", and so do profiles: one of n parents
-unfoldable pub counted : ℕ → ℕ → Option Ranked
-counted number n = cond (ltb number whole_bias) None (cond (leb n (number - whole_bias)) None (Some (index_at (number - whole_bias))))
+unfoldable pub ranked_among : ℕ → ℕ → Option Ranked
+ranked_among number n = cond (ltb number whole_bias) None (cond (leb n (number - whole_bias)) None (Some (index_at (number - whole_bias))))
 
 -- the section that a line names
 abbrev pub section_at : List ℕ → ℕ → Option Ranked
-section_at ws section = counted section (get_or ws section_count_at 0)
+section_at ws section = ranked_among section (get_or ws section_count_at 0)
 
 -- the ids 1 and -1, the first of each side, as they are held
 abbrev pub first_left : ℕ
@@ -41,9 +39,17 @@ first_left = whole_bias + 1
 abbrev pub first_right : ℕ
 first_right = whole_bias - 1
 
--- "Per section ids 1,2.. left then -1,-2.. right": the side that a lane adds to, where `left` and `right` lanes stand already; none where it is not this id's turn
-unfoldable pub side_of : ℕ → ℕ → ℕ → Option Side
-side_of left right id = cond (eqb id (left + first_left) && eqb right 0) (Some Left) (cond (eqb (id + right + 1) whole_bias) (Some Right) None)
+-- which words of a section's record count its left lanes and its right ones
+abbrev pub left_word : ℕ
+left_word = 1
+
+abbrev pub right_word : ℕ
+right_word = 2
+
+-- "Per section ids 1,2.. left then -1,-2.. right": the word that counts the side which a lane adds to, where `left` and `right` lanes stand already; none where it
+-- is not this id's turn
+unfoldable pub side_word : ℕ → ℕ → ℕ → Option ℕ
+side_word left right id = cond (eqb id (left + first_left) && eqb right 0) (Some left_word) (cond (eqb (id + right + 1) whole_bias) (Some right_word) None)
 
 -- where the record of section s begins
 abbrev pub section_word : ℕ → ℕ
@@ -52,25 +58,20 @@ section_word s = section_words + section_stride * s
 -- the record of section s: its first lane, how many left, how many right
 abbrev pub section_record : List ℕ → ℕ → SectionRecord
 section_record ws s =
-    record { first = get_or ws (section_word s) 0; left = get_or ws (section_word s + 1) 0; right = get_or ws (section_word s + 2) 0 }
-
--- which of its words counts a side
-abbrev pub side_word : Side → ℕ
-side_word Left = 1
-side_word Right = 2
+    record { first = get_or ws (section_word s) 0; left = get_or ws (section_word s + left_word) 0; right = get_or ws (section_word s + right_word) 0 }
 
 -- a lane of a side under its section
-abbrev pub lane_beside : List ℕ → Ranked → Side → Counted
+abbrev pub lane_beside : List ℕ → Ranked → ℕ → Counted
 lane_beside ws s side =
     record {
       rank = s.rank;
       first = first_if (eqb (get_or ws (section_word s.index + 1) 0) 0 && eqb (get_or ws (section_word s.index + 2) 0) 0) (section_word s.index);
-      count = section_word s.index + side_word side;
+      count = section_word s.index + side;
     }
 
 -- a lane under its section, if it is this id's turn
 abbrev pub lane_under : List ℕ → ℕ → Ranked → Option Counted
-lane_under ws id s = option_map (lane_beside ws s) (side_of (get_or ws (section_word s.index + 1) 0) (get_or ws (section_word s.index + 2) 0) id)
+lane_under ws id s = option_map (lane_beside ws s) (side_word (get_or ws (section_word s.index + 1) 0) (get_or ws (section_word s.index + 2) 0) id)
 
 -- a lane under the section that the line names, if it is this id's turn
 unfoldable pub lane_turn : List ℕ → ℕ → ℕ → Option Counted
@@ -127,7 +128,7 @@ term_of strips side place term = option_map (term_at (strip_of side place) (term
 -- the parent that a line's first columns name: of a cubic side, place and term, of a shape the profile, of a mark the section, of extents and heights section and id
 unfoldable pub index_of : List ℕ → Family → Cells → List (Option ℕ) → Option Ranked
 index_of ws Cubic cells strips = term_of strips (cell_of cells 0) (cell_of cells 1) (cell_of cells 2)
-index_of ws Shape cells strips = counted (cell_of cells 0) (get_or ws profile_count_at 0)
+index_of ws Shape cells strips = ranked_among (cell_of cells 0) (get_or ws profile_count_at 0)
 index_of ws Mark cells strips = mark_index ws (cell_of cells 0) (cell_of cells 1)
 index_of ws family cells strips = lane_index ws (cell_of cells 0) (cell_of cells 1)
 

@@ -2,7 +2,7 @@
 ghost use Rattle.std.specs.Prelude.{◌≡◌, ◌+◌, ◌<◌, ℕ};
 ghost use Rattle.reader_store.specs.Layout.{cells_kept, numbers_kept, codes_kept, wants_kept};
 
-use crate::layout::{number_columns, number_lines, word_columns, word_lines};
+use crate::layout::{Lines, number_columns, number_lines, word_columns, word_lines};
 use crate::memory::code;
 use reader_lines::{Cells, put};
 use reader_schema::tables::WANT_TABLE;
@@ -59,7 +59,7 @@ pub(crate) fn put_wants(wants: &mut [u64], line: TableLine)
     ensures { wants.new ≡ wants_kept line.table line.k line.cells wants.old }
 {
     if line.table == WANT_TABLE {
-        let i = line.k as usize * WANT_STRIDE;
+        let i = Lines::spaced(0, WANT_STRIDE).line(line.k as u32);
         put(wants, i, line.cells.at(0));
         put(wants, i + 1, line.cells.at(1));
     }

@@ -29,7 +29,7 @@ pub(crate) struct Lines {
 
 impl Lines {
     // Lines from a place on.
-    fn spaced(first: usize, stride: usize) -> Lines
+    pub(crate) fn spaced(first: usize, stride: usize) -> Lines
         requires first_word { first < 65536 }
         requires stride_word { stride < 65536 }
         ensures { result ≡ spaced first stride }
@@ -49,21 +49,21 @@ impl Lines {
 }
 
 // The columns that hold a line's numbers, in the order in which they are kept; lanes, strips and wants have none.
-const ONE: &[u8] = &[0]; // road, section, profile
+const ONE_NUMBER: &[u8] = &[0]; // road, section, profile
 
-const GEOM: &[u8] = &[0, 1, 2, 3, 4, 6, 7];
+const GEOM_NUMBERS: &[u8] = &[0, 1, 2, 3, 4, 6, 7];
 
-const ALONG: &[u8] = &[0, 1, 2, 3, 4]; // elev, bank, offset, tshift
+const ALONG_NUMBERS: &[u8] = &[0, 1, 2, 3, 4]; // elev, bank, offset, tshift
 
-const EXTENT: &[u8] = &[2, 3, 4, 5, 6];
+const EXTENT_NUMBERS: &[u8] = &[2, 3, 4, 5, 6];
 
-const HEIGHT: &[u8] = &[2, 3, 4];
+const HEIGHT_NUMBERS: &[u8] = &[2, 3, 4];
 
-const SHAPE: &[u8] = &[1, 2, 3, 4, 5];
+const SHAPE_NUMBERS: &[u8] = &[1, 2, 3, 4, 5];
 
-const CUBIC: &[u8] = &[3, 4, 5, 6, 7];
+const CUBIC_NUMBERS: &[u8] = &[3, 4, 5, 6, 7];
 
-const MARK: &[u8] = &[2, 3];
+const MARK_NUMBERS: &[u8] = &[2, 3];
 
 // The columns that hold words: a geometry's kind, a lane's extent and level.
 const GEOM_CODES: &[u8] = &[5];
@@ -139,25 +139,26 @@ pub(crate) fn word_lines(table: usize) -> Lines
     }
 }
 
-// The columns of a table that hold numbers, in the order of a line's places.
+// The columns of a table that hold numbers, in the order of a line's places. Tables that answer alike have an arm each: of two numbers joined by `|` no name
+// tells the proof which it is.
 #[tactic(auto, unfolding(crate::specs::Layout::number_columns))]
 pub(crate) fn number_columns(table: usize) -> &'static [u8]
     ensures { result.now ≡ number_columns table }
 {
     match table {
-        ROAD_TABLE => ONE,
-        GEOM_TABLE => GEOM,
-        ELEV_TABLE => ALONG,
-        BANK_TABLE => ALONG,
-        OFFSET_TABLE => ALONG,
-        TSHIFT_TABLE => ALONG,
-        SECTION_TABLE => ONE,
-        EXTENT_TABLE => EXTENT,
-        HEIGHT_TABLE => HEIGHT,
-        PROFILE_TABLE => ONE,
-        SHAPE_TABLE => SHAPE,
-        CUBIC_TABLE => CUBIC,
-        MARK_TABLE => MARK,
+        ROAD_TABLE => ONE_NUMBER,
+        GEOM_TABLE => GEOM_NUMBERS,
+        ELEV_TABLE => ALONG_NUMBERS,
+        BANK_TABLE => ALONG_NUMBERS,
+        OFFSET_TABLE => ALONG_NUMBERS,
+        TSHIFT_TABLE => ALONG_NUMBERS,
+        SECTION_TABLE => ONE_NUMBER,
+        EXTENT_TABLE => EXTENT_NUMBERS,
+        HEIGHT_TABLE => HEIGHT_NUMBERS,
+        PROFILE_TABLE => ONE_NUMBER,
+        SHAPE_TABLE => SHAPE_NUMBERS,
+        CUBIC_TABLE => CUBIC_NUMBERS,
+        MARK_TABLE => MARK_NUMBERS,
         _ => &[],
     }
 }

@@ -12,5 +12,5 @@ mod progress;
 pub use columns::TableLine;
 pub use layout::{Family, Rule};
 pub use lines::{end_table, keep_line};
-pub use parents::{Counted, Ranked, Side};
+pub use parents::{Counted, Ranked};
 pub use progress::{Progress, Strips, start_progress};

@@ -5,7 +5,7 @@ ghost use Rattle.reader_store.specs.Progress.{ended_progress};
 ghost use Rattle.reader_store.specs.Keep.{added, under_progress, under_words, strip_progress, strips_kept, mark_kind, mark_put, own_words, ruled_progress, ruled_words, kept_progress, kept_words};
 
 use crate::columns::{TableLine, put_codes, put_numbers, put_wants};
-use crate::layout::{Family, Rule, count_place, rule_of};
+use crate::layout::{Family, Lines, Rule, count_place, rule_of};
 use crate::memory::{code, one_more, put_at, word};
 use crate::parents::{Counted, lane_turn, mark_lane, parent_of, ranked_at};
 use crate::progress::{Progress, strip_of};
@@ -53,7 +53,8 @@ fn keep_strip(words: &mut [u16], line: TableLine, progress: Progress) -> Progres
         return progress.unsound();
     }
     let relative = (line.cells.at(2) % 2) as u16;
-    put(words, STRIP_WORDS + strip * STRIP_STRIDE, relative + 1);
+    let presence = Lines::spaced(STRIP_WORDS, STRIP_STRIDE).line(strip as u32);
+    put(words, presence, relative + 1);
     let mut strips = progress.strips;
     strips[strip] = Some(line.k);
     Progress { strips, ..progress }
@@ -72,7 +73,7 @@ fn put_mark(words: &mut [u16], line: TableLine)
     ensures { words.new ≡ mark_put words.old line.k line.cells }
 {
     let lane = mark_lane(words, line.cells).unwrap_or(ranked_at(0));
-    let i = MARK_WORDS + line.k as usize * MARK_STRIDE;
+    let i = Lines::spaced(MARK_WORDS, MARK_STRIDE).line(line.k as u32);
     put(words, i, code(lane.index as u64));
     put(words, i + 1, mark_kind(line.cells.at(4)));
 }

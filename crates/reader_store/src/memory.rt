@@ -16,7 +16,7 @@ pub(crate) fn word(words: &[u16], i: usize) -> u16
 pub(crate) fn code(v: u64) -> u16
     ensures { result ≡ code_of v }
 {
-    v.min(u16::MAX as u64) as u16
+    u16::try_from(v).unwrap_or(u16::MAX)
 }
 
 // One more. A count stops at the greatest word, which no table admits, and never comes round to 0.

@@ -1,7 +1,7 @@
 // The parent of a line: a lane's or a mark's section, an extent's or a height's lane, a shape's profile, a cubic's strip and term.
-ghost use Rattle.std.specs.Prelude.{◌≡◌, ◌<◌};
+ghost use Rattle.std.specs.Prelude.{◌≡◌, ◌+◌, ◌<◌, cond, leb, Some, None};
 ghost use Rattle.reader_lines.specs.Columns.{cell_of};
-ghost use Rattle.reader_store.specs.Parents.{index_at, counted, section_at, section_word, section_record, side_of, lane_turn, lane_among, lane_index, mark_lane, mark_index, term_of, index_of, range_of, parent_of};
+ghost use Rattle.reader_store.specs.Parents.{index_at, ranked_among, section_at, section_word, section_record, side_word, lane_turn, lane_among, lane_index, mark_lane, mark_index, term_of, index_of, range_of, parent_of};
 
 use crate::layout::{Family, Lines};
 use crate::memory::word;
@@ -9,7 +9,8 @@ use crate::progress::{Strips, strip_of};
 use reader_cells::WHOLE_BIAS;
 use reader_lines::Cells;
 use records::layout::{
-    PROFILE_COUNT_AT, SECTION_COUNT_AT, SECTION_STRIDE, SECTION_WORDS, STRIP_STRIDE,
+    LEFT_WORDS, PROFILE_COUNT_AT, RIGHT_WORDS, SECTION_COUNT_AT, SECTION_STRIDE, SECTION_WORDS,
+    STRIP_STRIDE,
 };
 
 // The ids 1 and -1, the first of each side, as they are kept.
@@ -46,16 +47,23 @@ pub(crate) fn ranked_at(i: u32) -> Ranked
     Ranked { rank: i, index: i }
 }
 
-// A whole number, kept with its bias, as one of n parents counted from 0.
-#[tactic(auto, unfolding(crate::specs::Parents::counted))]
-fn ranked_among(number: u64, n: u16) -> Option<Ranked>
-    ensures { result ≡ counted number n }
+// The k-th of n parents that stand one after the other from `first` on.
+fn ranked_from(first: u32, n: u16, k: u64) -> Option<Ranked>
+    requires { first < 131072 }
+    ensures { result ≡ cond (leb n k) None (Some (index_at (first + k))) }
 {
-    let i = number.checked_sub(WHOLE_BIAS)?;
-    if n as u64 <= i {
+    if n as u64 <= k {
         return None;
     }
-    Some(ranked_at(i as u32))
+    Some(ranked_at(first + k as u32))
+}
+
+// A whole number, kept with its bias, as one of n parents counted from 0.
+#[tactic(auto, unfolding(crate::specs::Parents::ranked_among))]
+fn ranked_among(number: u64, n: u16) -> Option<Ranked>
+    ensures { result ≡ ranked_among number n }
+{
+    ranked_from(0, n, number.checked_sub(WHOLE_BIAS)?)
 }
 
 // The section that a line names.
@@ -73,12 +81,16 @@ pub(crate) struct SectionRecord {
     pub right: u16,
 }
 
+// Which words of a section's record count its left lanes and its right ones.
+const LEFT_WORD: usize = LEFT_WORDS - SECTION_WORDS;
+
+const RIGHT_WORD: usize = RIGHT_WORDS - SECTION_WORDS;
+
 // Where the record of section s begins.
 fn section_word(s: u32) -> usize
-    ensures value { result ≡ section_word s }
-    ensures small { result < 1000000000000000 }
+    ensures { (result ≡ section_word s) × (result < 1000000000000000) }
 {
-    SECTION_WORDS + SECTION_STRIDE * s as usize
+    Lines::spaced(SECTION_WORDS, SECTION_STRIDE).line(s)
 }
 
 // The record of section s.
@@ -88,32 +100,21 @@ fn section_record(words: &[u16], s: u32) -> SectionRecord
     let at = section_word(s);
     SectionRecord {
         first: word(words, at),
-        left: word(words, at + 1),
-        right: word(words, at + 2),
+        left: word(words, at + LEFT_WORD),
+        right: word(words, at + RIGHT_WORD),
     }
 }
 
-// The sides that a lane adds to.
-#[derive(Clone, Copy, Debug, PartialEq, Eq)]
-pub enum Side {
-    Left,
-    Right,
-}
-
-// The side that a lane of this id adds to; none where it is not this id's turn.
-#[tactic(auto, unfolding(crate::specs::Parents::side_of))]
-fn side_of(left: u16, right: u16, id: u64) -> Option<Side>
-    ensures { result ≡ side_of left right id }
+// The word of a section's record that counts the side which a lane of this id adds to; none where it is not this id's turn.
+#[tactic(auto, unfolding(crate::specs::Parents::side_word))]
+fn side_word(section: SectionRecord, id: u64) -> Option<usize>
+    ensures { result ≡ side_word section.left section.right id }
 {
-    if (id == left as u64 + FIRST_LEFT) & (right == 0) {
-        return Some(Side::Left);
+    if (id == section.left as u64 + FIRST_LEFT) & (section.right == 0) {
+        return Some(LEFT_WORD);
     }
-    if id < WHOLE_BIAS {
-        if id + right as u64 + 1 == WHOLE_BIAS {
-            return Some(Side::Right);
-        }
-    }
-    None
+    let next_right = WHOLE_BIAS.checked_sub(id) == Some(section.right as u64 + 1);
+    next_right.then_some(RIGHT_WORD)
 }
 
 // A lane under its section.
@@ -124,37 +125,26 @@ pub(crate) fn lane_turn(words: &[u16], cells: Cells) -> Option<Counted>
     let s = section_of(words, cells.at(0))?;
     let at = section_word(s.index);
     let record = section_record(words, s.index);
-    let count = match side_of(record.left, record.right, cells.at(1))? {
-        Side::Left => at + 1,
-        Side::Right => at + 2,
-    };
+    let side = side_word(record, cells.at(1))?;
     let fresh = (record.left == 0) & (record.right == 0);
     Some(Counted {
         rank: s.rank,
         first: fresh.then_some(at),
-        count,
+        count: at + side,
     })
 }
 
-// The lane of a section with an id.
+// The lane of a section with an id. From the centre out: left ones count up from 1, right ones down from -1, so the id 0 is on neither side.
 #[tactic(auto, unfolding(crate::specs::Parents::lane_among))]
 fn lane_by(section: SectionRecord, id: u64) -> Option<Ranked>
     ensures { result ≡ lane_among section.first section.left section.right id }
 {
     let SectionRecord { first, left, right } = section;
-    if id == WHOLE_BIAS {
-        return None;
+    if let Some(k) = id.checked_sub(FIRST_LEFT) {
+        return ranked_from(first as u32, left, k);
     }
-    if WHOLE_BIAS < id {
-        if left as u64 + WHOLE_BIAS < id {
-            return None;
-        }
-        return Some(ranked_at(first as u32 + (id - FIRST_LEFT) as u32));
-    }
-    if id + (right as u64) < WHOLE_BIAS {
-        return None;
-    }
-    Some(ranked_at(first as u32 + left as u32 + (FIRST_RIGHT - id) as u32))
+    let k = FIRST_RIGHT.checked_sub(id)?;
+    ranked_from(first as u32 + left as u32, right, k)
 }
 
 // The lane with an id, of the section that a line names.

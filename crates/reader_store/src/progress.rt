@@ -9,9 +9,10 @@ pub type Strips = [Option<u16>; STRIP_COUNT];
 
 #[derive(Clone, Copy, Debug, PartialEq, Eq)]
 pub struct Progress {
-    // whether every reference and every order was right so far
+    // Whether every reference and every order was right so far. No Option of the rest: after a wrong line the lines that follow are still tested for their
+    // form and kept, by the order and the strips so far.
     pub sound: bool,
-    // the rank of the parent of the last line of the table at hand
+    // The rank of the parent of the last line of the table at hand.
     pub last: u32,
     pub strips: Strips,
 }

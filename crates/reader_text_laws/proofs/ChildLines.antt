@@ -10,7 +10,7 @@ use Rattle.std.specs.Prelude.{Option, Some, None, option_and_then}
 use Rattle.reader_schema.specs.Schema.{limit_of}
 use Rattle.reader_lines.specs.Columns.{cell_of, no_cells}
 use Rattle.reader_lines.specs.declared.columns.Cells.{Cells}
-use Rattle.reader_store.specs.Parents.{index_at, section_at, counted, lane_among, lane_within, lane_index, index_of}
+use Rattle.reader_store.specs.Parents.{index_at, section_at, ranked_among, lane_among, lane_within, lane_index, index_of}
 use Rattle.reader_store.specs.declared.layout.Family.{Family}
 use Rattle.reader_store.specs.declared.layout.Family.TheVariants.{Extent, Height, Shape}
 use Rattle.reader_store.specs.declared.parents.Ranked.{Ranked}
@@ -42,7 +42,7 @@ kept-part base stride Good Mine all strips ws I progress us kept i g p to from =
 -- ---- the lane that a line names depends on the sections' words alone
 
 index-lane : (us : List ℕ) (cells : Cells) (strips : List (Option ℕ))
-    → (index_of us Extent cells strips ≡ lane_index us (cell_of cells 0) (cell_of cells 1)) × (index_of us Height cells strips ≡ lane_index us (cell_of cells 0) (cell_of cells 1)) × (index_of us Shape cells strips ≡ counted (cell_of cells 0) (get_or us 6 0))
+    → (index_of us Extent cells strips ≡ lane_index us (cell_of cells 0) (cell_of cells 1)) × (index_of us Height cells strips ≡ lane_index us (cell_of cells 0) (cell_of cells 1)) × (index_of us Shape cells strips ≡ ranked_among (cell_of cells 0) (get_or us 6 0))
 unfolding index_of
 index-lane us cells strips = (refl, refl, refl)
 
@@ -52,9 +52,9 @@ by-same id p q r = cc
 -- what depends on the sections' words alone, of the section that a line names
 module _ {A : Type 0} (us zs : List ℕ) (section : ℕ) (e : get_or us 5 0 ≡ get_or zs 5 0) (small : get_or zs 5 0 ≤ 16) (f g : Ranked → Option A) where
   pub section-same : ((s : ℕ) → s < 16 → f (index_at s) ≡ g (index_at s)) → option_and_then f (section_at us section) ≡ option_and_then g (section_at zs section)
-  section-same same = ap (λ (n : ℕ). option_and_then f (counted section n)) e ∙ go (counted section (get_or zs 5 0)) refl
+  section-same same = ap (λ (n : ℕ). option_and_then f (ranked_among section n)) e ∙ go (ranked_among section (get_or zs 5 0)) refl
     where
-      go : (o : Option Ranked) → counted section (get_or zs 5 0) ≡ o → option_and_then f o ≡ option_and_then g o
+      go : (o : Option Ranked) → ranked_among section (get_or zs 5 0) ≡ o → option_and_then f o ≡ option_and_then g o
       go None t = refl
       go (Some x) t = let c = counted-there section (get_or zs 5 0) x t in let d = c.1 in subst (λ (x : Ranked). f x ≡ g x) (sym c.2) (same (section - 10000) (omega arith))
 
@@ -241,7 +241,7 @@ module _ (text : List ℕ) (l n u : ℕ) (state : ℕ → State) (reading : Read
         blank-11 p h = let k = lanes-few in frame-10 p (omega arith) ∙ frame-9 p (omega arith) (λ i g. (λ e. omega arith, λ e. omega arith)) ∙ blank-9 p (omega arith) (λ j g. (λ e. omega arith, λ e. omega arith)) (λ j g. (λ e. omega arith, λ e. omega arith))
 
         abbrev pub profile_as : Cells → Option Ranked
-        profile_as cells = counted (cell_of cells 0) (get_or (st 11).words 6 0)
+        profile_as cells = ranked_among (cell_of cells 0) (get_or (st 11).words 6 0)
 
         -- the profile that a line names is one of the table, by its number
         pub profile-named : (cells : Cells) → There (profile_as cells) → (10000 ≤ cell_of cells 0) × ((found (profile_as cells)).index < length (lines_of text 10)) × ((found (profile_as cells)).rank ≡ (found (profile_as cells)).index) × ((found (profile_as cells)).index ≡ cell_of cells 0 - 10000)
@@ -258,7 +258,7 @@ module _ (text : List ℕ) (l n u : ℕ) (state : ℕ → State) (reading : Read
               blank = λ i h. (blank-11 (1271 + i * 2) (omega arith), blank-11 (1271 + i * 2 + 1) (omega arith));
               room = λ i h. let f = profiles-few in let g = long 11 (omega arith) in omega arith;
               apart = λ i j g h. (λ e. omega arith, λ e. omega arith);
-              same = λ us f cells. (index-lane us cells (st 11).progress.strips).2 ∙ ap (counted (cell_of cells 0)) (f 6 (λ i g. (λ e. omega arith, λ e. omega arith)) (λ e. e));
+              same = λ us f cells. (index-lane us cells (st 11).progress.strips).2 ∙ ap (ranked_among (cell_of cells 0)) (f 6 (λ i g. (λ e. omega arith, λ e. omega arith)) (λ e. e));
               good = λ cells t. (profile-named cells t).1;
               alike = λ a b s t e. sym (profile-named a s).2 ∙ e ∙ (profile-named b t).2;
               ranked = λ a b s t e. (profile-named a s).2 ∙ e ∙ sym (profile-named b t).2;

@@ -14,7 +14,7 @@ use Rattle.reader_lines.specs.Columns.{cell_of, no_cells}
 use Rattle.reader_lines.specs.declared.columns.Cells.{Cells}
 use Rattle.reader_store.specs.Layout.{rule_of}
 use Rattle.reader_store.specs.Progress.{strip_line}
-use Rattle.reader_store.specs.Parents.{index_at, counted}
+use Rattle.reader_store.specs.Parents.{index_at, ranked_among}
 use Rattle.reader_store.specs.Keep.{strip_named, mark_put}
 use Rattle.reader_store.specs.declared.layout.Family.TheVariants as families
 use Rattle.reader_store.specs.declared.parents.Ranked.{Ranked}
@@ -103,7 +103,7 @@ module _ (text : List ℕ) (l n : ℕ) (st : ℕ → State) (rd : Reading text l
         omega arith,
   )
     where
-      at : (j : ℕ) → j < length (T 11) → (10000 ≤ cell_of (get_or (T 11) j no_cells) 0) × ((found (counted (cell_of (get_or (T 11) j no_cells) 0) (get_or (st 11).words 6 0))).index < length (T 10)) × ((found (counted (cell_of (get_or (T 11) j no_cells) 0) (get_or (st 11).words 6 0))).rank ≡ (found (counted (cell_of (get_or (T 11) j no_cells) 0) (get_or (st 11).words 6 0))).index) × ((found (counted (cell_of (get_or (T 11) j no_cells) 0) (get_or (st 11).words 6 0))).index ≡ cell_of (get_or (T 11) j no_cells) 0 - 10000)
+      at : (j : ℕ) → j < length (T 11) → (10000 ≤ cell_of (get_or (T 11) j no_cells) 0) × ((found (ranked_among (cell_of (get_or (T 11) j no_cells) 0) (get_or (st 11).words 6 0))).index < length (T 10)) × ((found (ranked_among (cell_of (get_or (T 11) j no_cells) 0) (get_or (st 11).words 6 0))).rank ≡ (found (ranked_among (cell_of (get_or (T 11) j no_cells) 0) (get_or (st 11).words 6 0))).index) × ((found (ranked_among (cell_of (get_or (T 11) j no_cells) 0) (get_or (st 11).words 6 0))).index ≡ cell_of (get_or (T 11) j no_cells) 0 - 10000)
       at j h = profile-named text l n 16 st rd (omega arith) (omega arith) (omega arith) (get_or (T 11) j no_cells) ((shapes text l n 16 st rd (omega arith) (omega arith) (omega arith) (omega arith)).there j h)
 
   line_of : (j : ℕ) → j < length (T 12) → strip_line (st 13).progress.strips (strip_at (T 12) j) ≡ Some j
@@ -256,12 +256,12 @@ module _ (text : List ℕ) (l m n at count : ℕ) (progress : Progress) (ws : Li
 
     sound-11 : ((t : ℕ) → t < 11 → Sound t) → (st' 11).progress.sound ≡ true → Sound 11
     sound-11 f s =
-        ranges-right 1271 2 (λ i. i < length (T' 10)) NoWord (T' 11) (st' 11).progress.strips (st' 11).words (λ cells. counted (cell_of cells 0) (get_or (st' 11).words 6 0)) families.Shape (shape-parents text l n 11 st' (rd' 11 f) (omega arith) (omega arith) (omega arith)) 11 no_own (none_owned 1271 2 (λ i. i < length (T' 10)) (T' 11)) shape-ranged
+        ranges-right 1271 2 (λ i. i < length (T' 10)) NoWord (T' 11) (st' 11).progress.strips (st' 11).words (λ cells. ranked_among (cell_of cells 0) (get_or (st' 11).words 6 0)) families.Shape (shape-parents text l n 11 st' (rd' 11 f) (omega arith) (omega arith) (omega arith)) 11 no_own (none_owned 1271 2 (λ i. i < length (T' 10)) (T' 11)) shape-ranged
         (λ k h. there (here k h))
         (λ k h. let q = family.shapes.1 k (suc k) (omega arith) h in let a = ap (λ (o : Option Ranked). (found o).rank) (here k (omega arith)) in let b = ap (λ (o : Option Ranked). (found o).rank) (here (suc k) h) in omega arith)
         (st' 11).progress refl s (last' 11 (omega arith))
       where
-        here : (k : ℕ) → k < length (T' 11) → counted (cell_of (get_or (T' 11) k no_cells) 0) (get_or (st' 11).words 6 0) ≡ Some (index_at (cell_of (get_or (T' 11) k no_cells) 0 - 10000))
+        here : (k : ℕ) → k < length (T' 11) → ranked_among (cell_of (get_or (T' 11) k no_cells) 0) (get_or (st' 11).words 6 0) ≡ Some (index_at (cell_of (get_or (T' 11) k no_cells) 0 - 10000))
         here k h = let q = family.shapes.0 k h in let a = q.0 in let b = q.1 in let w = (rd' 11 f).profiles 11 (omega arith) (omega arith) in counted-in (cell_of (get_or (T' 11) k no_cells) 0) (get_or (st' 11).words 6 0) a (omega arith)
 
     few' : (u : ℕ) → Reading text l n u st' → length (T' 10) ≤ 16

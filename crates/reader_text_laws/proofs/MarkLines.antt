@@ -15,7 +15,7 @@ use Rattle.std.proofs.lemmas.Option.{cond_some, option_and_then_some}
 use Rattle.reader_lines.specs.Columns.{cell_of, no_cells}
 use Rattle.reader_lines.specs.declared.columns.Cells.{Cells}
 use Rattle.reader_store.specs.Layout.{code_of, word_columns, cells_kept, codes_kept, rule_of, base_of, stride_of}
-use Rattle.reader_store.specs.Parents.{index_at, counted, lane_among, lane_within, lane_index, mark_lane_in, mark_lane, mark_within, mark_index, index_of, parent_of}
+use Rattle.reader_store.specs.Parents.{index_at, ranked_among, lane_among, lane_within, lane_index, mark_lane_in, mark_lane, mark_within, mark_index, index_of, parent_of}
 use Rattle.reader_store.specs.Keep.{mark_kind, mark_place, mark_put, own_words, ruled_words, ruled_progress, kept_words, kept_progress}
 use Rattle.reader_store.specs.declared.layout.Family.TheVariants.{Mark}
 use Rattle.reader_store.specs.declared.parents.Ranked.{Ranked}
@@ -60,10 +60,10 @@ among-place left right id x t =
     let i = ap (λ (n : Ranked). n.index) e in
     ((let z : x.index ≡ left + (9999 - id) = omega arith in z) ∙ ap (λ (b : Bool). cond b (id - 10001) (left + (9999 - id))) (sym (le-ltb 10000 id (omega arith))), omega arith))
 
-counted-small : (number n : ℕ) → n ≤ 16 → (found (counted number n)).index < 16
-counted-small number n h = go (counted number n) refl
+counted-small : (number n : ℕ) → n ≤ 16 → (found (ranked_among number n)).index < 16
+counted-small number n h = go (ranked_among number n) refl
   where
-    go : (o : Option Ranked) → counted number n ≡ o → (found o).index < 16
+    go : (o : Option Ranked) → ranked_among number n ≡ o → (found o).index < 16
     go (Some x) e = let c = counted-there number n x e in let l = c.1 in subst (λ (x : Ranked). x.index < 16) (sym c.2) (omega arith)
     go None e = omega arith
 
@@ -74,7 +74,7 @@ module _ (us zs : List ℕ) (section id : ℕ) (e : get_or us 5 0 ≡ get_or zs 
 
   lane-same : mark_lane us section id ≡ mark_lane zs section id
   unfolding mark_lane
-  lane-same = ap (λ (n : ℕ). mark_lane_in us id (found (counted section n))) e ∙ within_same (found (counted section (get_or zs 5 0))) (counted-small section (get_or zs 5 0) small)
+  lane-same = ap (λ (n : ℕ). mark_lane_in us id (found (ranked_among section n))) e ∙ within_same (found (ranked_among section (get_or zs 5 0))) (counted-small section (get_or zs 5 0) small)
 
   index_same : mark_index us section id ≡ mark_index zs section id
   unfolding mark_index
@@ -128,7 +128,7 @@ module _ (lanes : List Cells) (S : ℕ) (zs : List ℕ) (rows : LaneRows lanes S
   -- a mark is under a section exactly where its section has its lane
   pub mark-there : (cells : Cells) → is_some (mark_as cells) ≡ is_some (lane_as lanes S zs rows counts most cells)
   unfolding mark_index lane_index
-  mark-there cells = go (counted (cell_of cells 0) (get_or zs 5 0))
+  mark-there cells = go (ranked_among (cell_of cells 0) (get_or zs 5 0))
     where
       among : (x y : Option Ranked) (s : Ranked) → is_some x ≡ is_some y → is_some (cond (is_some x) (Some s) None) ≡ is_some y
       among (Some a) y s e = e
@@ -141,7 +141,7 @@ module _ (lanes : List Cells) (S : ℕ) (zs : List ℕ) (rows : LaneRows lanes S
   pub marked : (cells : Cells) → There (mark_as cells) → Marked S zs cells
   unfolding mark_index mark_lane
   marked cells t =
-      option_and_then_some (mark_within zs (cell_of cells 1)) (counted (cell_of cells 0) (get_or zs 5 0)) (found (mark_as cells)) t
+      option_and_then_some (mark_within zs (cell_of cells 1)) (ranked_among (cell_of cells 0) (get_or zs 5 0)) (found (mark_as cells)) t
       (λ s e f. let c = counted-there (cell_of cells 0) (get_or zs 5 0) s e in at c.0 c.1 (cond_some (is_some (mark_lane_in zs (cell_of cells 1) (index_at (cell_of cells 0 - 10000)))) (index_at (cell_of cells 0 - 10000)) (found (mark_as cells)) (subst (λ (s : Ranked). mark_within zs (cell_of cells 1) s ≡ Some (found (mark_as cells))) c.2 f)))
     where
       at : 10000 ≤ cell_of cells 0 → cell_of cells 0 - 10000 < get_or zs 5 0

@@ -8,9 +8,8 @@ use lib.Dec.{eqb, ltb, leb}
 use Rattle.std.specs.Prelude.{Option, Some, None, is_some, unwrap_or, option_map}
 use Rattle.std.proofs.lemmas.Bool.{false≢true}
 use Rattle.std.proofs.lemmas.Option.{none-some, same_Some}
-use Rattle.reader_store.specs.Parents.{index_at, counted, side_of, lane_among}
+use Rattle.reader_store.specs.Parents.{index_at, ranked_among, left_word, right_word, side_word, lane_among}
 use Rattle.reader_store.specs.declared.parents.Ranked.{Ranked}
-use Rattle.reader_store.specs.declared.parents.Side.TheVariants.{Left, Right}
 
 -- the parent that is found; where there is none it means nothing
 abbrev pub found : Option Ranked → Ranked
@@ -32,12 +31,12 @@ map_some f (Some x) y e go = go x refl (same_Some (f x) y e)
 map_some f None y e go = absurd (none-some y e)
 
 module _ (number n : ℕ) where
-  pub counted-in : 10000 ≤ number → number - 10000 < n → counted number n ≡ Some (index_at (number - 10000))
-  unfolding counted
+  pub counted-in : 10000 ≤ number → number - 10000 < n → ranked_among number n ≡ Some (index_at (number - 10000))
+  unfolding ranked_among
   counted-in h k = rw (le-ltb number 10000 h, lt-leb n (number - 10000) k)
 
-  pub counted-there : (x : Ranked) → counted number n ≡ Some x → (10000 ≤ number) × (number - 10000 < n) × (x ≡ index_at (number - 10000))
-  unfolding counted
+  pub counted-there : (x : Ranked) → ranked_among number n ≡ Some x → (10000 ≤ number) × (number - 10000 < n) × (x ≡ index_at (number - 10000))
+  unfolding ranked_among
   counted-there x e = go (ltb number 10000) (leb n (number - 10000)) refl refl e
     where
       go : (a b : Bool) → ltb number 10000 ≡ a → leb n (number - 10000) ≡ b → cond a None (cond b None (Some (index_at (number - 10000)))) ≡ Some x → (10000 ≤ number) × (number - 10000 < n) × (x ≡ index_at (number - 10000))
@@ -46,12 +45,12 @@ module _ (number n : ℕ) where
       go false false p q s = (ltb-false number 10000 p, leb-false n (number - 10000) q, sym (same_Some (index_at (number - 10000)) x s))
 
 module _ (left right id : ℕ) where
-  pub side_left : eqb id (left + 10001) && eqb right 0 ≡ true → side_of left right id ≡ Some Left
-  unfolding side_of
+  pub side_left : eqb id (left + 10001) && eqb right 0 ≡ true → side_word left right id ≡ Some left_word
+  unfolding side_word
   side_left h = rw h
 
-  pub side_right : eqb id (left + 10001) && eqb right 0 ≡ false → id + right + 1 ≡ 10000 → side_of left right id ≡ Some Right
-  unfolding side_of
+  pub side_right : eqb id (left + 10001) && eqb right 0 ≡ false → id + right + 1 ≡ 10000 → side_word left right id ≡ Some right_word
+  unfolding side_word
   side_right h k = rw (h, eq-eqb (id + right + 1) 10000 k)
 
 module _ (first left right id : ℕ) where

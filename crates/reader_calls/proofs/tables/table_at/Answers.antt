@@ -16,6 +16,6 @@ returns-in_err-head c =
 pub returns : goal.returns
 returns c =
     let a = c.args in
-    let l = c.lines in
+    let l = c.table_lines in
     let e = table_lines_lem a.table a.text.now a.at a.progress a.words.now a.numbers.now a.wants.now c.name_at-name.ensures c.table_name.ensures c.if-name-table_name.false c.head_at.ensures (found-there c.head_at.result (sym c.ok_or.ensures.value ∙ c.in_ok-head.was)) in
     agree_same l.result l.new.words l.new.numbers l.new.wants e l.ensures

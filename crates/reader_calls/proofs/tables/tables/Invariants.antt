@@ -9,4 +9,4 @@ use Rattle.reader_calls.proofs.tables.tables.Given as goal
 abbrev pub invariant-loop-table : goal.invariant-loop-table
 invariant-loop-table l =
     (length l.words ≡ length l.initial.words) × (length l.numbers ≡ length l.initial.numbers) × (length l.wants ≡ length l.initial.wants)
-    × (tables_from 16 0 l.text 0 0 start_progress l.initial.words l.initial.numbers l.initial.wants ≡ tables_from (16 - l.table) l.table l.text l.next l.lines l.progress l.words l.numbers l.wants)
+    × (tables_from 16 0 l.text 0 0 start_progress l.initial.words l.initial.numbers l.initial.wants ≡ tables_from (16 - l.table) l.table l.text l.so_far.next l.so_far.lines l.so_far.progress l.words l.numbers l.wants)

@@ -2,7 +2,7 @@ use mathlib.Core.Path.{sym, ◌∙◌}
 use Rattle.refusals.specs.declared.refusals.Refusal.TheVariants.{Capacity}
 use Rattle.reader_calls.proofs.TakingCases.{agree-done, agree-stop, agree-missed, found-there, lines_end, lines_cut, lines-over, lines_next}
 use borrow.Author.Rules.{rules}
-use Rattle.reader_calls.proofs.tables.lines.Goals as goal
+use Rattle.reader_calls.proofs.tables.table_lines.Goals as goal
 
 pub returns-then-byte_at-eq10 : goal.returns-then-byte_at-eq10
 returns-then-byte_at-eq10 c =

@@ -4,7 +4,7 @@ use Prim.Native.Nat.{◌≤◌, ◌-◌}
 use lib.ListN.{length}
 use Rattle.reader_schema.specs.Schema.{limit_of}
 use Rattle.reader_calls.specs.Reading.{lines_from}
-use Rattle.reader_calls.proofs.tables.lines.Given as goal
+use Rattle.reader_calls.proofs.tables.table_lines.Given as goal
 
 abbrev pub invariant-loop-order : goal.invariant-loop-order
 invariant-loop-order l =

@@ -1,0 +1,11 @@
+-- A side's word is one of two, so the place of a section's record leaves room for it.
+use native.Mathlib.Omega.{arith}
+use mathlib.Core.Path.{sym, ◌∙◌}
+use Rattle.reader_store.proofs.SideLaw.{side-cases}
+use Rattle.reader_store.proofs.parents.lane_turn.Goals as goal
+
+pub overflow_add-result : goal.overflow_add-result
+overflow_add-result c =
+    let r = c.section_record-record.result in
+    let at = c.section_word-at.ensures.1 in
+    record { fits = side-cases r.left r.right _ c.in_ok-side.side (sym c.side_word.ensures ∙ c.in_ok-side.was) (λ e id none. omega (arith, at)) (λ e id. omega (arith, at)) }
