@@ -132,8 +132,13 @@ module _ (words : List ℕ) (numbers : List Float) where
   unfolding section_in
   mark_count_lem i h = ap (λ (x : Section). length x.marks) (section_in_lem i h) ∙ length-table _ _ ∙ ap (word_at words numbers) (plus 1347 1 (i * 2))
 
-  pub mark_count_read : (i : ℕ) {road' : Road} {n : ℕ} → i < get_or words 5 0 → n ≡ length (section_of road' i).marks → road ≡ road' → n ≡ get_or words (1348 + i * 2) 0
-  mark_count_read i h e f = e ∙ ap (λ (x : Road). length (section_of x i).marks) (sym f) ∙ mark_count_lem i h
+  pub marks_in : (i : ℕ) {first count : ℕ} → i < get_or words 5 0 → first ≡ get_or words (1347 + i * 2) 0 → count ≡ get_or words (1348 + i * 2) 0
+      → tabulate (λ j. mark_in words numbers (first + j)) count ≡ (section_of road i).marks
+  unfolding section_in tabulate
+  marks_in i h e f = rw (e, f, ← plus 1347 1 (i * 2)) (ap (λ (x : Section). x.marks) (sym (section_in_lem i h)))
+
+  pub marks-past : (i : ℕ) → get_or words 5 0 ≤ i → [] ≡ (section_of road i).marks
+  marks-past i h = ap (λ (x : Section). x.marks) (sym (section-past i h))
 
   pub mark_in_lem :
       (i j : ℕ) → i < get_or words 5 0 → j < get_or words (1348 + i * 2) 0

@@ -1,5 +1,6 @@
 // Where a lent road's tables stand, by the names of specs/Layout.antt; docs/MEMORY.md is the same table for whoever lends a road.
-// A table has a first place and a stride, the places that a line takes: those of a cubic and of a height are their types' `STRIDE`.
+// A table has a first place and a stride, the places that a line takes: those of a cubic and of a height are their types' `STRIDE`. What the words of a
+// line are is said beside its table. They are read by their number in it, since one function reads a line whole and names each as it does.
 
 // ---- numbers: the road's length, then the tables
 pub const LENGTH_PLACE: usize = 0;

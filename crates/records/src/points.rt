@@ -70,8 +70,8 @@ pub enum StripKind {
 }
 
 // A lane by its section, its side (right of the center or left) and its place there, from the center outward. A side is a flag, since the definitions
-// say of it `cond right road.right road.left`: an enum would have to be turned into that flag in each contract. They take section, side and place one
-// by one, since the laws go by induction over the place and by cases of the side, for every section.
+// choose by it, `cond right section.right section.left`: an enum would be turned into that flag in each contract. They take section, side and place one by
+// one, since the laws go by induction over the place and by cases of the side, for every section.
 #[derive(Clone, Copy)]
 pub struct LanePlace {
     pub section: usize,

@@ -1,5 +1,5 @@
 // The mark spans of a road's sections: what is painted where along a lane.
-ghost use Rattle.std.specs.Prelude.{◌≡◌, ◌<◌, length};
+ghost use Rattle.std.specs.Prelude.{◌≡◌, ◌<◌, length, get_or};
 ghost use Rattle.records.specs.Roads.{section_of, mark_in, no_mark, mark_at};
 ghost use Rattle.records_marks.specs.Covers.{covers, paints, covered};
 
@@ -9,20 +9,10 @@ use records::layout::{
 use records::{LentRoad, Mark};
 use records_lent::{number, word};
 use records_sections::{section_count, section_start};
+use std::marker::Model;
 
 // How many marks each section has stands beside its first mark.
 const MARK_COUNT_WORDS: usize = SECTION_MARK_WORDS + 1;
-
-pub fn mark_count(road: &LentRoad, section: usize) -> usize
-    ensures value { result ≡ length (section_of road.now section).marks }
-    ensures small { result < 65536 }
-{
-    if section < section_count(road) {
-        word(road.words, MARK_COUNT_WORDS + section * SECTION_MARK_STRIDE)
-    } else {
-        0
-    }
-}
 
 // The j-th mark of the mark table. It takes the slices: a road's model has marks by section, and no table.
 fn mark_in(words: &[u16], numbers: &[f64], j: usize) -> Mark
@@ -50,19 +40,81 @@ fn no_mark() -> Mark
     }
 }
 
+// A section's marks: the line where they begin is read once, and not for each mark.
+#[derive(Drop)]
+pub struct LentMarks<'a> {
+    words: &'a [u16],
+    numbers: &'a [f64],
+    first: usize,
+    count: usize,
+}
+
+impl<'a> Model for LentMarks<'a> {
+    ghost use Rattle.std.specs.Prelude.{ℕ, ◌+◌, ◌<◌, List};
+    ghost use Rattle.records_lent.specs.Lists.{tabulate};
+    ghost use Rattle.records.specs.declared.points.Mark.{Mark};
+    ghost use Rattle.records.specs.Roads.{mark_in};
+
+    ghost Value = { List Mark };
+
+    ghost view = { λ marks. tabulate (λ (j : ℕ). mark_in marks.words.now marks.numbers.now (marks.first + j)) marks.count };
+
+    ghost invariant = { λ marks. (marks.first < 65536) × (marks.count < 65536) };
+}
+
+impl<'a> LentMarks<'a> {
+    pub fn new(road: &LentRoad<'a>, section: usize) -> LentMarks<'a>
+        ensures { result ≡ (section_of road.now section).marks }
+    {
+        if section < section_count(road) {
+            let at = section * SECTION_MARK_STRIDE;
+            LentMarks {
+                words: road.words,
+                numbers: road.numbers,
+                first: word(road.words, SECTION_MARK_WORDS + at),
+                count: word(road.words, MARK_COUNT_WORDS + at),
+            }
+        } else {
+            LentMarks {
+                words: road.words,
+                numbers: road.numbers,
+                first: 0,
+                count: 0,
+            }
+        }
+    }
+
+    pub fn len(&self) -> usize
+        ensures value { result ≡ length self.now }
+        ensures small { result < 65536 }
+    {
+        self.count
+    }
+
+    // The j-th mark; one of no kind, whose span is NaN, where there is none.
+    pub fn get(&self, j: usize) -> Mark
+        ensures { result ≡ get_or self.now j no_mark }
+    {
+        if j < self.count {
+            mark_in(self.words, self.numbers, self.first + j)
+        } else {
+            no_mark()
+        }
+    }
+}
+
+pub fn mark_count(road: &LentRoad, section: usize) -> usize
+    ensures value { result ≡ length (section_of road.now section).marks }
+    ensures small { result < 65536 }
+{
+    LentMarks::new(road, section).len()
+}
+
 // The j-th mark of a section; one of no kind, whose span is NaN, where there is none.
 pub fn mark(road: &LentRoad, section: usize, j: usize) -> Mark
     ensures { result ≡ mark_at road.now section j }
 {
-    if j < mark_count(road, section) {
-        let first = word(
-            road.words,
-            SECTION_MARK_WORDS + section * SECTION_MARK_STRIDE,
-        );
-        mark_in(road.words, road.numbers, first + j)
-    } else {
-        no_mark()
-    }
+    LentMarks::new(road, section).get(j)
 }
 
 // Whether a mark's span covers the place d metres into its section. Its end is not covered: there the next span may start.
@@ -83,7 +135,7 @@ fn paints(mark: Mark, lane: usize, kind: usize, d: f64) -> bool
 pub fn covered(road: &LentRoad, section: usize, lane: usize, kind: usize, s: f64) -> bool
     ensures { result ≡ covered road.now section lane kind s }
 {
-    let n = mark_count(road, section);
+    let marks = LentMarks::new(road, section);
     let d = s - section_start(road, section);
-    (0..n).any(|j| paints(mark(road, section, j), lane, kind, d))
+    (0..marks.len()).any(|j| paints(marks.get(j), lane, kind, d))
 }
