@@ -1,1 +1,2 @@
 pub mod FloatTests
+pub mod FiniteLaws

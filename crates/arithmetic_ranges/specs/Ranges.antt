@@ -1,7 +1,7 @@
 -- Document 01: the tests of a range, "a number not finite", "at least 0", how a number is kept within its ends, and the way between two. In f64.
 use Rattle.std.specs.Prelude.{Bool, ◌&&◌, cond, Float}
 use Rattle.std.specs.Float.Ieee.{le, lt}
-use Rattle.float_laws.specs.Binary64.{◌⊕◌, ◌⊖◌, ◌⊗◌, f64, zero64, abs_of}
+use Rattle.float_laws.specs.Binary64.{◌⊕◌, ◌⊖◌, ◌⊗◌, ◌⊘◌, f64, zero64, abs_of}
 
 -- "NaN is outside every range": both comparisons have to pass
 abbrev pub in_range : Float → Float → Float → Bool
@@ -34,3 +34,7 @@ clamped most x = let up = at_least_zero x in cond (lt most up) most up
 -- "linear between neighbours": a + (b - a)×f, as src/road.rs groups it
 abbrev pub blend : Float → Float → Float → Float
 blend a b f = a ⊕ (b ⊖ a) ⊗ f
+
+-- the way back of `blend`: the part of the way from a to b at which x lies, "(s - s0)/(s1 - s0)"
+abbrev pub fraction : Float → Float → Float → Float
+fraction a b x = (x ⊖ a) ⊘ (b ⊖ a)

@@ -3,4 +3,6 @@
 
 mod ranges;
 
-pub use ranges::{LARGEST, abs, at_least_zero, blend, clamp, in_range, not_below_zero, sized};
+pub use ranges::{
+    LARGEST, abs, at_least_zero, blend, clamp, fraction, in_range, not_below_zero, sized,
+};

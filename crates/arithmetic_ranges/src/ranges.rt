@@ -1,7 +1,7 @@
 // Sizes and ranges of numbers, a NaN outside every range; the way between two.
 ghost use Rattle.std.specs.Prelude.{◌≡◌};
 ghost use Rattle.float_laws.specs.Binary64.{abs_of};
-ghost use Rattle.arithmetic_ranges.specs.Ranges.{in_range, at_least_zero, not_below_zero, clamped, sized, blend};
+ghost use Rattle.arithmetic_ranges.specs.Ranges.{in_range, at_least_zero, not_below_zero, clamped, sized, blend, fraction};
 
 // What lies in -LARGEST..LARGEST is finite.
 pub const LARGEST: f64 = f64::MAX;
@@ -52,4 +52,11 @@ pub fn blend(a: f64, b: f64, f: f64) -> f64
     ensures { result ≡ blend a b f }
 {
     a + (b - a) * f
+}
+
+// How far x is on the way from a to b, as a fraction of it: 0 at a, 1 at b.
+pub fn fraction(a: f64, b: f64, x: f64) -> f64
+    ensures { result ≡ fraction a b x }
+{
+    (x - a) / (b - a)
 }

@@ -1,4 +1,4 @@
-// Document 01's stand-ins for sine, cosine and tangent, and the floor that they take. In f64 and integer work alone, so that every answer is the same bits on every machine.
+// Document 01's stand-ins for sine, cosine and tangent, and the floor and Horner's rule that they take. In f64 and integer work alone, so that every answer is the same bits on every machine.
 #![tactic(auto)]
 
 mod floors;
@@ -6,4 +6,4 @@ mod quotients;
 mod sine;
 
 pub use floors::floor;
-pub use sine::{SinCos, sin_cos, tan};
+pub use sine::{SinCos, horner, sin_cos, tan};

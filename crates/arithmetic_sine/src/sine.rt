@@ -31,9 +31,9 @@ impl SinCos {
     }
 }
 
-// By Horner: the first coefficient, and those that follow it.
+// A polynomial of z by Horner: the first coefficient, and those that follow it.
 #[tactic(auto, unfolding(crate::specs::Sine::horner))]
-fn horner(z: f64, first: f64, rest: &[f64]) -> f64
+pub fn horner(z: f64, first: f64, rest: &[f64]) -> f64
     ensures { result ≡ horner z first rest.now }
 {
     rest.iter().fold(first, |p, d| p * z + *d)

@@ -2,7 +2,7 @@
 ghost use Rattle.std.specs.Prelude.{◌≡◌, ◌+◌, ◌<◌, ◌^◌};
 ghost use Rattle.lanes.specs.Lateral.{profile_height, shape_between, shape_of};
 
-use arithmetic_ranges::blend;
+use arithmetic_ranges::{blend, fraction};
 use records::LentRoad;
 use records_active::{active, profile_at};
 use records_shapes::{profile_count, profile_start, shapes};
@@ -23,8 +23,7 @@ fn shape_between(road: &LentRoad, i: usize, s: f64, t: f64) -> f64
     requires { i + 1 < 2 ^ 64 }
     ensures { result ≡ shape_between road.now i s t }
 {
-    let from = profile_start(road, i);
-    let f = (s - from) / (profile_start(road, i + 1) - from);
+    let f = fraction(profile_start(road, i), profile_start(road, i + 1), s);
     blend(profile_height(road, i, t), profile_height(road, i + 1, t), f)
 }
 
