@@ -24,7 +24,11 @@ fn shape_between(road: &LentRoad, i: usize, s: f64, t: f64) -> f64
     ensures { result ≡ shape_between road.now i s t }
 {
     let f = fraction(profile_start(road, i), profile_start(road, i + 1), s);
-    blend(profile_height(road, i, t), profile_height(road, i + 1, t), f)
+    blend(
+        profile_height(road, i, t),
+        profile_height(road, i + 1, t),
+        f,
+    )
 }
 
 // The profiles' height at s and t; 0 where there is none. Four cases, as the definition has them and as a lane's heights have theirs: a value between
