@@ -1,9 +1,9 @@
 -- Document 01, "Values": "`shape_at`, `height_at`: linear between neighbours, constant outside; before a profile's first shape its a counts", and the cross section, grouped as in src/road.rs.
 use Rattle.std.specs.Prelude.{ℕ, ◌+◌, Bool, true, false, ◌&&◌, ◌||◌, not, cond, List, length, ltb, eqb, Float, Option, Some, None}
 use Rattle.std.specs.Float.Ieee.{lt}
-use Rattle.float_laws.specs.Binary64.{◌⊕◌, ◌⊖◌, ◌⊗◌, ◌⊘◌, f64, zero64, abs_of}
+use Rattle.float_laws.specs.Binary64.{◌⊕◌, ◌⊖◌, ◌⊗◌, f64, zero64, abs_of}
 use Rattle.records_cubic.specs.declared.cubics.Cubic.{Cubic}
-use Rattle.arithmetic_ranges.specs.Ranges.{not_below_zero, blend}
+use Rattle.arithmetic_ranges.specs.Ranges.{not_below_zero, blend, fraction}
 use Rattle.records.specs.declared.points.HeightDef.{HeightDef}
 use Rattle.records_cubic.specs.Cubics.{cubic_at, eval_at}
 use Rattle.records.specs.Active.{active_in, value_in, last_start, active_up_to}
@@ -26,7 +26,7 @@ profile_height road i t = shape_by (profile_at road i).shapes t (active_in (prof
 unfoldable pub shape_between : Road → ℕ → Float → Float → Float
 unfolding profile_height
 shape_between road i s t =
-    blend (profile_height road i t) (profile_height road (i + 1) t) ((s ⊖ (profile_at road i).s) ⊘ ((profile_at road (i + 1)).s ⊖ (profile_at road i).s))
+    blend (profile_height road i t) (profile_height road (i + 1) t) (fraction (profile_at road i).s (profile_at road (i + 1)).s s)
 
 -- i is the last profile at or before s + 1e-9; "constant outside"; 0 without profiles
 abbrev pub shape_from : Road → Float → Float → Option ℕ → Float
@@ -43,7 +43,7 @@ shape_of road s t = shape_from road s t (last_start (λ i. (profile_at road i).s
 -- "linear between neighbours"
 abbrev pub height_between : HeightDef → HeightDef → Float → BorderHeights
 height_between a b s =
-    let f = (s ⊖ a.s_offset) ⊘ (b.s_offset ⊖ a.s_offset) in
+    let f = fraction a.s_offset b.s_offset s in
     record { inner = blend a.inner b.inner f; outer = blend a.outer b.outer f }
 
 -- "constant outside"; (0, 0) without heights

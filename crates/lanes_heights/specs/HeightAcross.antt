@@ -1,13 +1,13 @@
 -- Document 01, "Values": the height at t across a lane, grouped as in src/road.rs.
 use Rattle.std.specs.Prelude.{cond, Float}
 use Rattle.std.specs.Float.Ieee.{eq}
-use Rattle.float_laws.specs.Binary64.{◌⊖◌, ◌⊘◌, f64, zero64}
-use Rattle.arithmetic_ranges.specs.Ranges.{clamped, blend}
+use Rattle.float_laws.specs.Binary64.{◌⊖◌, f64, zero64}
+use Rattle.arithmetic_ranges.specs.Ranges.{clamped, blend, fraction}
 use Rattle.lanes_heights.specs.declared.across.Across.{Across}
 
 -- "the fraction across a lane of width 0, or one that comes out as 0/0 because the outer rounds to the inner, is 0": 0 wherever outer less inner is 0, so at a t beyond such a lane too
 abbrev pub fraction_at : Across → Float → Float
-fraction_at a t = let width = a.outer_t ⊖ a.inner_t in cond (eq width zero64) zero64 ((t ⊖ a.inner_t) ⊘ width)
+fraction_at a t = cond (eq (a.outer_t ⊖ a.inner_t) zero64) zero64 (fraction a.inner_t a.outer_t t)
 
 -- "kept to 0..1"; a NaN stays
 abbrev pub kept : Float → Float

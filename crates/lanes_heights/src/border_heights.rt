@@ -15,7 +15,13 @@ use records::{LanePlace, LentRoad};
 use records_lanes::{LentLane, LentSide};
 
 // A level lane's heights, on top of the height at which its inner neighbour ends.
-fn level_heights(own: BorderHeights, foot: f64, sign: f64, width: f64, tangent: f64) -> BorderHeights
+fn level_heights(
+    own: BorderHeights,
+    foot: f64,
+    sign: f64,
+    width: f64,
+    tangent: f64,
+) -> BorderHeights
     ensures { result ≡ level_heights own foot sign width tangent }
 {
     BorderHeights {
@@ -25,7 +31,13 @@ fn level_heights(own: BorderHeights, foot: f64, sign: f64, width: f64, tangent: 
 }
 
 // Any other lane's heights, on top of the road's.
-fn tilted_heights(road: &LentRoad, s: f64, own: BorderHeights, b: LaneBorders, sign: f64) -> BorderHeights
+fn tilted_heights(
+    road: &LentRoad,
+    s: f64,
+    own: BorderHeights,
+    b: LaneBorders,
+    sign: f64,
+) -> BorderHeights
     ensures { result ≡ tilted_heights road.now s own b sign }
 {
     BorderHeights {
@@ -55,13 +67,23 @@ struct Edge {
 }
 
 // A lane from where its inner neighbour ends.
-fn next_across(road: &LentRoad, side: &SideAt, lane: &LentLane, s: f64, tangent: f64, edge: Edge) -> Across
+fn next_across(
+    road: &LentRoad,
+    side: &SideAt,
+    lane: &LentLane,
+    s: f64,
+    tangent: f64,
+    edge: Edge,
+) -> Across
     ensures { result ≡ across_by road.now s (height_of lane.now.heights side.now.into) (borders_from lane.now side.now.sign edge.t side.now.into) edge.height side.now.sign tangent edge.level }
 {
     let b = border_from(lane, side.into, side.sign, edge.t);
     let own = height_at(&lane.heights, side.into);
     if edge.level {
-        across_of(b, level_heights(own, edge.height, side.sign, b.width, tangent))
+        across_of(
+            b,
+            level_heights(own, edge.height, side.sign, b.width, tangent),
+        )
     } else {
         across_of(b, tilted_heights(road, s, own, b, side.sign))
     }

@@ -3,17 +3,16 @@ ghost use Rattle.std.specs.Prelude.{◌≡◌};
 ghost use Rattle.lanes_heights.specs.HeightAcross.{fraction_at, height_across, height_within};
 
 use crate::across::Across;
-use arithmetic_ranges::{blend, clamp};
+use arithmetic_ranges::{blend, clamp, fraction};
 
 // How much of the way from the inner border to the outer one t lies; 0 of a lane without width.
 fn fraction_at(a: Across, t: f64) -> f64
     ensures { result ≡ fraction_at a t }
 {
-    let width = a.outer_t - a.inner_t;
-    if width == 0.0 {
+    if a.outer_t - a.inner_t == 0.0 {
         0.0
     } else {
-        (t - a.inner_t) / width
+        fraction(a.inner_t, a.outer_t, t)
     }
 }
 

@@ -2,7 +2,7 @@
 ghost use Rattle.std.specs.Prelude.{◌≡◌};
 ghost use Rattle.lanes.specs.Lateral.{height_of, height_between};
 
-use arithmetic_ranges::blend;
+use arithmetic_ranges::{blend, fraction};
 use lanes::BorderHeights;
 use records::{HeightDef, Heights};
 use records_active::active;
@@ -11,7 +11,7 @@ use records_active::active;
 fn between(a: HeightDef, b: HeightDef, into: f64) -> BorderHeights
     ensures { result ≡ height_between a b into }
 {
-    let f = (into - a.s_offset) / (b.s_offset - a.s_offset);
+    let f = fraction(a.s_offset, b.s_offset, into);
     BorderHeights {
         inner: blend(a.inner, b.inner, f),
         outer: blend(a.outer, b.outer, f),

@@ -2,7 +2,7 @@
 ghost use Rattle.std.specs.Prelude.{◌≡◌, ◌+◌, ◌<◌, ◌^◌};
 ghost use Rattle.lanes.specs.Lateral.{profile_height, shape_between, shape_of};
 
-use arithmetic_ranges::blend;
+use arithmetic_ranges::{blend, fraction};
 use records::LentRoad;
 use records_active::{active, profile_index};
 use records_shapes::{profile_count, profile_start, shapes};
@@ -23,9 +23,12 @@ fn shape_between(road: &LentRoad, i: usize, s: f64, t: f64) -> f64
     requires { i + 1 < 2 ^ 64 }
     ensures { result ≡ shape_between road.now i s t }
 {
-    let from = profile_start(road, i);
-    let f = (s - from) / (profile_start(road, i + 1) - from);
-    blend(profile_height(road, i, t), profile_height(road, i + 1, t), f)
+    let f = fraction(profile_start(road, i), profile_start(road, i + 1), s);
+    blend(
+        profile_height(road, i, t),
+        profile_height(road, i + 1, t),
+        f,
+    )
 }
 
 // The profiles' height at s and t; 0 where there is none. Four cases, as the definition has them and as a lane's heights have theirs: a value between

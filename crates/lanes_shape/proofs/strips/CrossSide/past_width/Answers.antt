@@ -26,7 +26,7 @@ returns-in-Absolute c =
     λ d e.
     elim c.if-w-sign.branch [
       | then-w-sign w ↦
-        rw c.sign_of-sign.ensures at (past-absolute d a.s c.args.t c.sign_of-sign.result c.args.w outer (rw (← c.outer_of-outer.ensures) (sym w.strip-kind.ensures ∙ sym w.kind-is ∙ c.in-Absolute.is)) w.if-w-sign.true (λ o f. c.strip_height-in-Absolute.ensures o (rw c.outer_of-outer.ensures f)))
+          rw c.sign_of-sign.ensures at (past-absolute d a.s c.args.t c.sign_of-sign.result c.args.w outer (rw (← c.outer_of-outer.ensures) (sym w.strip-kind.ensures ∙ sym w.kind-is ∙ c.in-Absolute.is)) w.if-w-sign.true (λ o f. c.strip_height-in-Absolute.ensures o (rw c.outer_of-outer.ensures f)))
       | else-w-sign w ↦ let no = sym w.kind-is ∙ c.in-Absolute.is in let z : ◌≡◌ {A = ℕ} 0 1 = cc in absurd (omega arith)
     ]
 
@@ -37,6 +37,6 @@ returns-in-Relative c =
     λ d e.
     elim c.if-w-sign.branch [
       | then-w-sign w ↦
-        rw c.sign_of-sign.ensures at (past-relative d a.s c.args.t c.sign_of-sign.result c.args.w outer (rw (← c.outer_of-outer.ensures) (sym w.strip-kind.ensures ∙ sym w.kind-is ∙ c.in-Relative.is)) w.if-w-sign.true (c.strip_height-in-Relative.ensures d (rw c.inner_of-inner.ensures e)) (λ o f. c.strip_height-in-Relative-2.ensures o (rw c.outer_of-outer.ensures f)))
+          rw c.sign_of-sign.ensures at (past-relative d a.s c.args.t c.sign_of-sign.result c.args.w outer (rw (← c.outer_of-outer.ensures) (sym w.strip-kind.ensures ∙ sym w.kind-is ∙ c.in-Relative.is)) w.if-w-sign.true (c.strip_height-in-Relative.ensures d (rw c.inner_of-inner.ensures e)) (λ o f. c.strip_height-in-Relative-2.ensures o (rw c.outer_of-outer.ensures f)))
       | else-w-sign w ↦ let no = sym w.kind-is ∙ c.in-Relative.is in let z : ◌≡◌ {A = ℕ} 0 1 = cc in absurd (omega arith)
     ]
