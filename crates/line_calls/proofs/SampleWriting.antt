@@ -9,6 +9,7 @@ use lib.ListN.{length, take, drop, set}
 use lib.Seq.{sets, sets-eq, drop-drop, drop-length}
 use lib.Ieee.{Float}
 use Rattle.records.specs.declared.points.GeomRec.{GeomRec}
+use Rattle.records.specs.declared.points.GeomShape.{GeomShape}
 use Rattle.records.specs.declared.points.GeomShape.TheVariants.{Line, Arc, Spiral}
 use Rattle.records.specs.Roads.{Road, geom_at}
 use Rattle.line_samples.specs.declared.points.Sample.{Sample}
@@ -127,19 +128,27 @@ empty : (xs : List Float) → length xs ≡ 0 → xs ≡ []
 empty [] h = refl
 empty (x ∷ xs) h = absurd (omega (arith, h))
 
-pub geom-arc : (g : GeomRec) {k : Float} (xs : List Float) → g.shape ≡ Arc k → length xs ≡ sample_count g * 4 → xs ≡ flat (geom_samples g)
+geom-arc : (g : GeomRec) {k : Float} (xs : List Float) → g.shape ≡ Arc k → length xs ≡ sample_count g * 4 → xs ≡ flat (geom_samples g)
 unfolding geom_samples flat
 geom-arc g xs s e =
     let w = count-arc g s in
     let z : length xs ≡ 0 = omega arith in
     empty xs z ∙ rw s
 
-pub geom-line : (g : GeomRec) (xs : List Float) → g.shape ≡ Line → length xs ≡ sample_count g * 4 → xs ≡ flat (geom_samples g)
+geom-line : (g : GeomRec) (xs : List Float) → g.shape ≡ Line → length xs ≡ sample_count g * 4 → xs ≡ flat (geom_samples g)
 unfolding geom_samples flat
 geom-line g xs s e =
     let w = count-line g s in
     let z : length xs ≡ 0 = omega arith in
     empty xs z ∙ rw s
+
+pub geom-other : (g : GeomRec) (xs : List Float) → ((k0 k1 : Float) → g.shape ≡ Spiral k0 k1 → ⊥) → length xs ≡ sample_count g * 4 → xs ≡ flat (geom_samples g)
+geom-other g xs other e = go g.shape refl
+  where
+    go : (s : GeomShape) → g.shape ≡ s → xs ≡ flat (geom_samples g)
+    go Line w = geom-line g xs w e
+    go (Arc k) w = geom-arc g xs w e
+    go (Spiral k0 k1) w = absurd (other k0 k1 w)
 
 -- ---- all geometries
 

@@ -36,19 +36,16 @@ fn write_steps(spiral: &Spiral, p: Sample, part: &mut [f64])
 }
 
 // The samples of one geometry, whose part of the slice is lent.
-fn write_geom(geom: GeomRec, part: &mut [f64])
-    requires { length part.old ≡ sample_count geom * sample_stride }
-    ensures { part.new ≡ flat (geom_samples geom) }
+fn write_geom(g: GeomRec, part: &mut [f64])
+    requires { length part.old ≡ sample_count g * sample_stride }
+    ensures { part.new ≡ flat (geom_samples g) }
 {
-    match geom.shape {
-        GeomShape::Spiral(k0, k1) => {
-            let spiral = Spiral { geom, k0, k1 };
-            let start = spiral.first_sample();
-            let (first, later) = part.split_at_mut(SAMPLE_STRIDE);
-            put(first, start);
-            write_steps(&spiral, start, later);
-        }
-        GeomShape::Arc(_) | GeomShape::Line => {}
+    if let GeomShape::Spiral(k0, k1) = g.shape {
+        let spiral = Spiral { geom: g, k0, k1 };
+        let start = spiral.first_sample();
+        let (first, later) = part.split_at_mut(SAMPLE_STRIDE);
+        put(first, start);
+        write_steps(&spiral, start, later);
     }
 }
 

@@ -43,6 +43,7 @@ pub fn surface(
     ensures { answered result ≡ surface_call words.now numbers.now samples.now s t }
 {
     let lent = enter(words, numbers, samples, s)?;
+    // here and in `lane_surface`: as a function beside `enter` the test is sixteen lines, with parameters and contract, for twice three
     if !across(t) {
         return Err(Refusal::Offset);
     }

@@ -16,7 +16,7 @@ pub(crate) const TOLERANCE: f64 = 1e-9;
 // A miss below which it has met the target.
 const MEETING: f64 = 0.0000009;
 
-// What a search goes by: the road with its lent samples, and the point that it looks for.
+// What a search goes by: the road with its lent samples, and the point that it looks for. Clauses take the three out of it: the definitions and their laws have them as a module's parameters, each named once there.
 #[derive(Clone, Copy)]
 pub(crate) struct Search<'a> {
     pub lent: &'a SampledRoad<'a>,

@@ -2,7 +2,7 @@
 ghost use Rattle.std.specs.Prelude.{◌≡◌, false};
 ghost use Rattle.std.specs.Float.Ieee.{lt};
 ghost use Rattle.surface_points.specs.Plan.{footing_of};
-ghost use Rattle.surface_locate.specs.Locating.{tolerance, miss_at, size_of, ahead_of, newton_move, move_at};
+ghost use Rattle.surface_locate.specs.Locating.{tolerance, miss_at, size_of, ahead_of, det_of, newton_move, move_at};
 
 use crate::misses::{Search, TOLERANCE, rate};
 use crate::points::{Move, Place};
@@ -27,17 +27,24 @@ fn ahead(length: f64, s: f64) -> f64
     }
 }
 
-// The move from a place with its miss r and the two rates.
+// The determinant of two vectors in the plane.
+fn det(a: PlanVector, b: PlanVector) -> f64
+    ensures { result ≡ det_of a b }
+{
+    a.x * b.y - a.y * b.x
+}
+
+// The move from a place with its miss r and the two rates. What ds has over the determinant is `det(across, r)` with the factors turned round, as document 01 writes it.
 #[tactic(auto, unfolding(crate::specs::Locating::newton_move))]
 fn newton(length: f64, at: Place, r: PlanVector, along: PlanVector, across: PlanVector) -> Move
     ensures { result ≡ newton_move length at r along across }
 {
-    let det = along.x * across.y - along.y * across.x;
-    if abs(det) < LEAST_DETERMINANT {
+    let spread = det(along, across);
+    if abs(spread) < LEAST_DETERMINANT {
         return Move::Stay;
     }
-    let ds = (r.y * across.x - r.x * across.y) / det;
-    let dt = (r.x * along.y - r.y * along.x) / det;
+    let ds = (r.y * across.x - r.x * across.y) / spread;
+    let dt = det(r, along) / spread;
     let s = clamp(length, at.s + ds);
     let moved = abs(s - at.s) + abs(dt);
     let next = Place { s, t: at.t + dt };

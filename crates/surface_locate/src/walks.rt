@@ -81,13 +81,13 @@ pub fn locate_from(lent: &SampledRoad, target: PlanVector, guess: f64) -> Positi
         s,
         t: first_t(here, target),
     };
-    let e = Search { lent, target }.walk(from, here);
-    let at = e.walk.place;
-    let converged = met(&lent.road, at, e.miss);
+    let end = Search { lent, target }.walk(from, here);
+    let at = end.walk.place;
+    let converged = met(&lent.road, at, end.miss);
     Position {
         s: at.s,
         t: at.t,
-        moves: e.walk.moves,
+        moves: end.walk.moves,
         converged,
     }
 }

@@ -4,7 +4,8 @@ ghost use Rattle.arithmetic_sine.specs.Sine.{sin_cos_of};
 ghost use Rattle.records.specs.Active.{value_in};
 ghost use Rattle.surface_points.specs.Raised.{plain_by, lifted, raised_at};
 
-use crate::points::SurfacePoint;
+use crate::plan::beside;
+use crate::points::{PlanVector, SurfacePoint};
 use arithmetic_sine::SinCos;
 use line_pose::Bearing;
 use line_samples::SampledRoad;
@@ -16,10 +17,10 @@ fn plain_by(at: Bearing, bank: SinCos, elevation: f64, t: f64) -> SurfacePoint
     ensures { result ≡ plain_by at.pose at.turn.sin at.turn.cos bank.sin bank.cos elevation t }
 {
     let Bearing { pose, turn } = at;
-    let reach = t * bank.cos;
+    let PlanVector { x, y } = beside(pose.x, pose.y, turn, t * bank.cos);
     SurfacePoint {
-        x: pose.x - reach * turn.sin,
-        y: pose.y + reach * turn.cos,
+        x,
+        y,
         z: elevation + t * bank.sin,
         heading: pose.heading,
     }

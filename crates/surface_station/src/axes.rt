@@ -1,5 +1,5 @@
 // The road's own axes. The pairs of the heading (turn) and of the bank are worked out once and handed on.
-// The two stay two parameters: as one struct, three contracts would read `angles.turn.sin` for `turn.sin` in twelve places, and the three functions that have the pairs, each by a call of its own, would build the struct first.
+// The two pairs and the grade stay parameters of their own: as one struct, the contracts would read `angles.turn.sin` for `turn.sin` throughout, and each of the three places that have them, by a call for each, would build the struct first; a point that isn't stood off asks for no grade.
 ghost use Rattle.std.specs.Prelude.{◌≡◌};
 ghost use Rattle.surface_station.specs.Axes.{along_by, up_by, axes_by, axes_at};
 
@@ -10,7 +10,7 @@ use arithmetic_sine::SinCos;
 use line_samples::SampledRoad;
 use records_active::slope;
 
-// Along the reference line, up its grade.
+// The direction along the reference line, up its grade.
 #[tactic(auto, unfolding(crate::specs::Axes::along_by))]
 pub fn along_by(turn: SinCos, grade: f64) -> Axis
     ensures { result ≡ along_by turn.sin turn.cos grade }
@@ -22,7 +22,7 @@ pub fn along_by(turn: SinCos, grade: f64) -> Axis
     })
 }
 
-// Square to the reference line and to the banked cross section.
+// The direction square to the reference line and to the banked cross section.
 #[tactic(auto, unfolding(crate::specs::Axes::up_by))]
 pub fn up_by(turn: SinCos, grade: f64, bank: SinCos) -> Axis
     ensures { result ≡ up_by turn.sin turn.cos grade bank.sin bank.cos }
