@@ -1,12 +1,13 @@
 // The schema of the job text, as data. A word of at most eight bytes is one number, its bytes base 256, as the text's words are read: so two words
 // compare by one comparison. As text each would need its own length, and no constant here can be worked out from text.
-ghost use Rattle.std.specs.Prelude.{◌≡◌};
+ghost use Rattle.std.specs.Prelude.{◌≡◌, ℕ, get_or};
+ghost use Rattle.reader_schema.specs.declared.tables.Kind.TheVariants.{Number};
 ghost use Rattle.reader_schema.specs.Schema.{kind_by, first_of, word_count, column_kind, word_of, listed_place, name_of, limit_of};
 
-use crate::tables::Kind::{self, Bit, ExtentKind, Number, GeomKind, Side, Term, Whole};
+use crate::tables::Kind::{self, Bit, ExtentKind, GeomKind, Number, Side, Term, Whole};
 use crate::tables::{
-    COLUMNS_MOST, CUBIC_TABLE, EXTENT_TABLE, GEOM_TABLE, HEIGHT_TABLE, LANE_TABLE, LIST_COUNT,
-    MARK_TABLE, SHAPE_TABLE, STRIP_TABLE, TABLE_COUNT,
+    CUBIC_TABLE, EXTENT_TABLE, GEOM_TABLE, HEIGHT_TABLE, LANE_TABLE, MARK_TABLE, SHAPE_TABLE,
+    STRIP_TABLE,
 };
 use records::layout::{
     MOST_BANKS, MOST_CUBICS, MOST_ELEVS, MOST_EXTENTS, MOST_GEOMS, MOST_HEIGHTS, MOST_LANES,
@@ -14,16 +15,16 @@ use records::layout::{
     WANTS_NEEDED,
 };
 
+// The name of a table, as a number, and the most lines of it.
 #[derive(Clone, Copy)]
 struct Table {
     name: u64,
     limit: u16,
 }
 
-// The tables by number, in their order: their names, and the most lines of each. A constant is made anew where it is read, so what is read for each cell, a
-// list's place and words and a column's kind, stands below in constants of its own, as short as may be: with that, and a line's cells written in place, a
-// job's reading took 82 µs and no longer 190 (docs/PERFORMANCE.md).
-const TABLES: [Table; TABLE_COUNT] = [
+// The tables by number, in their order. Constants that are read for a place are lent slices: an array by value would be made anew wherever it is read,
+// which doubled the time of a job's reading (docs/PERFORMANCE.md).
+const TABLES: &[Table] = &[
     // road
     Table {
         name: 0x726f6164,
@@ -106,15 +107,8 @@ const TABLES: [Table; TABLE_COUNT] = [
     },
 ];
 
-// How many words the tables' columns have, and the keyword columns.
-const COLUMN_WORDS: usize = 71;
-
-const KEYWORD_WORDS: usize = 14;
-
-const ALL_WORDS: usize = COLUMN_WORDS + KEYWORD_WORDS;
-
-// The words of the tables' columns, one table after another. They are the first words of all lists; those of the keyword columns come after them.
-const COLUMNS: [u64; COLUMN_WORDS] = [
+// The words of all lists, one list after another: the columns of each table, then the keyword columns.
+const WORDS: &[u64] = &[
     // road
     0x6c656e677468, // length
     // geom
@@ -202,10 +196,6 @@ const COLUMNS: [u64; COLUMN_WORDS] = [
     // want
     0x73, // s
     0x74, // t
-];
-
-// The words of the keyword columns, one list after another. They are sought cell by cell, so the short constant is kept apart from the long one; why, `TABLES` says.
-const KEYWORDS: [u64; KEYWORD_WORDS] = [
     // kind
     0x6c696e65, // line
     0x617263, // arc
@@ -234,7 +224,7 @@ struct List {
     len: u8,
 }
 
-const LISTS: [List; LIST_COUNT] = [
+const LISTS: &[List] = &[
     List { from: 0, len: 1 }, // road
     List { from: 1, len: 8 }, // geom
     List { from: 9, len: 5 }, // elev
@@ -258,40 +248,31 @@ const LISTS: [List; LIST_COUNT] = [
     List { from: 80, len: 5 }, // term
 ];
 
-// What each column of a table holds, a number where it has no column. The other tables hold numbers alone.
-// Each table has a constant of its own, a short one, as `TABLES` says.
-const GEOM: [Kind; COLUMNS_MOST] = [
-    Number, Number, Number, Number, Number, GeomKind, Number, Number,
-];
+// What the columns of a table hold, up to the last one that is no number. The other tables hold numbers alone.
+const GEOM: &[Kind] = &[Number, Number, Number, Number, Number, GeomKind];
 
-const LANE: [Kind; COLUMNS_MOST] = [
-    Whole, Whole, ExtentKind, Bit, Number, Number, Number, Number,
-];
+const LANE: &[Kind] = &[Whole, Whole, ExtentKind, Bit];
 
 // Extents and heights alike: a section, a lane's id, and numbers.
-const UNDER_LANE: [Kind; COLUMNS_MOST] = [
-    Whole, Whole, Number, Number, Number, Number, Number, Number,
-];
+const UNDER_LANE: &[Kind] = &[Whole, Whole];
 
-const SHAPE: [Kind; COLUMNS_MOST] = [
-    Whole, Number, Number, Number, Number, Number, Number, Number,
-];
+const SHAPE: &[Kind] = &[Whole];
 
-const STRIP: [Kind; COLUMNS_MOST] = [Side, Bit, Bit, Number, Number, Number, Number, Number];
+const STRIP: &[Kind] = &[Side, Bit, Bit];
 
-const CUBIC: [Kind; COLUMNS_MOST] = [Side, Bit, Term, Number, Number, Number, Number, Number];
+const CUBIC: &[Kind] = &[Side, Bit, Term];
 
-const MARK: [Kind; COLUMNS_MOST] = [Whole, Whole, Number, Number, Whole, Number, Number, Number];
+const MARK: &[Kind] = &[Whole, Whole, Number, Number, Whole];
 
-// A table; past the last one none, of no lines. This and `list_of` are not one generic function: it would be lent the whole constant, made for each call.
+// A table; past the last one it has the name 0 and no lines. No Option: the reader asks of the tables in their order alone, so that each question would
+// open one that never is none.
 fn table_of(table: usize) -> Table
     ensures { (result.name ≡ name_of table) × (result.limit ≡ limit_of table) }
 {
-    if table < TABLE_COUNT {
-        TABLES[table]
-    } else {
-        Table { name: 0, limit: 0 }
-    }
+    TABLES
+        .get(table)
+        .copied()
+        .unwrap_or(Table { name: 0, limit: 0 })
 }
 
 // The name of a table as a number; 0, which no word is, past the last table.
@@ -308,29 +289,18 @@ pub fn limit_of(table: usize) -> u16
     table_of(table).limit
 }
 
-// Word i of all lists, 0 past the last.
+// Word i of all lists; 0 past the last, where no list reaches. Of an Option, each word of a list that is tried would be opened, or the word sought wrapped.
 fn word_of(i: usize) -> u64
     ensures { result ≡ word_of i }
 {
-    if i < COLUMN_WORDS {
-        return COLUMNS[i];
-    }
-    if i < ALL_WORDS {
-        KEYWORDS[i - COLUMN_WORDS]
-    } else {
-        0
-    }
+    WORDS.get(i).copied().unwrap_or(0)
 }
 
-// Where a list of words starts, and how many words it has: none past the last list.
+// Where a list of words starts, and how many words it has. Past the last list it has none, which is all that an Option could say.
 fn list_of(list: usize) -> List
     ensures { (result.from ≡ first_of list) × (result.len ≡ word_count list) }
 {
-    if list < LIST_COUNT {
-        LISTS[list]
-    } else {
-        List { from: 0, len: 0 }
-    }
+    LISTS.get(list).copied().unwrap_or(List { from: 0, len: 0 })
 }
 
 // How many words a list has: for a table's number, how many columns. 0 past the last list.
@@ -340,25 +310,29 @@ pub fn count_of(list: usize) -> u8
     list_of(list).len
 }
 
-// What a column of a table holds: past the last column, or the last table, an f64. A match and no array of all tables' kinds, as `TABLES` says.
+// What the columns of a table hold; past the end of the list each holds an f64.
 // Extents and heights have an arm each: of `EXTENT_TABLE | HEIGHT_TABLE` no name tells the proof which number it is.
+fn kinds_of(table: usize) -> &'static [Kind]
+    ensures { (i : ℕ) → kind_by (get_or result.now i Number) ≡ column_kind table i }
+{
+    match table {
+        GEOM_TABLE => GEOM,
+        LANE_TABLE => LANE,
+        EXTENT_TABLE => UNDER_LANE,
+        HEIGHT_TABLE => UNDER_LANE,
+        SHAPE_TABLE => SHAPE,
+        STRIP_TABLE => STRIP,
+        CUBIC_TABLE => CUBIC,
+        MARK_TABLE => MARK,
+        _ => &[],
+    }
+}
+
+// What a column of a table holds: past the last column, or the last table, an f64.
 pub fn kind_of(table: usize, column: usize) -> Kind
     ensures { kind_by result ≡ column_kind table column }
 {
-    if COLUMNS_MOST <= column {
-        return Number;
-    }
-    match table {
-        GEOM_TABLE => GEOM[column],
-        LANE_TABLE => LANE[column],
-        EXTENT_TABLE => UNDER_LANE[column],
-        HEIGHT_TABLE => UNDER_LANE[column],
-        SHAPE_TABLE => SHAPE[column],
-        STRIP_TABLE => STRIP[column],
-        CUBIC_TABLE => CUBIC[column],
-        MARK_TABLE => MARK[column],
-        _ => Number,
-    }
+    kinds_of(table).get(column).copied().unwrap_or(Number)
 }
 
 // The place of a word in a list.

@@ -52,8 +52,6 @@ pub const SIDES: usize = GEOM_KINDS + 3;
 
 pub const TERMS: usize = GEOM_KINDS + 4;
 
-pub const LIST_COUNT: usize = TABLE_COUNT + 5;
-
 // What a column holds: an f64, a whole number, or a word of a list: a geometry's kind; an extent's; the words 0 and 1; a side; a term.
 #[derive(Clone, Copy, Debug, PartialEq, Eq)]
 pub enum Kind {
