@@ -13,7 +13,7 @@ use Rattle.reader_lines.specs.declared.columns.Cells.{Cells}
 use Rattle.reader_store.specs.Layout.{word_lines, word_columns, code_of, one_more, put_at, codes_kept, rule_of, base_of, stride_of}
 use Rattle.reader_store.proofs.Puts.{cells-keep}
 use Rattle.reader_store.specs.Progress.{strip_line}
-use Rattle.reader_store.specs.Parents.{first_if, section_at, section_word, side_word, lane_beside, lane_under, lane_turn, index_of, range_of, parent_of}
+use Rattle.reader_store.specs.Parents.{first_if, section_at, section_word, section_record, side_word, lane_beside, lane_under, lane_turn, index_of, range_of, parent_of}
 use Rattle.reader_store.specs.Keep.{added, in_order, under_words, strip_named, strips_kept, mark_kind, mark_place, mark_put, own_words, ruled_words, kept_words}
 use Rattle.reader_store.specs.declared.layout.Family.{Family}
 use Rattle.reader_store.specs.declared.layout.Family.TheVariants.{Extent, Height, Shape, Cubic, Mark}
@@ -106,7 +106,7 @@ module _ (b : ℕ) (most : b ≤ 71) (t : ℕ) (word-past : 0 < length (word_col
 
   lane-past : (ws : List ℕ) (id : ℕ) (section : Option Ranked) → Past (option_and_then (lane_under ws id) section)
   lane-past ws id None = tt
-  lane-past ws id (Some s) = go (side_word (get_or ws (section_word s.index + 1) 0) (get_or ws (section_word s.index + 2) 0) id)
+  lane-past ws id (Some s) = go (side_word (section_record ws s.index) id)
     where
       go : (side : Option ℕ) → Past (option_map (lane_beside ws s) side)
       go None = tt
