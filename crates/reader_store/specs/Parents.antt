@@ -5,8 +5,9 @@ use Rattle.records.specs.Layout.{section_count_at, profile_count_at, section_wor
 use Rattle.reader_cells.specs.Cells.{whole_bias}
 use Rattle.reader_lines.specs.Columns.{cell_of}
 use Rattle.reader_lines.specs.declared.columns.Cells.{Cells}
-use Rattle.reader_store.specs.Layout.{base_of, stride_of}
+use Rattle.reader_store.specs.Layout.{ranges_of}
 use Rattle.reader_store.specs.Progress.{strip_of, strip_line}
+use Rattle.reader_store.specs.declared.layout.Lines.{Lines}
 use Rattle.reader_store.specs.declared.layout.Family.{Family}
 use Rattle.reader_store.specs.declared.layout.Family.TheVariants.{Shape, Cubic, Mark}
 use Rattle.reader_store.specs.declared.parents.Ranked.{Ranked}
@@ -136,14 +137,14 @@ index_of ws Mark cells strips = mark_index ws (cell_of cells 0) (cell_of cells 1
 index_of ws family cells strips = lane_index ws (cell_of cells 0) (cell_of cells 1)
 
 -- a parent's range (first, count) of lines: a line is the first where the count is 0
-unfoldable pub range_of : List ℕ → ℕ → ℕ → Ranked → Counted
-range_of ws base stride at =
+unfoldable pub range_of : List ℕ → Lines → Ranked → Counted
+range_of ws ranges at =
     record {
       rank = at.rank;
-      first = first_if (eqb (get_or ws (base + at.index * stride + 1) 0) 0) (base + at.index * stride);
-      count = base + at.index * stride + 1;
+      first = first_if (eqb (get_or ws (ranges.first + at.index * ranges.stride + 1) 0) 0) (ranges.first + at.index * ranges.stride);
+      count = ranges.first + at.index * ranges.stride + 1;
     }
 
 -- the parent of a line that its parent has a range of, by the family of its table
 unfoldable pub parent_of : List ℕ → Family → Cells → List (Option ℕ) → Option Counted
-parent_of ws family cells strips = option_map (range_of ws (base_of family) (stride_of family)) (index_of ws family cells strips)
+parent_of ws family cells strips = option_map (range_of ws (ranges_of family)) (index_of ws family cells strips)

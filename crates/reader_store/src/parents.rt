@@ -208,8 +208,8 @@ fn index_of(words: &[u16], family: Family, cells: Cells, strips: Strips) -> Opti
 
 // A parent's range (first, count) of lines.
 #[tactic(auto, unfolding(crate::specs::Parents::range_of))]
-fn range_of(words: &[u16], at: Ranked, ranges: Lines) -> Counted
-    ensures { result ≡ range_of words.now ranges.first ranges.stride at }
+fn range_of(words: &[u16], ranges: Lines, at: Ranked) -> Counted
+    ensures { result ≡ range_of words.now ranges at }
 {
     let first = ranges.line(at.index);
     let count = first + 1;
@@ -232,5 +232,5 @@ pub(crate) fn parent_of(
     ensures { result ≡ parent_of words.now family cells strips }
 {
     let at = index_of(words, family, cells, strips)?;
-    Some(range_of(words, at, family.ranges()))
+    Some(range_of(words, family.ranges(), at))
 }

@@ -14,7 +14,7 @@ use Rattle.std.specs.Prelude.{Option, Some, None, is_some, option_and_then}
 use Rattle.std.proofs.lemmas.Option.{cond_some, option_and_then_some}
 use Rattle.reader_lines.specs.Columns.{cell_of, no_cells}
 use Rattle.reader_lines.specs.declared.columns.Cells.{Cells}
-use Rattle.reader_store.specs.Layout.{code_of, word_columns, cells_kept, codes_kept, rule_of, base_of, stride_of}
+use Rattle.reader_store.specs.Layout.{code_of, word_columns, cells_kept, codes_kept, rule_of, ranges_of}
 use Rattle.reader_store.specs.Parents.{index_at, ranked_among, section_with, lane_among, lane_within, lane_index, mark_lane_in, mark_lane, mark_within, mark_index, index_of, parent_of}
 use Rattle.reader_store.specs.Keep.{mark_kind, mark_place, mark_put, own_words, ruled_words, ruled_progress, kept_words, kept_progress}
 use Rattle.reader_store.specs.declared.layout.Family.TheVariants.{Mark}
@@ -93,7 +93,7 @@ code_same v h = ap (λ (b : Bool). cond b v 65535) (lt-ltb v 65536 h)
 -- ---- a table under the sections, with lanes
 
 pub mark-ranged : Ranged 14 Mark 1347 2 mark_put
-unfolding kept_words ruled_words own_words kept_progress ruled_progress rule_of codes_kept cells_kept word_columns parent_of base_of stride_of
+unfolding kept_words ruled_words own_words kept_progress ruled_progress rule_of codes_kept cells_kept word_columns parent_of ranges_of
 mark-ranged = record { words = λ k c t w. refl; progress = λ k c t w. refl }
 
 -- marks' own words
