@@ -20,7 +20,7 @@ use Rattle.records.specs.Roads.{Lane, road_of, geom_shape_of, geom_in, unused_in
 use Rattle.records.proofs.CubicLaws.{height-count, height_in_lem}
 use Rattle.reader_schema.specs.Tables.{geom_table, elev_table, bank_table, offset_table, tshift_table, section_table, lane_table, extent_table, height_table, profile_table, shape_table, strip_table, cubic_table, mark_table, want_table}
 use Rattle.reader_schema.specs.Schema.{limits, limit_of}
-use Rattle.reader_store.specs.Layout.{number_lines, word_lines, number_columns, word_columns, count_place, base_of, stride_of}
+use Rattle.reader_store.specs.Layout.{number_lines, word_lines, number_columns, word_columns, count_place, ranges_of}
 use Rattle.reader_laws.proofs.ColumnPlaces.{number_place, word_place}
 use Rattle.reader_store.specs.declared.layout.Family.{Family}
 use Rattle.reader_store.specs.declared.layout.Family.TheVariants.{Extent, Height, Shape, Cubic as CubicFamily, Mark as MarkFamily}
@@ -219,10 +219,10 @@ module _ (ws : List ℕ) (ns : List Float) where
 
   -- the range that a reader counts up for a parent, by family
   abbrev pub first_of : Family → ℕ → ℕ
-  first_of family i = get_or ws (base_of family + i * stride_of family) 0
+  first_of family i = get_or ws ((ranges_of family).first + i * (ranges_of family).stride) 0
 
   abbrev pub count_of : Family → ℕ → ℕ
-  count_of family i = get_or ws (base_of family + i * stride_of family + 1) 0
+  count_of family i = get_or ws ((ranges_of family).first + i * (ranges_of family).stride + 1) 0
 
   -- a lane by the places of its words
   abbrev lane_from : ℕ → ℕ → ℕ → ℕ → ℕ → ℕ → Lane
@@ -241,12 +241,12 @@ module _ (ws : List ℕ) (ns : List Float) where
         extents = cubics_in ws ns (number_lines 8).first (first_of Extent j) (count_of Extent j);
         heights = heights_in ws ns (first_of Height j) (count_of Height j);
       }
-  unfolding lane_in number_lines word_lines word_place word_columns base_of stride_of
+  unfolding lane_in number_lines word_lines word_place word_columns ranges_of
   lane-join j = lane-same (119 + j * 6 + 1) (added 119 (j * 6)) (moved 2 119 (j * 6)) (moved2 2 1 119 (j * 6)) (moved 4 119 (j * 6)) (moved2 4 1 119 (j * 6))
 
   -- a section's marks, and a mark: its lane and its kind, its span
   pub marks-join : (i : ℕ) → (section_in ws ns i).marks ≡ tabulate (λ j. mark_in ws ns (first_of MarkFamily i + j)) (count_of MarkFamily i)
-  unfolding section_in base_of stride_of
+  unfolding section_in ranges_of
   marks-join i = refl
 
   pub mark-join : (j : ℕ)
@@ -256,12 +256,12 @@ module _ (ws : List ℕ) (ns : List Float) where
 
   -- a profile: its s and its shapes
   pub profile-join : (i : ℕ) → profile_in ws ns i ≡ record { s = number_of 10 i 0; shapes = cubics_in ws ns (number_lines 11).first (first_of Shape i) (count_of Shape i) }
-  unfolding profile_in number_lines word_lines number_place number_columns base_of stride_of
+  unfolding profile_in number_lines word_lines number_place number_columns ranges_of
   profile-join i = rw (one_more_lem 5841 i)
 
   -- the cubics of a strip's width or of a term: the range that `term_of` counts up
   pub column-join : (i column : ℕ) → column_in ws ns i column ≡ cubics_in ws ns (number_lines 13).first (first_of CubicFamily (i * 11 + column * 2)) (count_of CubicFamily (i * 11 + column * 2))
-  unfolding column_in number_lines word_lines base_of stride_of
+  unfolding column_in number_lines word_lines ranges_of
   column-join i column = ap (λ (p : ℕ). cubics_in ws ns 7137 (get_or ws p 0) (get_or ws (p + 1) 0)) (column-place i column)
 
   -- ---- the lines of a list: each number of a line is that of its column

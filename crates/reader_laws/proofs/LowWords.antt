@@ -10,10 +10,10 @@ use lib.Dec.{eqb}
 use Rattle.std.specs.Prelude.{Option, Some, None, is_some, option_map, option_and_then, IfSome}
 use Rattle.reader_lines.specs.Columns.{cell_of}
 use Rattle.reader_lines.specs.declared.columns.Cells.{Cells}
-use Rattle.reader_store.specs.Layout.{word_lines, word_columns, code_of, one_more, put_at, codes_kept, rule_of, base_of, stride_of}
+use Rattle.reader_store.specs.Layout.{spaced, word_lines, word_columns, code_of, one_more, put_at, codes_kept, rule_of, ranges_of}
 use Rattle.reader_store.proofs.Puts.{cells-keep}
 use Rattle.reader_store.specs.Progress.{strip_line}
-use Rattle.reader_store.specs.Parents.{first_if, section_at, section_word, side_word, lane_beside, lane_under, lane_turn, index_of, range_of, parent_of}
+use Rattle.reader_store.specs.Parents.{first_if, section_at, section_word, section_record, side_word, lane_beside, lane_under, lane_turn, index_of, range_of, parent_of}
 use Rattle.reader_store.specs.Keep.{added, in_order, under_words, strip_named, strips_kept, mark_kind, mark_place, mark_put, own_words, ruled_words, kept_words}
 use Rattle.reader_store.specs.declared.layout.Family.{Family}
 use Rattle.reader_store.specs.declared.layout.Family.TheVariants.{Extent, Height, Shape, Cubic, Mark}
@@ -99,14 +99,14 @@ module _ (b : ℕ) (most : b ≤ 71) (t : ℕ) (word-past : 0 < length (word_col
   first-past false p h = tt
 
   -- the ranges of all families stand past the sections' words
-  range-past : (ws : List ℕ) (base stride : ℕ) → 71 ≤ base → (at : Option Ranked) → Past (option_map (range_of ws base stride) at)
+  range-past : (ws : List ℕ) (base stride : ℕ) → 71 ≤ base → (at : Option Ranked) → Past (option_map (range_of ws (spaced base stride)) at)
   unfolding range_of
   range-past ws base stride h None = tt
   range-past ws base stride h (Some at) = let m = most in (first-past (eqb (get_or ws (base + at.index * stride + 1) 0) 0) (base + at.index * stride) (omega arith), omega arith)
 
   lane-past : (ws : List ℕ) (id : ℕ) (section : Option Ranked) → Past (option_and_then (lane_under ws id) section)
   lane-past ws id None = tt
-  lane-past ws id (Some s) = go (side_word (get_or ws (section_word s.index + 1) 0) (get_or ws (section_word s.index + 2) 0) id)
+  lane-past ws id (Some s) = go (side_word (section_record ws s.index) id)
     where
       go : (side : Option ℕ) → Past (option_map (lane_beside ws s) side)
       go None = tt
@@ -115,12 +115,12 @@ module _ (b : ℕ) (most : b ≤ 71) (t : ℕ) (word-past : 0 < length (word_col
           (first-past (eqb (get_or ws (section_word s.index + 1) 0) 0 && eqb (get_or ws (section_word s.index + 2) 0) 0) (section_word s.index) (omega arith), omega arith)
 
   parent-past : (ws : List ℕ) (family : Family) (cells : Cells) (strips : List (Option ℕ)) → Past (parent_of ws family cells strips)
-  unfolding parent_of base_of
-  parent-past ws Extent cells strips = range-past ws (base_of Extent) (stride_of Extent) (omega arith) (index_of ws Extent cells strips)
-  parent-past ws Height cells strips = range-past ws (base_of Height) (stride_of Height) (omega arith) (index_of ws Height cells strips)
-  parent-past ws Shape cells strips = range-past ws (base_of Shape) (stride_of Shape) (omega arith) (index_of ws Shape cells strips)
-  parent-past ws Cubic cells strips = range-past ws (base_of Cubic) (stride_of Cubic) (omega arith) (index_of ws Cubic cells strips)
-  parent-past ws Mark cells strips = range-past ws (base_of Mark) (stride_of Mark) (omega arith) (index_of ws Mark cells strips)
+  unfolding parent_of ranges_of
+  parent-past ws Extent cells strips = range-past ws (ranges_of Extent).first (ranges_of Extent).stride (omega arith) (index_of ws Extent cells strips)
+  parent-past ws Height cells strips = range-past ws (ranges_of Height).first (ranges_of Height).stride (omega arith) (index_of ws Height cells strips)
+  parent-past ws Shape cells strips = range-past ws (ranges_of Shape).first (ranges_of Shape).stride (omega arith) (index_of ws Shape cells strips)
+  parent-past ws Cubic cells strips = range-past ws (ranges_of Cubic).first (ranges_of Cubic).stride (omega arith) (index_of ws Cubic cells strips)
+  parent-past ws Mark cells strips = range-past ws (ranges_of Mark).first (ranges_of Mark).stride (omega arith) (index_of ws Mark cells strips)
 
   ruled_low : (rule : Option Rule) (k : ℕ) (cells : Cells) (progress : Progress) (ws : List ℕ) → Low b (ruled_words ws rule k cells progress) ws
   unfolding ruled_words lane_turn

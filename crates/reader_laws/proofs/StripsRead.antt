@@ -51,7 +51,7 @@ abbrev progress : Progress
 progress = record { sound = true; last = 0; strips = Some 1 ∷ Some 2 ∷ Some 3 ∷ Some 0 ∷ [] }
 
 strips-taken : taken strips_lines ≡ done 1086 0 progress memory_words memory_numbers memory_wants
-unfolding cells-schema.names cells-schema.name_of cells-schema.limits cells-schema.limit_of cells-schema.words cells-schema.word_of cells-schema.firsts cells-schema.counts cells-schema.first_of cells-schema.word_count cells-schema.kinds cells-schema.column_kind cells-schema.seek cells-schema.place_of cells-schema.listed_place cells-cells.digit_of cells-cells.name_from cells-cells.name_span cells-cells.decimal_from cells-cells.natural_at cells-cells.whole_at cells-cells.hex_from cells-cells.hex_at cells-cells.listed_at cells-cells.cell_at rows-namesline.column_at rows-namesline.names_from rows-namesline.head_at rows-valuesline.stop_of rows-valuesline.values_read rows-valuesline.values_at store-layout.number_lines store-layout.word_lines store-layout.number_columns store-layout.word_columns store-layout.count_place store-layout.rule_of store-layout.base_of store-layout.stride_of store-layout.code_of store-layout.one_more store-layout.cells_kept store-layout.numbers_kept store-layout.codes_kept store-layout.wants_kept store-layout.count_kept store-parents.ranked_among store-parents.side_word store-parents.lane_turn store-parents.lane_among store-parents.lane_index store-parents.mark_lane store-parents.mark_index store-parents.term_of store-parents.index_of store-parents.range_of store-parents.parent_of store-keep.added store-keep.in_order store-keep.under_words store-keep.under_progress store-keep.strips_kept store-keep.strip_progress store-keep.mark_put store-keep.own_words store-keep.ruled_words store-keep.ruled_progress store-keep.kept_words store-keep.kept_progress lines_from table_at counted_progress tables_from zeros zero_numbers
+unfolding cells-schema.names cells-schema.name_of cells-schema.limits cells-schema.limit_of cells-schema.words cells-schema.word_of cells-schema.firsts cells-schema.counts cells-schema.first_of cells-schema.word_count cells-schema.kinds cells-schema.column_kind cells-schema.seek cells-schema.place_of cells-schema.listed_place cells-cells.digit_of cells-cells.name_from cells-cells.name_span cells-cells.decimal_from cells-cells.natural_at cells-cells.whole_at cells-cells.hex_from cells-cells.hex_at cells-cells.listed_at cells-cells.cell_at rows-namesline.column_at rows-namesline.names_from rows-namesline.head_at rows-valuesline.stop_of rows-valuesline.values_read rows-valuesline.values_at store-layout.number_lines store-layout.word_lines store-layout.number_columns store-layout.word_columns store-layout.count_place store-layout.rule_of store-layout.ranges_of store-layout.code_of store-layout.one_more store-layout.cells_kept store-layout.numbers_kept store-layout.codes_kept store-layout.wants_kept store-layout.count_kept store-parents.ranked_among store-parents.side_word store-parents.lane_turn store-parents.lane_among store-parents.lane_index store-parents.mark_lane store-parents.mark_index store-parents.term_of store-parents.index_of store-parents.range_of store-parents.parent_of store-keep.added store-keep.in_order store-keep.under_words store-keep.under_progress store-keep.strips_kept store-keep.strip_progress store-keep.mark_put store-keep.own_words store-keep.ruled_words store-keep.ruled_progress store-keep.kept_words store-keep.kept_progress lines_from table_at counted_progress tables_from zeros zero_numbers
 strips-taken = refl
 
 strips-stands : records-roads.road_of memory_words memory_numbers ≡ strips_road

@@ -88,20 +88,13 @@ rule_of table =
     (cond (eqb table cubic_table) (Some (Child Cubic))
     (cond (eqb table mark_table) (Some (Child Mark)) None))))))
 
--- by family: where the range (first, count) of parent 0 stands among the words, and how many words further that of the next
-unfoldable pub base_of : Family → ℕ
-base_of Extent = lane_words + 2
-base_of Height = lane_words + 4
-base_of Shape = profile_words
-base_of Cubic = strip_words + 1
-base_of Mark = section_mark_words
-
-unfoldable pub stride_of : Family → ℕ
-stride_of Extent = lane_stride
-stride_of Height = lane_stride
-stride_of Shape = profile_stride
-stride_of Cubic = 1
-stride_of Mark = section_mark_stride
+-- by family: where the ranges (first, count) of the parents stand among the words
+unfoldable pub ranges_of : Family → Lines
+ranges_of Extent = spaced (lane_words + 2) lane_stride
+ranges_of Height = spaced (lane_words + 4) lane_stride
+ranges_of Shape = spaced profile_words profile_stride
+ranges_of Cubic = spaced (strip_words + 1) 1
+ranges_of Mark = spaced section_mark_words section_mark_stride
 
 abbrev pub greatest_word : ℕ
 greatest_word = 65535

@@ -5,8 +5,9 @@ use Rattle.records.specs.Layout.{section_count_at, profile_count_at, section_wor
 use Rattle.reader_cells.specs.Cells.{whole_bias}
 use Rattle.reader_lines.specs.Columns.{cell_of}
 use Rattle.reader_lines.specs.declared.columns.Cells.{Cells}
-use Rattle.reader_store.specs.Layout.{base_of, stride_of}
+use Rattle.reader_store.specs.Layout.{ranges_of}
 use Rattle.reader_store.specs.Progress.{strip_of, strip_line}
+use Rattle.reader_store.specs.declared.layout.Lines.{Lines}
 use Rattle.reader_store.specs.declared.layout.Family.{Family}
 use Rattle.reader_store.specs.declared.layout.Family.TheVariants.{Shape, Cubic, Mark}
 use Rattle.reader_store.specs.declared.parents.Ranked.{Ranked}
@@ -46,48 +47,51 @@ left_word = 1
 abbrev pub right_word : ℕ
 right_word = 2
 
--- "Per section ids 1,2.. left then -1,-2.. right": the word that counts the side which a lane adds to, where `left` and `right` lanes stand already; none where it
--- is not this id's turn
-unfoldable pub side_word : ℕ → ℕ → ℕ → Option ℕ
-side_word left right id = cond (eqb id (left + first_left) && eqb right 0) (Some left_word) (cond (eqb (id + right + 1) whole_bias) (Some right_word) None)
+-- the record of a section: its first lane, how many left, how many right
+abbrev pub section_with : ℕ → ℕ → ℕ → SectionRecord
+section_with first left right = record { first = first; left = left; right = right }
+
+-- "Per section ids 1,2.. left then -1,-2.. right": the word that counts the side which a lane of a section adds to; none where it is not this id's turn
+unfoldable pub side_word : SectionRecord → ℕ → Option ℕ
+side_word section id =
+    cond (eqb id (section.left + first_left) && eqb section.right 0) (Some left_word) (cond (eqb (id + section.right + 1) whole_bias) (Some right_word) None)
 
 -- where the record of section s begins
 abbrev pub section_word : ℕ → ℕ
 section_word s = section_words + section_stride * s
 
--- the record of section s: its first lane, how many left, how many right
+-- the record of section s
 abbrev pub section_record : List ℕ → ℕ → SectionRecord
-section_record ws s =
-    record { first = get_or ws (section_word s) 0; left = get_or ws (section_word s + left_word) 0; right = get_or ws (section_word s + right_word) 0 }
+section_record ws s = section_with (get_or ws (section_word s) 0) (get_or ws (section_word s + left_word) 0) (get_or ws (section_word s + right_word) 0)
 
 -- a lane of a side under its section
 abbrev pub lane_beside : List ℕ → Ranked → ℕ → Counted
 lane_beside ws s side =
     record {
       rank = s.rank;
-      first = first_if (eqb (get_or ws (section_word s.index + 1) 0) 0 && eqb (get_or ws (section_word s.index + 2) 0) 0) (section_word s.index);
+      first = first_if (eqb (section_record ws s.index).left 0 && eqb (section_record ws s.index).right 0) (section_word s.index);
       count = section_word s.index + side;
     }
 
 -- a lane under its section, if it is this id's turn
 abbrev pub lane_under : List ℕ → ℕ → Ranked → Option Counted
-lane_under ws id s = option_map (lane_beside ws s) (side_word (get_or ws (section_word s.index + 1) 0) (get_or ws (section_word s.index + 2) 0) id)
+lane_under ws id s = option_map (lane_beside ws s) (side_word (section_record ws s.index) id)
 
 -- a lane under the section that the line names, if it is this id's turn
 unfoldable pub lane_turn : List ℕ → ℕ → ℕ → Option Counted
 lane_turn ws section id = option_and_then (lane_under ws id) (section_at ws section)
 
--- The lane with an id, of a section's first lane and its counts of left and right ones: left ones come first. No lane has the id 0.
-unfoldable pub lane_among : ℕ → ℕ → ℕ → ℕ → Option Ranked
-lane_among first left right id =
+-- The lane with an id, of a section by its record: left ones come first. No lane has the id 0.
+unfoldable pub lane_among : SectionRecord → ℕ → Option Ranked
+lane_among section id =
     cond (eqb id whole_bias) None
     (cond (ltb whole_bias id)
-    (cond (ltb (left + whole_bias) id) None (Some (index_at (first + (id - first_left)))))
-    (cond (ltb (id + right) whole_bias) None (Some (index_at (first + left + (first_right - id))))))
+    (cond (ltb (section.left + whole_bias) id) None (Some (index_at (section.first + (id - first_left)))))
+    (cond (ltb (id + section.right) whole_bias) None (Some (index_at (section.first + section.left + (first_right - id))))))
 
 -- the lane with an id, of a section
 abbrev pub lane_within : List ℕ → ℕ → Ranked → Option Ranked
-lane_within ws id s = lane_among (get_or ws (section_word s.index) 0) (get_or ws (section_word s.index + 1) 0) (get_or ws (section_word s.index + 2) 0) id
+lane_within ws id s = lane_among (section_record ws s.index) id
 
 -- the lane with an id, of the section that the line names
 unfoldable pub lane_index : List ℕ → ℕ → ℕ → Option Ranked
@@ -95,7 +99,7 @@ lane_index ws section id = option_and_then (lane_within ws id) (section_at ws se
 
 -- The place of a mark's lane in its section, counted from 0: `lane_among` with 0 as the first lane.
 abbrev pub mark_lane_in : List ℕ → ℕ → Ranked → Option Ranked
-mark_lane_in ws id s = lane_among 0 (get_or ws (section_word s.index + 1) 0) (get_or ws (section_word s.index + 2) 0) id
+mark_lane_in ws id s = lane_among (section_with 0 (section_record ws s.index).left (section_record ws s.index).right) id
 
 -- The place of a mark's lane in the section that the line names. Where that is not there section 0 stands in for it: a mark's words are kept all the same, and its
 -- lane's means nothing.
@@ -133,14 +137,14 @@ index_of ws Mark cells strips = mark_index ws (cell_of cells 0) (cell_of cells 1
 index_of ws family cells strips = lane_index ws (cell_of cells 0) (cell_of cells 1)
 
 -- a parent's range (first, count) of lines: a line is the first where the count is 0
-unfoldable pub range_of : List ℕ → ℕ → ℕ → Ranked → Counted
-range_of ws base stride at =
+unfoldable pub range_of : List ℕ → Lines → Ranked → Counted
+range_of ws ranges at =
     record {
       rank = at.rank;
-      first = first_if (eqb (get_or ws (base + at.index * stride + 1) 0) 0) (base + at.index * stride);
-      count = base + at.index * stride + 1;
+      first = first_if (eqb (get_or ws (ranges.first + at.index * ranges.stride + 1) 0) 0) (ranges.first + at.index * ranges.stride);
+      count = ranges.first + at.index * ranges.stride + 1;
     }
 
 -- the parent of a line that its parent has a range of, by the family of its table
 unfoldable pub parent_of : List ℕ → Family → Cells → List (Option ℕ) → Option Counted
-parent_of ws family cells strips = option_map (range_of ws (base_of family) (stride_of family)) (index_of ws family cells strips)
+parent_of ws family cells strips = option_map (range_of ws (ranges_of family)) (index_of ws family cells strips)

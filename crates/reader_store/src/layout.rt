@@ -2,7 +2,7 @@
 // would name six things, most of them none. Where a table has no numbers, or no words, no column holds one, and nothing is kept wherever its lines are said to
 // stand: an Option of where they stand would say a second time what the columns say.
 ghost use Rattle.std.specs.Prelude.{◌≡◌, ◌+◌, ◌*◌, ◌<◌};
-ghost use Rattle.reader_store.specs.Layout.{spaced, number_lines, word_lines, number_columns, word_columns, count_place, rule_of, base_of, stride_of};
+ghost use Rattle.reader_store.specs.Layout.{spaced, number_lines, word_lines, number_columns, word_columns, count_place, rule_of, ranges_of};
 
 use reader_schema::tables::{
     BANK_TABLE, CUBIC_TABLE, ELEV_TABLE, EXTENT_TABLE, GEOM_TABLE, HEIGHT_TABLE, LANE_TABLE,
@@ -90,9 +90,9 @@ pub enum Rule {
 
 impl Family {
     // Where the ranges (first, count) of the parents stand among the words.
-    #[tactic(auto, unfolding(crate::specs::Layout::base_of, crate::specs::Layout::stride_of))]
+    #[tactic(auto, unfolding(crate::specs::Layout::ranges_of))]
     pub(crate) fn ranges(self) -> Lines
-        ensures { (result.first ≡ base_of self) × (result.stride ≡ stride_of self) }
+        ensures { result ≡ ranges_of self }
     {
         match self {
             Family::Extent => Lines::spaced(LANE_WORDS + 2, LANE_STRIDE),

@@ -8,9 +8,9 @@ mod memory;
 mod parents;
 mod progress;
 
-// The laws above speak of a table's rule and of a line's parent.
+// The laws above speak of a table's rule, of a line's parent and of a section's record.
 pub use columns::TableLine;
 pub use layout::{Family, Rule};
 pub use lines::{end_table, keep_line};
-pub use parents::{Counted, Ranked};
+pub use parents::{Counted, Ranked, SectionRecord};
 pub use progress::{Progress, Strips, start_progress};

@@ -29,16 +29,15 @@ fn keep_under(words: &mut [u16], k: u16, parent: Option<Counted>, progress: Prog
     ensures value { result ≡ under_progress parent progress }
     ensures words_after { words.new ≡ under_words words.old k parent progress }
 {
-    let Some(parent) = parent else {
-        return progress.unsound();
-    };
-    if parent.rank < progress.last {
-        return progress.unsound();
-    }
-    add(words, k, parent);
-    Progress {
-        last: parent.rank,
-        ..progress
+    match parent {
+        Some(parent) if progress.last <= parent.rank => {
+            add(words, k, parent);
+            Progress {
+                last: parent.rank,
+                ..progress
+            }
+        }
+        _ => progress.unsound(),
     }
 }
 

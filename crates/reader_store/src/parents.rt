@@ -75,7 +75,7 @@ fn section_of(words: &[u16], section: u64) -> Option<Ranked>
 
 // A section's record among the words: its first lane, how many left, how many right.
 #[derive(Clone, Copy, Debug, PartialEq, Eq)]
-pub(crate) struct SectionRecord {
+pub struct SectionRecord {
     pub first: u16,
     pub left: u16,
     pub right: u16,
@@ -108,7 +108,7 @@ fn section_record(words: &[u16], s: u32) -> SectionRecord
 // The word of a section's record that counts the side which a lane of this id adds to; none where it is not this id's turn.
 #[tactic(auto, unfolding(crate::specs::Parents::side_word))]
 fn side_word(section: SectionRecord, id: u64) -> Option<usize>
-    ensures { result ≡ side_word section.left section.right id }
+    ensures { result ≡ side_word section id }
 {
     if (id == section.left as u64 + FIRST_LEFT) & (section.right == 0) {
         return Some(LEFT_WORD);
@@ -137,7 +137,7 @@ pub(crate) fn lane_turn(words: &[u16], cells: Cells) -> Option<Counted>
 // The lane of a section with an id. From the centre out: left ones count up from 1, right ones down from -1, so the id 0 is on neither side.
 #[tactic(auto, unfolding(crate::specs::Parents::lane_among))]
 fn lane_by(section: SectionRecord, id: u64) -> Option<Ranked>
-    ensures { result ≡ lane_among section.first section.left section.right id }
+    ensures { result ≡ lane_among section id }
 {
     let SectionRecord { first, left, right } = section;
     if let Some(k) = id.checked_sub(FIRST_LEFT) {
@@ -208,8 +208,8 @@ fn index_of(words: &[u16], family: Family, cells: Cells, strips: Strips) -> Opti
 
 // A parent's range (first, count) of lines.
 #[tactic(auto, unfolding(crate::specs::Parents::range_of))]
-fn range_of(words: &[u16], at: Ranked, ranges: Lines) -> Counted
-    ensures { result ≡ range_of words.now ranges.first ranges.stride at }
+fn range_of(words: &[u16], ranges: Lines, at: Ranked) -> Counted
+    ensures { result ≡ range_of words.now ranges at }
 {
     let first = ranges.line(at.index);
     let count = first + 1;
@@ -232,5 +232,5 @@ pub(crate) fn parent_of(
     ensures { result ≡ parent_of words.now family cells strips }
 {
     let at = index_of(words, family, cells, strips)?;
-    Some(range_of(words, at, family.ranges()))
+    Some(range_of(words, family.ranges(), at))
 }

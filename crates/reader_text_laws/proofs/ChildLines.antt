@@ -14,12 +14,13 @@ use Rattle.reader_store.specs.Parents.{index_at, section_at, ranked_among, lane_
 use Rattle.reader_store.specs.declared.layout.Family.{Family}
 use Rattle.reader_store.specs.declared.layout.Family.TheVariants.{Extent, Height, Shape}
 use Rattle.reader_store.specs.declared.parents.Ranked.{Ranked}
+use Rattle.reader_store.specs.declared.parents.SectionRecord.{SectionRecord}
 use Rattle.reader_store.specs.declared.progress.Progress.{Progress}
 use Rattle.reader_laws.specs.Lines.{lines_of}
 use Rattle.reader_laws.proofs.LineLimits.{line_limits}
 use Rattle.reader_text_laws.specs.Said.{under, of_lane}
 use Rattle.reader_text_laws.specs.Family.{Follow}
-use Rattle.reader_text_laws.proofs.ParentCases.{found, There, there, counted-there}
+use Rattle.reader_text_laws.proofs.ParentCases.{found, There, there, counted-there, section_record-same}
 use Rattle.reader_text_laws.proofs.Those.{pair-tells, pair-holds, Part, part_same}
 use Rattle.reader_text_laws.proofs.Folds.{track_after, words_after, State, Step}
 use Rattle.reader_text_laws.proofs.States.{Reading, state-long, blank, blank-strips, still-10}
@@ -46,9 +47,6 @@ index-lane : (us : List ℕ) (cells : Cells) (strips : List (Option ℕ))
 unfolding index_of
 index-lane us cells strips = (refl, refl, refl)
 
-pub by-same : {a b c a' b' c' : ℕ} (id : ℕ) → a ≡ a' → b ≡ b' → c ≡ c' → lane_among a b c id ≡ lane_among a' b' c' id
-by-same id p q r = cc
-
 -- what depends on the sections' words alone, of the section that a line names
 module _ {A : Type 0} (us zs : List ℕ) (section : ℕ) (e : get_or us 5 0 ≡ get_or zs 5 0) (small : get_or zs 5 0 ≤ 16) (f g : Ranked → Option A) where
   pub section-same : ((s : ℕ) → s < 16 → f (index_at s) ≡ g (index_at s)) → option_and_then f (section_at us section) ≡ option_and_then g (section_at zs section)
@@ -62,7 +60,7 @@ lane_of-same : (us zs : List ℕ) (section id : ℕ) → get_or us 5 0 ≡ get_o
 unfolding lane_index
 lane_of-same us zs section id e small same =
     section-same us zs section e small (lane_within us id) (lane_within zs id)
-    (λ s h. by-same id (same (71 + 3 * s) (omega arith) (omega arith)) (same (71 + 3 * s + 1) (omega arith) (omega arith)) (same (71 + 3 * s + 2) (omega arith) (omega arith)))
+    (λ s h. section_record-same (λ (r : SectionRecord). lane_among r id) (same (71 + 3 * s) (omega arith) (omega arith)) (same (71 + 3 * s + 1) (omega arith) (omega arith)) (same (71 + 3 * s + 2) (omega arith) (omega arith)))
 
 -- ---- a table under the lanes
 

@@ -14,7 +14,7 @@ use Rattle.records_lent.specs.Lists.{tabulate, span}
 use Rattle.records_lent.proofs.TableLaws.{length-table, table_at, span-at}
 use Rattle.reader_lines.specs.Columns.{cell_of, no_cells}
 use Rattle.reader_lines.specs.declared.columns.Cells.{Cells}
-use Rattle.reader_store.specs.Parents.{left_word, right_word, side_word}
+use Rattle.reader_store.specs.Parents.{section_record, left_word, right_word, side_word}
 use Rattle.std.specs.Prelude.{Option, Some}
 use Rattle.std.specs.Cmp.Derive.{both_true}
 use Rattle.std.proofs.lemmas.List.{get_or_append_left, get_or-append-add}
@@ -221,7 +221,7 @@ module _ (all : List Cells) (S : ℕ) (strips : List (Option ℕ)) (ws : List �
   here : id_in all k ≡ get_or (ids_of n m) c 0
   here = ap (id_in all) (sym begun.sum) ∙ (id-at c (omega arith)).1
 
-  pub id-turn : (side : ℕ) × (side_word L R (id_in all k) ≡ Some side)
+  pub id-turn : (side : ℕ) × (side_word (section_record us s) (id_in all k) ≡ Some side)
   id-turn = go (ltb c n) refl
     where
       room : c < n + m
@@ -252,13 +252,13 @@ module _ (all : List Cells) (S : ℕ) (strips : List (Option ℕ)) (ws : List �
               plain n = omega arith
           by false false p q = let x = ltb-false L n p in let y = ltb-false n L q in omega arith
 
-      go : (b : Bool) → ltb c n ≡ b → (side : ℕ) × (side_word L R (id_in all k) ≡ Some side)
+      go : (b : Bool) → ltb c n ≡ b → (side : ℕ) × (side_word (section_record us s) (id_in all k) ≡ Some side)
       go true e =
           let l = ltb-true c n e in
           let r = none_right l in
           let i = here in
           let d = ids-left n m c l in
-          (left_word, side_left L R (id_in all k) (both_true (eq-eqb (id_in all k) (L + 10001) (omega arith)) (eq-eqb R 0 r)))
+          (left_word, side_left (section_record us s) (id_in all k) (both_true (eq-eqb (id_in all k) (L + 10001) (omega arith)) (eq-eqb R 0 r)))
       go false e =
           let g = ltb-false c n e in
           let l = all_left g in
@@ -268,7 +268,7 @@ module _ (all : List Cells) (S : ℕ) (strips : List (Option ℕ)) (ws : List �
           let w : get_or (ids_of n m) c 0 ≡ 9999 - R = ap (λ (q : ℕ). get_or (ids_of n m) q 0) (ap (λ (q : ℕ). q + R) l) ∙ d in
           let b = inv.spans.below s known in
           let low : id_in all k < 10000 = omega arith in
-          (right_word, side_right L R (id_in all k) (not_left low (eqb R 0)) (omega arith))
+          (right_word, side_right (section_record us s) (id_in all k) (not_left low (eqb R 0)) (omega arith))
         where
           not_left : id_in all k < 10000 → (b : Bool) → eqb (id_in all k) (L + 10001) && b ≡ false
           not_left low b = ap (λ (x : Bool). x && b) (ne_eqb (id_in all k) (L + 10001) (λ z. omega arith))

@@ -13,8 +13,9 @@ use Rattle.std.proofs.lemmas.Option.{none-some, same_Some, option_and_then_some}
 use borrow.Author.Tests.{ltb-true, ltb-false, eqb-true, eqb-false, eq-eqb, lt-ltb}
 use Rattle.reader_lines.specs.Columns.{cell_of, no_cells}
 use Rattle.reader_lines.specs.declared.columns.Cells.{Cells}
-use Rattle.reader_store.specs.Parents.{index_at, section_at, lane_among, lane_within, lane_index}
+use Rattle.reader_store.specs.Parents.{index_at, section_at, section_record, lane_among, lane_within, lane_index}
 use Rattle.reader_store.specs.declared.parents.Ranked.{Ranked}
+use Rattle.reader_store.specs.declared.parents.SectionRecord.{SectionRecord}
 use Rattle.reader_store.specs.declared.progress.Progress.{Progress}
 use Rattle.reader_text_laws.proofs.ParentCases.{counted-in, counted-there, by_left, by_right}
 use Rattle.reader_text_laws.specs.Said.{under, left_under, right_under}
@@ -22,18 +23,19 @@ use Rattle.reader_text_laws.proofs.Those.{Part}
 use Rattle.reader_text_laws.proofs.Lanes.{first_at, lefts_at, rights_at, section_in, id_in, Lanes}
 
 -- a lane that is there is a left one or a right one, and its place is that of its id
-pub among_cases : {A : Type 0} (first left right id : ℕ) (x : Ranked) → lane_among first left right id ≡ Some x
-    → (10000 < id → id ≤ left + 10000 → x ≡ index_at (first + (id - 10001)) → A) → (id < 10000 → 10000 ≤ id + right → x ≡ index_at (first + left + (9999 - id)) → A) → A
+pub among_cases : {A : Type 0} (section : SectionRecord) (id : ℕ) (x : Ranked) → lane_among section id ≡ Some x
+    → (10000 < id → id ≤ section.left + 10000 → x ≡ index_at (section.first + (id - 10001)) → A)
+    → (id < 10000 → 10000 ≤ id + section.right → x ≡ index_at (section.first + section.left + (9999 - id)) → A) → A
 unfolding lane_among
-among_cases {A} first left right id x t l r = go (eqb id 10000) (ltb 10000 id) (ltb (left + 10000) id) (ltb (id + right) 10000) refl refl refl refl t
+among_cases {A} section id x t l r = go (eqb id 10000) (ltb 10000 id) (ltb (section.left + 10000) id) (ltb (id + section.right) 10000) refl refl refl refl t
   where
-    go : (a b c d : Bool) → eqb id 10000 ≡ a → ltb 10000 id ≡ b → ltb (left + 10000) id ≡ c → ltb (id + right) 10000 ≡ d
-        → cond a None (cond b (cond c None (Some (index_at (first + (id - 10001))))) (cond d None (Some (index_at (first + left + (9999 - id)))))) ≡ Some x → A
+    go : (a b c d : Bool) → eqb id 10000 ≡ a → ltb 10000 id ≡ b → ltb (section.left + 10000) id ≡ c → ltb (id + section.right) 10000 ≡ d
+        → cond a None (cond b (cond c None (Some (index_at (section.first + (id - 10001))))) (cond d None (Some (index_at (section.first + section.left + (9999 - id)))))) ≡ Some x → A
     go true b c d p q u v e = absurd (none-some x e)
     go false true true d p q u v e = absurd (none-some x e)
-    go false true false d p q u v e = l (ltb-true 10000 id q) (ltb-false (left + 10000) id u) (sym (same_Some (index_at (first + (id - 10001))) x e))
+    go false true false d p q u v e = l (ltb-true 10000 id q) (ltb-false (section.left + 10000) id u) (sym (same_Some (index_at (section.first + (id - 10001))) x e))
     go false false c true p q u v e = absurd (none-some x e)
-    go false false c false p q u v e = r (let m = ltb-false 10000 id q in let n = eqb-false id 10000 p in omega arith) (ltb-false (id + right) 10000 v) (sym (same_Some (index_at (first + left + (9999 - id))) x e))
+    go false false c false p q u v e = r (let m = ltb-false 10000 id q in let n = eqb-false id 10000 p in omega arith) (ltb-false (id + section.right) 10000 v) (sym (same_Some (index_at (section.first + section.left + (9999 - id))) x e))
 
 -- the sections' words and the lines, in words that may have changed elsewhere
 pub record LaneRows (all : List Cells) (S : ℕ) (us : List ℕ) : Type 0 where
@@ -157,7 +159,7 @@ module _ (all : List Cells) (S : ℕ) (us : List ℕ) (rows : LaneRows all S us)
 
     named_by : (x : Ranked) → lane_within us id (index_at s) ≡ Some x → Named section id x
     named_by x t =
-        among_cases (first_at us s) (lefts_at us s) (rights_at us s) id x t
+        among_cases (section_record us s) id x t
         (λ a b e.
         let w = rows.lefts s (first_at us s + (id - 10001)) known (omega arith) (omega arith) in
         subst (Named section id) (sym e) (named-at (first_at us s + (id - 10001)) (omega arith) (omega arith) (omega arith)))
@@ -190,9 +192,9 @@ module _ (all : List Cells) (S : ℕ) (us : List ℕ) (rows : LaneRows all S us)
           let a = (rows.into j h).0 in
           let d = ltb-true j (first_at us q + lefts_at us q) f in
           let w = rows.lefts q j (rows.known j h) a d in
-          by_left (first_at us q) (lefts_at us q) (rights_at us q) (id_in all j) (omega arith) (omega arith) ∙ here (first_at us q + (id_in all j - 10001)) (omega arith)
+          by_left (section_record us q) (id_in all j) (omega arith) (omega arith) ∙ here (first_at us q + (id_in all j - 10001)) (omega arith)
       go false f =
           let a = (rows.into j h).1 in
           let d = ltb-false j (first_at us q + lefts_at us q) f in
           let w = rows.rights q j (rows.known j h) d a in
-          by_right (first_at us q) (lefts_at us q) (rights_at us q) (id_in all j) (omega arith) (omega arith) ∙ here (first_at us q + lefts_at us q + (9999 - id_in all j)) (omega arith)
+          by_right (section_record us q) (id_in all j) (omega arith) (omega arith) ∙ here (first_at us q + lefts_at us q + (9999 - id_in all j)) (omega arith)

@@ -17,12 +17,13 @@ use Rattle.std.proofs.lemmas.Option.{option_and_then_some}
 use Rattle.reader_lines.specs.Columns.{cell_of, no_cells}
 use Rattle.reader_lines.specs.declared.columns.Cells.{Cells}
 use Rattle.reader_store.specs.Layout.{word_lines, one_more, code_of, word_columns, cells_kept, codes_kept, rule_of}
-use Rattle.reader_store.specs.Parents.{index_at, section_at, side_word, lane_beside, lane_under, lane_turn}
+use Rattle.reader_store.specs.Parents.{index_at, section_at, section_record, side_word, lane_beside, lane_under, lane_turn}
 use Rattle.reader_store.specs.Keep.{added, under_words, under_progress, ruled_words, ruled_progress, kept_words, kept_progress}
 use Rattle.reader_store.specs.declared.parents.Ranked.{Ranked}
+use Rattle.reader_store.specs.declared.parents.SectionRecord.{SectionRecord}
 use Rattle.reader_store.specs.declared.parents.Counted.{Counted}
 use Rattle.reader_store.specs.declared.progress.Progress.{Progress}
-use Rattle.reader_text_laws.proofs.ParentCases.{map_some, counted-in, counted-there}
+use Rattle.reader_text_laws.proofs.ParentCases.{map_some, counted-in, counted-there, section_record-same}
 use Rattle.reader_store.proofs.SideLaw.{side-cases}
 use Rattle.reader_text_laws.proofs.Spans.{Spans, spans-start, spans-next, whole}
 use Rattle.reader_text_laws.proofs.Folds.{track_after, words_after, after-lines, right-lines}
@@ -32,12 +33,12 @@ use Rattle.reader_text_laws.proofs.Ranges.{held_by, Under, under-there, under-so
 
 -- a lane whose turn it is: its section is there, and it has a side
 turn_there : {P : Type 0} (ws : List ℕ) (section id : ℕ) (parent : Counted) → lane_turn ws section id ≡ Some parent
-    → ((side : ℕ) → (10000 ≤ section) × (section - 10000 < get_or ws 5 0) → side_word (get_or ws (71 + 3 * (section - 10000) + 1) 0) (get_or ws (71 + 3 * (section - 10000) + 2) 0) id ≡ Some side → lane_beside ws (index_at (section - 10000)) side ≡ parent → P) → P
+    → ((side : ℕ) → (10000 ≤ section) × (section - 10000 < get_or ws 5 0) → side_word (section_record ws (section - 10000)) id ≡ Some side → lane_beside ws (index_at (section - 10000)) side ≡ parent → P) → P
 unfolding lane_turn
 turn_there {P} ws section id parent e go = option_and_then_some (lane_under ws id) (section_at ws section) parent e (λ s f g. let c = counted-there section (get_or ws 5 0) s f in at (c.0, c.1) (subst (λ (s : Ranked). lane_under ws id s ≡ Some parent) c.2 g))
   where
     at : (10000 ≤ section) × (section - 10000 < get_or ws 5 0) → lane_under ws id (index_at (section - 10000)) ≡ Some parent → P
-    at h f = map_some (lane_beside ws (index_at (section - 10000))) (side_word (get_or ws (71 + 3 * (section - 10000) + 1) 0) (get_or ws (71 + 3 * (section - 10000) + 2) 0) id) parent f (λ side g i. go side h g i)
+    at h f = map_some (lane_beside ws (index_at (section - 10000))) (side_word (section_record ws (section - 10000)) id) parent f (λ side g i. go side h g i)
 
 lane_words_lem : (k : ℕ) (cells : Cells) (us : List ℕ) → codes_kept 7 k cells us ≡ set (set us (119 + k * 6) (code_of (cell_of cells 2))) (119 + k * 6 + 1) (code_of (cell_of cells 3))
 unfolding codes_kept cells_kept word_columns word_lines
@@ -292,12 +293,12 @@ module _ (all : List Cells) (S : ℕ) (strips : List (Option ℕ)) (ws : List �
       unfolding added
       lane-added side = ap (λ (zs : List ℕ). set zs (71 + 3 * s + side) (one_more (get_or us1 (71 + 3 * s + side) 0))) (first-put (eqb (get_or us1 (71 + 3 * s + 1) 0) 0 && eqb (get_or us1 (71 + 3 * s + 2) 0) 0) (71 + 3 * s) k us1)
 
-      lane-turned : (side : ℕ) → side_word (get_or us1 (71 + 3 * s + 1) 0) (get_or us1 (71 + 3 * s + 2) 0) (cell_of cells 1) ≡ Some side → Under us1 k (lane side) progress
+      lane-turned : (side : ℕ) → side_word (section_record us1 s) (cell_of cells 1) ≡ Some side → Under us1 k (lane side) progress
           → Lanes all S strips ws (k + 1) (under_progress (Some (lane side)) progress) (under_words us1 k (Some (lane side)) progress)
       lane-turned side turn u =
           subst (λ (y : Progress). Lanes all S strips ws (k + 1) y (under_words us1 k (Some (lane side)) progress)) (sym u.held)
           (subst (λ (zs : List ℕ). Lanes all S strips ws (k + 1) (held_by (lane side) progress) zs) (sym (u.words ∙ lane-added side))
-          (side-cases (get_or us1 (71 + 3 * s + 1) 0) (get_or us1 (71 + 3 * s + 2) 0) (cell_of cells 1) side turn
+          (side-cases (section_record us1 s) (cell_of cells 1) side turn
           (λ e id none. let a = one-low (71 + 3 * s + 1) (omega arith) in let b = one-low (71 + 3 * s + 2) (omega arith) in subst Next e (left-line (omega arith) (omega arith)))
           (λ e id. let b = one-low (71 + 3 * s + 2) (omega arith) in subst Next e (right-line (omega arith)))))
 
@@ -348,7 +349,7 @@ module _ (all : List Cells) (S : ℕ) (strips : List (Option ℕ)) (ws : List �
 
   -- a table whose lines all name sections, in their order, and have the id whose turn it is, is sound
   module _ (there : (k : ℕ) → k < length all → (10000 ≤ cell_of (get_or all k no_cells) 0) × (section_in all k < S)) (rising : (k : ℕ) → suc k < length all → section_in all k ≤ section_in all (suc k))
-      (turn : (k : ℕ) (progress : Progress) (us : List ℕ) → k < length all → Lanes all S strips ws k progress us → (side : ℕ) × (side_word (lefts_at us (section_in all k)) (rights_at us (section_in all k)) (id_in all k) ≡ Some side)) where
+      (turn : (k : ℕ) (progress : Progress) (us : List ℕ) → k < length all → Lanes all S strips ws k progress us → (side : ℕ) × (side_word (section_record us (section_in all k)) (id_in all k) ≡ Some side)) where
     abbrev Right : ℕ → Progress → List ℕ → Type 0
     Right k progress us = Lanes all S strips ws k progress us × (progress.sound ≡ true) × (k ≡ 0 → progress.last ≡ 0)
 
@@ -375,11 +376,10 @@ module _ (all : List Cells) (S : ℕ) (strips : List (Option ℕ)) (ws : List �
         side : ℕ
         side = (turn k progress us h p.0).0
 
-        turned : side_word (get_or zs (71 + 3 * s + 1) 0) (get_or zs (71 + 3 * s + 2) 0) (cell_of r 1) ≡ Some side
+        turned : side_word (section_record zs s) (cell_of r 1) ≡ Some side
         turned =
             let b = (there k h).1 in
-            ap (λ (q : ℕ). side_word q (get_or zs (71 + 3 * s + 2) 0) (cell_of r 1)) (low (71 + 3 * s + 1) (omega arith))
-            ∙ ap (λ (q : ℕ). side_word (get_or us (71 + 3 * s + 1) 0) q (cell_of r 1)) (low (71 + 3 * s + 2) (omega arith)) ∙ (turn k progress us h p.0).1
+            section_record-same (λ (q : SectionRecord). side_word q (cell_of r 1)) (low (71 + 3 * s) (omega arith)) (low (71 + 3 * s + 1) (omega arith)) (low (71 + 3 * s + 2) (omega arith)) ∙ (turn k progress us h p.0).1
 
         lane : lane_turn zs (cell_of r 0) (cell_of r 1) ≡ Some (lane_beside zs (index_at s) side)
         lane =

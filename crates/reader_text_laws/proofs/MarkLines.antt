@@ -14,29 +14,30 @@ use Rattle.std.specs.Prelude.{Option, Some, None, is_some, option_and_then}
 use Rattle.std.proofs.lemmas.Option.{cond_some, option_and_then_some}
 use Rattle.reader_lines.specs.Columns.{cell_of, no_cells}
 use Rattle.reader_lines.specs.declared.columns.Cells.{Cells}
-use Rattle.reader_store.specs.Layout.{code_of, word_columns, cells_kept, codes_kept, rule_of, base_of, stride_of}
-use Rattle.reader_store.specs.Parents.{index_at, ranked_among, lane_among, lane_within, lane_index, mark_lane_in, mark_lane, mark_within, mark_index, index_of, parent_of}
+use Rattle.reader_store.specs.Layout.{code_of, word_columns, cells_kept, codes_kept, rule_of, ranges_of}
+use Rattle.reader_store.specs.Parents.{index_at, ranked_among, section_with, lane_among, lane_within, lane_index, mark_lane_in, mark_lane, mark_within, mark_index, index_of, parent_of}
 use Rattle.reader_store.specs.Keep.{mark_kind, mark_place, mark_put, own_words, ruled_words, ruled_progress, kept_words, kept_progress}
 use Rattle.reader_store.specs.declared.layout.Family.TheVariants.{Mark}
 use Rattle.reader_store.specs.declared.parents.Ranked.{Ranked}
+use Rattle.reader_store.specs.declared.parents.SectionRecord.{SectionRecord}
 use Rattle.reader_store.specs.declared.progress.Progress.{Progress}
 use Rattle.reader_laws.specs.Lines.{lines_of}
 use Rattle.reader_laws.proofs.LineLimits.{line_limits}
 use Rattle.reader_text_laws.specs.Said.{under, place_said}
-use Rattle.reader_text_laws.proofs.ParentCases.{found, There, there_if, counted-in, counted-there}
+use Rattle.reader_text_laws.proofs.ParentCases.{found, There, there_if, counted-in, counted-there, section_record-same}
 use Rattle.reader_text_laws.proofs.Those.{Part, part_same}
 use Rattle.reader_text_laws.proofs.Folds.{track_after, words_after, after-lines, State, Step}
 use Rattle.reader_text_laws.proofs.States.{Reading, state-long, still-15}
 use Rattle.reader_text_laws.proofs.Ranges.{Ranged, Owned, Outside, Parents, Kept, kept-start, range-line, line-own}
 use Rattle.reader_text_laws.proofs.Lanes.{lefts_at, rights_at}
 use Rattle.reader_text_laws.proofs.LaneLines.{among_cases, LaneRows}
-use Rattle.reader_text_laws.proofs.ChildLines.{kept-part, by-same, section-same, lane_as, sections-few, lanes-few, profiles-few, lanes-after, frame-8, frame-9, frame-10, frame-11}
+use Rattle.reader_text_laws.proofs.ChildLines.{kept-part, section-same, lane_as, sections-few, lanes-few, profiles-few, lanes-after, frame-8, frame-9, frame-10, frame-11}
 use Rattle.reader_text_laws.proofs.StripLines.{end-12, blank-14}
 
 -- ---- the lane of a mark, by its place among those of its section
 
 -- it is there wherever the section's lanes begin
-among_there : (left right id first : ℕ) → is_some (lane_among 0 left right id) ≡ is_some (lane_among first left right id)
+among_there : (left right id first : ℕ) → is_some (lane_among (section_with 0 left right) id) ≡ is_some (lane_among (section_with first left right) id)
 unfolding lane_among
 among_there left right id first = go (eqb id 10000) (ltb 10000 id) (ltb (left + 10000) id) (ltb (id + right) 10000)
   where
@@ -50,9 +51,9 @@ among_there left right id first = go (eqb id 10000) (ltb 10000 id) (ltb (left + 
     go false false c true = refl
     go false false c false = refl
 
-among-place : (left right id : ℕ) (x : Ranked) → lane_among 0 left right id ≡ Some x → (x.index ≡ place_said left id) × (x.index < left + right)
+among-place : (left right id : ℕ) (x : Ranked) → lane_among (section_with 0 left right) id ≡ Some x → (x.index ≡ place_said left id) × (x.index < left + right)
 among-place left right id x t =
-    among_cases 0 left right id x t
+    among_cases (section_with 0 left right) id x t
     (λ a b e.
     let i = ap (λ (n : Ranked). n.index) e in
     ((let z : x.index ≡ id - 10001 = omega arith in z) ∙ ap (λ (b : Bool). cond b (id - 10001) (left + (9999 - id))) (sym (lt-ltb 10000 id a)), omega arith))
@@ -70,7 +71,7 @@ counted-small number n h = go (ranked_among number n) refl
 -- it depends on the sections' words alone
 module _ (us zs : List ℕ) (section id : ℕ) (e : get_or us 5 0 ≡ get_or zs 5 0) (small : get_or zs 5 0 ≤ 16) (same : (p : ℕ) → 71 ≤ p → p < 119 → get_or us p 0 ≡ get_or zs p 0) where
   within_same : (s : Ranked) → s.index < 16 → mark_lane_in us id s ≡ mark_lane_in zs id s
-  within_same s h = by-same id refl (same (71 + 3 * s.index + 1) (omega arith) (omega arith)) (same (71 + 3 * s.index + 2) (omega arith) (omega arith))
+  within_same s h = section_record-same (λ (r : SectionRecord). lane_among r id) refl (same (71 + 3 * s.index + 1) (omega arith) (omega arith)) (same (71 + 3 * s.index + 2) (omega arith) (omega arith))
 
   lane-same : mark_lane us section id ≡ mark_lane zs section id
   unfolding mark_lane
@@ -92,7 +93,7 @@ code_same v h = ap (λ (b : Bool). cond b v 65535) (lt-ltb v 65536 h)
 -- ---- a table under the sections, with lanes
 
 pub mark-ranged : Ranged 14 Mark 1347 2 mark_put
-unfolding kept_words ruled_words own_words kept_progress ruled_progress rule_of codes_kept cells_kept word_columns parent_of base_of stride_of
+unfolding kept_words ruled_words own_words kept_progress ruled_progress rule_of codes_kept cells_kept word_columns parent_of ranges_of
 mark-ranged = record { words = λ k c t w. refl; progress = λ k c t w. refl }
 
 -- marks' own words

@@ -8,8 +8,9 @@ use lib.Dec.{eqb, ltb, leb}
 use Rattle.std.specs.Prelude.{Option, Some, None, is_some, unwrap_or, option_map}
 use Rattle.std.proofs.lemmas.Bool.{false≢true}
 use Rattle.std.proofs.lemmas.Option.{none-some, same_Some}
-use Rattle.reader_store.specs.Parents.{index_at, ranked_among, left_word, right_word, side_word, lane_among}
+use Rattle.reader_store.specs.Parents.{index_at, ranked_among, section_with, left_word, right_word, side_word, lane_among}
 use Rattle.reader_store.specs.declared.parents.Ranked.{Ranked}
+use Rattle.reader_store.specs.declared.parents.SectionRecord.{SectionRecord}
 
 -- the parent that is found; where there is none it means nothing
 abbrev pub found : Option Ranked → Ranked
@@ -44,20 +45,23 @@ module _ (number n : ℕ) where
       go false true p q s = absurd (none-some x s)
       go false false p q s = (ltb-false number 10000 p, leb-false n (number - 10000) q, sym (same_Some (index_at (number - 10000)) x s))
 
-module _ (left right id : ℕ) where
-  pub side_left : eqb id (left + 10001) && eqb right 0 ≡ true → side_word left right id ≡ Some left_word
+-- what depends on a section's record alone
+pub section_record-same : {A : Type 0} {a b c a' b' c' : ℕ} (f : SectionRecord → A) → a ≡ a' → b ≡ b' → c ≡ c' → f (section_with a b c) ≡ f (section_with a' b' c')
+section_record-same f p q r = cc
+
+module _ (section : SectionRecord) (id : ℕ) where
+  pub side_left : eqb id (section.left + 10001) && eqb section.right 0 ≡ true → side_word section id ≡ Some left_word
   unfolding side_word
   side_left h = rw h
 
-  pub side_right : eqb id (left + 10001) && eqb right 0 ≡ false → id + right + 1 ≡ 10000 → side_word left right id ≡ Some right_word
+  pub side_right : eqb id (section.left + 10001) && eqb section.right 0 ≡ false → id + section.right + 1 ≡ 10000 → side_word section id ≡ Some right_word
   unfolding side_word
-  side_right h k = rw (h, eq-eqb (id + right + 1) 10000 k)
+  side_right h k = rw (h, eq-eqb (id + section.right + 1) 10000 k)
 
-module _ (first left right id : ℕ) where
-  pub by_left : 10000 < id → id ≤ left + 10000 → lane_among first left right id ≡ Some (index_at (first + (id - 10001)))
+  pub by_left : 10000 < id → id ≤ section.left + 10000 → lane_among section id ≡ Some (index_at (section.first + (id - 10001)))
   unfolding lane_among
-  by_left h k = rw (ne_eqb id 10000 (λ z. omega arith), lt-ltb 10000 id h, le-ltb (left + 10000) id k)
+  by_left h k = rw (ne_eqb id 10000 (λ z. omega arith), lt-ltb 10000 id h, le-ltb (section.left + 10000) id k)
 
-  pub by_right : id < 10000 → 10000 ≤ id + right → lane_among first left right id ≡ Some (index_at (first + left + (9999 - id)))
+  pub by_right : id < 10000 → 10000 ≤ id + section.right → lane_among section id ≡ Some (index_at (section.first + section.left + (9999 - id)))
   unfolding lane_among
-  by_right h k = rw (ne_eqb id 10000 (λ z. omega arith), le-ltb 10000 id (omega arith), le-ltb (id + right) 10000 k)
+  by_right h k = rw (ne_eqb id 10000 (λ z. omega arith), le-ltb 10000 id (omega arith), le-ltb (id + section.right) 10000 k)

@@ -16,7 +16,7 @@ use borrow.Author.Tests.{leb-true, le-leb, eq-eqb, ne_eqb, lt-ltb}
 use Rattle.reader_lines.specs.Columns.{no_cells}
 use Rattle.reader_lines.specs.declared.columns.Cells.{Cells}
 use Rattle.std.specs.Prelude.{Option, Some, None, option_map}
-use Rattle.reader_store.specs.Layout.{one_more, put_at, word_columns, cells_kept, codes_kept, rule_of, base_of, stride_of}
+use Rattle.reader_store.specs.Layout.{spaced, one_more, put_at, word_columns, cells_kept, codes_kept, rule_of, ranges_of}
 use Rattle.reader_store.specs.Progress.{unsound_progress}
 use Rattle.reader_store.specs.Parents.{first_if, index_of, range_of, parent_of}
 use Rattle.reader_store.specs.Keep.{added, in_order, under_words, under_progress, own_words, ruled_words, ruled_progress, kept_words, kept_progress}
@@ -78,23 +78,23 @@ abbrev pub no_own : Own
 no_own ws k cells = ws
 
 pub record Ranged (t : ℕ) (family : Family) (base stride : ℕ) (own : Own) : Type 0 where
-  pub words : (k : ℕ) (cells : Cells) (progress : Progress) (ws : List ℕ) → kept_words t k cells progress ws ≡ under_words (own ws k cells) k (option_map (range_of ws base stride) (index_of ws family cells progress.strips)) progress
-  pub progress : (k : ℕ) (cells : Cells) (progress : Progress) (ws : List ℕ) → kept_progress t k cells progress ws ≡ under_progress (option_map (range_of ws base stride) (index_of ws family cells progress.strips)) progress
+  pub words : (k : ℕ) (cells : Cells) (progress : Progress) (ws : List ℕ) → kept_words t k cells progress ws ≡ under_words (own ws k cells) k (option_map (range_of ws (spaced base stride)) (index_of ws family cells progress.strips)) progress
+  pub progress : (k : ℕ) (cells : Cells) (progress : Progress) (ws : List ℕ) → kept_progress t k cells progress ws ≡ under_progress (option_map (range_of ws (spaced base stride)) (index_of ws family cells progress.strips)) progress
 
 pub extent-ranged : Ranged 8 Extent 121 6 no_own
-unfolding kept_words ruled_words own_words kept_progress ruled_progress rule_of codes_kept cells_kept word_columns parent_of base_of stride_of
+unfolding kept_words ruled_words own_words kept_progress ruled_progress rule_of codes_kept cells_kept word_columns parent_of ranges_of
 extent-ranged = record { words = λ k c t w. refl; progress = λ k c t w. refl }
 
 pub height-ranged : Ranged 9 Height 123 6 no_own
-unfolding kept_words ruled_words own_words kept_progress ruled_progress rule_of codes_kept cells_kept word_columns parent_of base_of stride_of
+unfolding kept_words ruled_words own_words kept_progress ruled_progress rule_of codes_kept cells_kept word_columns parent_of ranges_of
 height-ranged = record { words = λ k c t w. refl; progress = λ k c t w. refl }
 
 pub shape-ranged : Ranged 11 Shape 1271 2 no_own
-unfolding kept_words ruled_words own_words kept_progress ruled_progress rule_of codes_kept cells_kept word_columns parent_of base_of stride_of
+unfolding kept_words ruled_words own_words kept_progress ruled_progress rule_of codes_kept cells_kept word_columns parent_of ranges_of
 shape-ranged = record { words = λ k c t w. refl; progress = λ k c t w. refl }
 
 pub cubic-ranged : Ranged 13 Cubic 1304 1 no_own
-unfolding kept_words ruled_words own_words kept_progress ruled_progress rule_of codes_kept cells_kept word_columns parent_of base_of stride_of
+unfolding kept_words ruled_words own_words kept_progress ruled_progress rule_of codes_kept cells_kept word_columns parent_of ranges_of
 cubic-ranged = record { words = λ k c t w. refl; progress = λ k c t w. refl }
 
 -- a word that belongs to no range
@@ -200,7 +200,7 @@ module _ (base stride : ℕ) (Good Mine : ℕ → Type 0) (all : List Cells) (st
             count_at others
 
     abbrev parent : Counted
-    parent = range_of us base stride (found (I cells))
+    parent = range_of us (spaced base stride) (found (I cells))
 
     kept_line : There (I cells) → (under_progress (Some parent) progress).sound ≡ true → Kept base stride Good Mine all strips ws I (k + 1) (under_progress (Some parent) progress) (under_words us k (Some parent) progress)
     unfolding range_of added
@@ -241,30 +241,30 @@ module _ (base stride : ℕ) (Good Mine : ℕ → Type 0) (all : List Cells) (st
 
       -- the parent's range, in the words before the line and in its own
       abbrev parent_in : List ℕ → Counted
-      parent_in ys = range_of ys base stride (found (I r))
+      parent_in ys = range_of ys (spaced base stride) (found (I r))
 
       named : index_of us family r progress.strips ≡ I r
       named = ap (index_of us family r) inv.noted ∙ parents.same us inv.frame r
 
-      line-progress : kept_progress t k r progress us ≡ under_progress (option_map (range_of us base stride) (I r)) progress
-      line-progress = ranged.progress k r progress us ∙ ap (λ (i : Option Ranked). under_progress (option_map (range_of us base stride) i) progress) named
+      line-progress : kept_progress t k r progress us ≡ under_progress (option_map (range_of us (spaced base stride)) (I r)) progress
+      line-progress = ranged.progress k r progress us ∙ ap (λ (i : Option Ranked). under_progress (option_map (range_of us (spaced base stride)) i) progress) named
 
       there-here : There (I r)
       there-here =
-          under-there (option_map (range_of us base stride) (I r)) progress (ap (λ (y : Progress). y.sound) (sym line-progress) ∙ s)
-          (λ p e. map_some (range_of us base stride) (I r) p e (λ x d f. there d))
+          under-there (option_map (range_of us (spaced base stride)) (I r)) progress (ap (λ (y : Progress). y.sound) (sym line-progress) ∙ s)
+          (λ p e. map_some (range_of us (spaced base stride)) (I r) p e (λ x d f. there d))
 
       good-here : Good (found (I r)).index
       good-here = parents.good r there-here
 
-      parent-same : option_map (range_of us base stride) (I r) ≡ Some (parent_in zs)
+      parent-same : option_map (range_of us (spaced base stride)) (I r) ≡ Some (parent_in zs)
       unfolding range_of
       parent-same =
-          ap (option_map (range_of us base stride)) there-here
+          ap (option_map (range_of us (spaced base stride))) there-here
           ∙ ap (λ (v : ℕ). Some (record { rank = (found (I r)).rank; first = first_if (eqb v 0) (base + (found (I r)).index * stride); count = base + (found (I r)).index * stride + 1 })) (sym (owned.other us k r h (base + (found (I r)).index * stride + 1) (owned.apart (found (I r)).index good-here).1))
 
       line-words : kept_words t k r progress us ≡ under_words zs k (Some (parent_in zs)) progress
-      line-words = ranged.words k r progress us ∙ ap (λ (i : Option Ranked). under_words zs k (option_map (range_of us base stride) i) progress) named ∙ ap (λ (y : Option Counted). under_words zs k y progress) parent-same
+      line-words = ranged.words k r progress us ∙ ap (λ (i : Option Ranked). under_words zs k (option_map (range_of us (spaced base stride)) i) progress) named ∙ ap (λ (y : Option Counted). under_words zs k y progress) parent-same
 
       held-progress : kept_progress t k r progress us ≡ under_progress (Some (parent_in zs)) progress
       held-progress = line-progress ∙ ap (λ (y : Option Counted). under_progress y progress) parent-same
@@ -302,8 +302,8 @@ module _ (base stride : ℕ) (Good Mine : ℕ → Type 0) (all : List Cells) (st
       right-line k progress us h p =
           let r : Cells = get_or all k no_cells in
           let e : index_of us family r progress.strips ≡ Some (found (I r)) = ap (index_of us family r) p.0.noted ∙ parents.same us p.0.frame r ∙ there k h in
-          let a : kept_progress t k r progress us ≡ under_progress (Some (range_of us base stride (found (I r)))) progress = ranged.progress k r progress us ∙ ap (λ (i : Option Ranked). under_progress (option_map (range_of us base stride) i) progress) e in
-          let s : (kept_progress t k r progress us).sound ≡ true = ap (λ (y : Progress). y.sound) a ∙ under-right (range_of us base stride (found (I r))) progress (last_line k refl) p.1 in
+          let a : kept_progress t k r progress us ≡ under_progress (Some (range_of us (spaced base stride) (found (I r)))) progress = ranged.progress k r progress us ∙ ap (λ (i : Option Ranked). under_progress (option_map (range_of us (spaced base stride)) i) progress) e in
+          let s : (kept_progress t k r progress us).sound ≡ true = ap (λ (y : Progress). y.sound) a ∙ under-right (range_of us (spaced base stride) (found (I r))) progress (last_line k refl) p.1 in
           (range-line k progress us h s p.0, s, λ z. absurd (omega arith))
         where
           last_line : (n : ℕ) → n ≡ k → progress.last ≤ (found (I (get_or all k no_cells))).rank

@@ -23,7 +23,7 @@ use Rattle.admission_structure.proofs.StructureLaws.{cubics-full}
 use Rattle.reader_lines.specs.Columns.{cell_of, no_cells}
 use Rattle.reader_lines.specs.declared.columns.Cells.{Cells}
 use Rattle.std.specs.Prelude.{Option, Some, None}
-use Rattle.reader_store.specs.Layout.{number_lines, word_lines, number_columns, word_columns, code_of, count_place, base_of, stride_of}
+use Rattle.reader_store.specs.Layout.{number_lines, word_lines, number_columns, word_columns, code_of, count_place, ranges_of}
 use Rattle.reader_laws.proofs.ColumnPlaces.{number_place, word_place}
 use Rattle.reader_store.specs.Progress.{strip_line}
 use Rattle.reader_store.specs.Keep.{mark_kind}
@@ -221,7 +221,7 @@ module _ (text : List ℕ) (l m n at count : ℕ) (progress : Progress) (ws : Li
   -- ---- lanes and sections
 
   pub lane-says : (j : ℕ) → j < length (T 7) → lane_in ws ns j ≡ lane_said T (get_or (T 7) j no_cells)
-  unfolding lane_said number_lines word_lines word_place word_columns base_of stride_of
+  unfolding lane_said number_lines word_lines word_place word_columns ranges_of
   lane-says j h =
       lane-join ws ns j
       ∙ lane-same (ap (λ (p : ℕ). eqb (get_or ws p 0) 1) (plain (119 + j * 6)) ∙ ap (λ (v : ℕ). eqb v 1) (lane-extent j h) ∙ code_one (cell_of (get_or (T 7) j no_cells) 2))
@@ -261,7 +261,7 @@ module _ (text : List ℕ) (l m n at count : ℕ) (progress : Progress) (ws : Li
       ∙ ap (map (mark_said T i)) (sym (those-part (under i) (T 14) (get_or ws (1347 + i * 2) 0) (get_or ws (1347 + i * 2 + 1) 0) p))
 
   pub section-says : (i : ℕ) → i < length (T 6) → section_in ws ns i ≡ section_said T i (get_or (T 6) i no_cells)
-  unfolding section_said base_of stride_of
+  unfolding section_said ranges_of
   section-says i h =
       section-same (section_start-join ws ns i ∙ number-kept text l m n at count progress ws ns vs read.form 6 i 0 (omega arith) h (let e = single.0 in omega arith))
       (left_join ws ns i ∙ lanes-say (left_under i) (first_at ws i) (lefts_at ws i) (left-part (T 7) (length (T 6)) ws lane_rows_lem i h))
@@ -275,7 +275,7 @@ module _ (text : List ℕ) (l m n at count : ℕ) (progress : Progress) (ws : Li
   -- ---- profiles
 
   pub profile-says : (i : ℕ) → i < length (T 10) → profile_in ws ns i ≡ profile_said T i (get_or (T 10) i no_cells)
-  unfolding profile_said number_lines base_of stride_of
+  unfolding profile_said number_lines ranges_of
   profile-says i h =
       profile-join ws ns i
       ∙ profile-same (number-kept text l m n at count progress ws ns vs read.form 10 i 0 (omega arith) h (let e = single.1 in omega arith))
@@ -292,7 +292,7 @@ module _ (text : List ℕ) (l m n at count : ℕ) (progress : Progress) (ws : Li
     column-part c h = part_same (of_term a b c) (T 13) (sym (end-13 (1304 + ((a * 2 + b) * 11 + c * 2) * 1) (omega arith) (omega arith))) (sym (end-13 (1304 + ((a * 2 + b) * 11 + c * 2) * 1 + 1) (omega arith) (omega arith))) (term-part text l n 16 st reading (omega arith) few (omega arith) a b c side place h)
 
     term-says : (c : ℕ) → c < 5 → column_in ws ns (a * 2 + b) c ≡ term_said T a b c
-    unfolding number_lines base_of stride_of
+    unfolding number_lines ranges_of
     term-says c h =
         let p = column-part c h in
         column-join ws ns (a * 2 + b) c

@@ -6,6 +6,5 @@ use Rattle.reader_store.proofs.parents.lane_turn.Goals as goal
 
 pub overflow_add-result : goal.overflow_add-result
 overflow_add-result c =
-    let r = c.section_record-record.result in
     let at = c.section_word-at.ensures.1 in
-    record { fits = side-cases r.left r.right _ c.in_ok-side.side (sym c.side_word.ensures ∙ c.in_ok-side.was) (λ e id none. omega (arith, at)) (λ e id. omega (arith, at)) }
+    record { fits = side-cases c.section_record-record.result _ c.in_ok-side.side (sym c.side_word.ensures ∙ c.in_ok-side.was) (λ e id none. omega (arith, at)) (λ e id. omega (arith, at)) }
