@@ -1,6 +1,6 @@
 // Counts, codes and ranges of the lent words. Each count is tested before anything loops over it, so that a broken road is refused at once.
 // They are over the words, and no LentRoad, whose model hides them.
-ghost use Rattle.std.specs.Prelude.{◌≡◌, ◌+◌, ◌<◌, ◌≤◌, get_or};
+ghost use Rattle.std.specs.Prelude.{◌≡◌, ◌+◌, ◌^◌, ◌<◌, ◌≤◌, get_or};
 ghost use Rattle.records_lent.specs.Lists.{all_below};
 ghost use Rattle.records.specs.Layout.{section_count_at, profile_count_at, most_lanes};
 ghost use Rattle.admission_structure.specs.Structure.{range_ok, counts_ok, kinds_ok, lane_ok, section_ok, profile_ok, column_ok, strip_ok, structured};
@@ -38,7 +38,7 @@ pub(crate) fn count(words: &[u16], at: usize) -> u16
 
 // The range whose first line and count are the words from k on: least to most lines, inside a table of limit lines.
 pub(crate) fn range_ok(words: &[u16], k: usize, least: usize, most: usize, limit: usize) -> bool
-    requires { k < 4294967296 }
+    requires { k < 2 ^ 32 }
     ensures { result ≡ range_ok least most limit (get_or words.now k 0) (get_or words.now (k + 1) 0) }
 {
     let count = word(words, k + 1);
