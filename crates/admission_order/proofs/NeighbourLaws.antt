@@ -2,9 +2,9 @@
 use Prim.Native.Nat.{ℕ, zero, suc, ◌+◌, ◌-◌, ◌<◌, ◌≤◌}
 use native.Mathlib.Omega.{arith}
 use mathlib.Core.Path.{◌≡◌, refl, sym, ap, ◌∙◌, subst}
-use mathlib.Core.Bool.{Bool, true, false, ◌&&◌}
+use mathlib.Core.Bool.{Bool, true, false}
 use mathlib.Core.List.{List, map}
-use lib.ListN.{length, get_or}
+use lib.ListN.{length}
 use denote.Param.Members.{Mut}
 use Rattle.std.specs.Prelude.{slice_index_or}
 use Rattle.std.specs.declared.ops.Range.{Range}
@@ -18,15 +18,17 @@ use Rattle.std.specs.Iterator.Runs.{Run, IsMapRun}
 use Rattle.std.specs.Option.{unwrap_or}
 use Rattle.std.proofs.iter.Yields.{nat_range_steps}
 use Rattle.std.proofs.iter.runs.Sources.{range_runs}
-use Rattle.std.proofs.lemmas.List.{get_or-map, length-map}
+use Rattle.std.proofs.lemmas.List.{get_or-map}
 use Rattle.records_lent.specs.Lists.{all_below}
 use Rattle.records_lent.proofs.TestLaws.{all-at}
 
+-- a test that passes at each index passes below n
 all-of : (p : ℕ → Bool) (n : ℕ) → ((i : ℕ) → i < n → p i ≡ true) → all_below p n ≡ true
 unfolding all_below
 all-of p zero h = refl
 all-of p (suc n) h = rw (all-of p n (λ i l. h i (omega arith)), h n (omega arith)) refl
 
+-- one that fails somewhere below n does not
 not-all : (p : ℕ → Bool) (n i : ℕ) → i < n → p i ≡ false → false ≡ all_below p n
 not-all p n i l e = go (all_below p n) (λ t. all-at p n t i l)
   where
@@ -40,10 +42,11 @@ neighbours : {A : Type 0} (start : ℕ → A) (h : A → A → Bool) (n : ℕ) (
 neighbours start h n xs true few all at is =
     let long = all refl in
     sym (all-of (λ i. h (start i) (start (i + 1))) (n - 1) (λ i l.
-      rw (← at i (start 0) (omega arith), ← at (i + 1) (start 0) (omega arith)) (is i (start 0) (omega arith))))
+    rw (← at i (start 0) (omega arith), ← at (i + 1) (start 0) (omega arith)) (is i (start 0) (omega arith))))
 neighbours start h n xs false few all at (k, l, is) =
     not-all (λ i. h (start i) (start (i + 1))) (n - 1) k (omega arith) (rw (← at k (start 0) (omega arith), ← at (k + 1) (start 0) (omega arith)) (is (start 0)))
 
+-- the k-th item of a range from 0 is k
 index : (q : Run nat_range_steps) (n : ℕ) → q.from ≡ record { start = 0; end = n } → (k : ℕ) (d : ℕ) → k < q.len → slice_index_or q.items k d ≡ k
 index q n e k d l =
     let up = range_runs q q.seen in

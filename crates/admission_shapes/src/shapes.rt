@@ -78,6 +78,7 @@ fn terms_within(road: &LentRoad, i: usize) -> bool
     (0..STRIP_TERMS).all(|term| column_within(road, i, term + 1, LARGEST))
 }
 
+// The width, the terms, and how high the terms reach together.
 #[tactic(auto, unfolding(admission::specs::Limits::strip_limited))]
 fn columns_limited(road: &LentRoad, i: usize) -> bool
     ensures { result ≡ strip_limited road.now (strip_at road.now i) }

@@ -1,19 +1,19 @@
 // Counts, codes and ranges of the lent words. Each count is tested before anything loops over it, so that a broken road is refused at once.
 // They are over the words, and no LentRoad, whose model hides them.
-ghost use Rattle.std.specs.Prelude.{◌≡◌, ◌+◌, ◌<◌, ◌≤◌, get_or};
+ghost use Rattle.std.specs.Prelude.{◌≡◌, ◌+◌, ◌^◌, ◌<◌, ◌≤◌, get_or};
 ghost use Rattle.records_lent.specs.Lists.{all_below};
 ghost use Rattle.records.specs.Layout.{section_count_at, profile_count_at, most_lanes};
 ghost use Rattle.admission_structure.specs.Structure.{range_ok, counts_ok, kinds_ok, lane_ok, section_ok, profile_ok, column_ok, strip_ok, structured};
 
 use crate::marks::all_marks_ok;
 use records::layout::{
-    BANK_COUNT_AT, ELEV_COUNT_AT, GEOM_COUNT_AT, KIND_WORDS, LANE_STRIDE, LANE_WORDS, LEFT_WORDS, MOST_BANKS,
-    MOST_CUBICS, MOST_CUBICS_A_TERM, MOST_ELEVS, MOST_EXTENTS, MOST_EXTENTS_A_LANE, MOST_GEOMS,
-    MOST_HEIGHTS, MOST_HEIGHTS_A_LANE, MOST_LANES, MOST_LANES_A_SIDE, MOST_OFFSETS, MOST_PROFILES,
-    MOST_SECTIONS, MOST_SHAPES, MOST_SHAPES_A_PROFILE, MOST_SHIFTS, NUMBERS_NEEDED,
-    OFFSET_COUNT_AT, PROFILE_COUNT_AT, PROFILE_STRIDE, PROFILE_WORDS, RIGHT_WORDS, SECTION_COUNT_AT,
-    SECTION_STRIDE, SECTION_WORDS, STRIP_COLUMNS, STRIP_STRIDE, STRIP_WORDS, STRIPS,
-    TSHIFT_COUNT_AT, WORDS_NEEDED,
+    BANK_COUNT_AT, ELEV_COUNT_AT, GEOM_COUNT_AT, KIND_WORDS, LANE_STRIDE, LANE_WORDS, LEFT_WORDS,
+    MOST_BANKS, MOST_CUBICS, MOST_CUBICS_A_TERM, MOST_ELEVS, MOST_EXTENTS, MOST_EXTENTS_A_LANE,
+    MOST_GEOMS, MOST_HEIGHTS, MOST_HEIGHTS_A_LANE, MOST_LANES, MOST_LANES_A_SIDE, MOST_OFFSETS,
+    MOST_PROFILES, MOST_SECTIONS, MOST_SHAPES, MOST_SHAPES_A_PROFILE, MOST_SHIFTS, NUMBERS_NEEDED,
+    OFFSET_COUNT_AT, PROFILE_COUNT_AT, PROFILE_STRIDE, PROFILE_WORDS, RIGHT_WORDS,
+    SECTION_COUNT_AT, SECTION_STRIDE, SECTION_WORDS, STRIP_COLUMNS, STRIP_STRIDE, STRIP_WORDS,
+    STRIPS, TSHIFT_COUNT_AT, WORDS_NEEDED,
 };
 use records_lent::word;
 
@@ -26,10 +26,10 @@ const LEVELS: usize = 2;
 
 const STRIP_KINDS: usize = 3;
 
-// Of a strip that is not there.
+// The code of a strip that is not there.
 const ABSENT: usize = 0;
 
-// The word at a place, 0 past the end, as it is lent: what counts lines in it is itself a u16, so no function of a line has to ask for a bound.
+// The word at a place, 0 past the end, as it is lent: the number of a line below such a count is a u16 too, so a function of a line asks for no bound.
 pub(crate) fn count(words: &[u16], at: usize) -> u16
     ensures { result ≡ get_or words.now at 0 }
 {
@@ -38,7 +38,7 @@ pub(crate) fn count(words: &[u16], at: usize) -> u16
 
 // The range whose first line and count are the words from k on: least to most lines, inside a table of limit lines.
 pub(crate) fn range_ok(words: &[u16], k: usize, least: usize, most: usize, limit: usize) -> bool
-    requires { k < 4294967296 }
+    requires { k < 2 ^ 32 }
     ensures { result ≡ range_ok least most limit (get_or words.now k 0) (get_or words.now (k + 1) 0) }
 {
     let count = word(words, k + 1);
@@ -138,7 +138,7 @@ fn columns_ok(words: &[u16], i: usize) -> bool
     (0..STRIP_COLUMNS).all(|column| column_ok(words, i, column))
 }
 
-// Of a strip that is not there no column is read.
+// A strip's code, then its columns; those of a strip that is not there are not read.
 #[tactic(auto, unfolding(crate::specs::Structure::strip_ok))]
 fn strip_ok(words: &[u16], i: usize) -> bool
     requires { i < 4 }

@@ -35,6 +35,6 @@ clamped most x = let up = at_least_zero x in cond (lt most up) most up
 abbrev pub blend : Float → Float → Float → Float
 blend a b f = a ⊕ (b ⊖ a) ⊗ f
 
--- the way back of `blend`: the part of the way from a to b at which x lies, "(s - s0)/(s1 - s0)"
+-- the way back of `blend`: the part of the way from a to b at which x lies
 abbrev pub fraction : Float → Float → Float → Float
 fraction a b x = (x ⊖ a) ⊘ (b ⊖ a)
