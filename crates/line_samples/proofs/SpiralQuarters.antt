@@ -6,7 +6,7 @@ use native.Mathlib.Numerals.{add-one}
 use native.Mathlib.Omega.{arith}
 use mathlib.Core.Path.{◌≡◌, refl, sym, ap, ◌∙◌, subst}
 use mathlib.Core.Logic.{◌⊎◌, inl, inr}
-use mathlib.Core.Bool.{Bool, true, false, not, ◌&&◌, cond}
+use mathlib.Core.Bool.{Bool, true, false, cond}
 use lib.Dec.{T, lit≤, lit<}
 use borrow.Author.Tests.{le-leb}
 use lib.Pow.{pow_pos}
@@ -15,7 +15,7 @@ use lib.Ieee.{Float, nan, inf, fin, Format, binary32, binary64, prec, emax, low,
 use lib.Ieee.Bits.{is_true}
 use lib.Ieee.Fits.{round-fits, sub-fits, and_r}
 use lib.Ieee.Scale.{finite}
-use Rattle.float_laws.specs.Binary64.{◌⊕◌, ◌⊖◌, f64, zero64}
+use Rattle.float_laws.specs.Binary64.{◌⊕◌, ◌⊖◌}
 use Rattle.float_laws.proofs.Units.{rnd, rnd-exact, rnd-zero, rnd-le}
 use Rattle.float_laws.proofs.Value.{sign, mag, pl, mi, Real, mag_is, one_side, mag_of, under, le→units, lt→units, units→lt, sign-plus}
 use Rattle.float_laws.proofs.Operation.{sub-Is, mul-Is, round-has}

@@ -1,7 +1,7 @@
 -- A finite f64 is at most the largest in size, so the machine's test of a finite number is document 01's.
 -- In units of the format's smallest value it is q × 2^j for a q below 2^53, and what of that kind lies below the overflow is at most (2^53 - 1) × 2^2045, the largest.
 use Prim.Native.Nat.{ℕ, zero, suc, ◌+◌, ◌-◌, ◌*◌, ◌/◌, ◌%◌, ◌^◌, ◌≤◌, ◌<◌}
-use native.Mathlib.Nat.{le_trans, le_of_eq, lt_of_le_of_lt, lt_of_lt_of_le, not-le_of_lt, mul-le-mul, mul-le-mul_right, mul_assoc, mul-one, zero-mul, zero-div, div-one}
+use native.Mathlib.Nat.{le_trans, le_of_eq, lt_of_le_of_lt, not-le_of_lt, mul-le-mul, mul-le-mul_right, mul_assoc, mul-one, zero-mul, zero-div, div-one}
 use native.Mathlib.Omega.{arith}
 use mathlib.Core.Path.{◌≡◌, refl, sym, ◌∙◌, ap, subst}
 use mathlib.Core.Bool.{Bool, true, false, not, ◌&&◌, cond}
@@ -40,7 +40,7 @@ units_by l n (negsuc k) h = go (leb (suc k) l) (leb→le (suc k) l) (nleb→lt (
         let w = a tt in
         let d : l - suc k + suc k ≡ l = omega arith in
         let e : n * 1 * 2 ^ l ≡ n * 2 ^ (l - suc k) * 2 ^ suc k =
-            ap (λ (x : ℕ). x * 2 ^ l) (mul-one n) ∙ ap (λ (x : ℕ). n * 2 ^ x) (sym d) ∙ ap (λ (x : ℕ). n * x) (pow-add 2 (l - suc k) (suc k)) ∙ sym (mul_assoc n (2 ^ (l - suc k)) (2 ^ suc k)) in
+        ap (λ (x : ℕ). x * 2 ^ l) (mul-one n) ∙ ap (λ (x : ℕ). n * 2 ^ x) (sym d) ∙ ap (λ (x : ℕ). n * x) (pow-add 2 (l - suc k) (suc k)) ∙ sym (mul_assoc n (2 ^ (l - suc k)) (2 ^ suc k)) in
         (l - suc k, ap (λ (x : ℕ). x / 2 ^ suc k) e ∙ shl-shr (n * 2 ^ (l - suc k)) (suc k))
     go false a c = absurd (not-le_of_lt (pow-lt (c tt)) h)
 
