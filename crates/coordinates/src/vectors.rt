@@ -87,7 +87,7 @@ impl Vector {
         z: 1.0,
     };
 
-    // From a to b. No `Sub` of Point: the type is another crate's, so the impl would be too.
+    // The displacement from a to b. No `Sub` of Point: the type is another crate's, so the impl would be too.
     pub fn from_to(a: Point, b: Point) -> Vector
         ensures { result ≡ from_to a b }
     {
@@ -105,7 +105,7 @@ impl Vector {
         self.x * b.x + self.y * b.y + self.z * b.z
     }
 
-    // Right-handed: of x and y it is z. Not one function with surface_station's `cross`, which differs in the width: the operators' bounds tell of no function, so it takes a trait of products and differences with an impl for each width and both structs taken apart, sixty lines for these ten (tried: it proves).
+    // The cross product, right-handed: of x and y it is z. Not one function with surface_station's `cross`, which differs in the width: the operators' bounds tell of no function, so it takes a trait of products and differences with an impl for each width and both structs taken apart, sixty lines for these ten (tried: it proves).
     fn cross(self, b: Vector) -> Vector
         ensures { result ≡ cross_of self b }
     {
@@ -136,7 +136,7 @@ impl Vector {
         Vector::ZERO
     }
 
-    // Onto the ground plane.
+    // The vector laid onto the ground plane.
     pub fn horizontal(self) -> Vector
         ensures { result ≡ horizontal_of self }
     {

@@ -42,9 +42,9 @@ module _ (text : List ℕ) (at table i n : ℕ) (due : Due) (order : Order) wher
     none : n - i ≡ 0
     none = omega arith
 
-    pub names-end : b ≡ 10 → names_from (n - i) text at table i due order ≡ Some (record { value = order; next = at + 1 })
+    pub names-end : {q : ℕ} → b ≡ 10 → q ≡ at + 1 → names_from (n - i) text at table i due order ≡ Some (record { value = order; next = q })
     unfolding names_from
-    names-end h = rw (none, ← e, eq-eqb b 10 h)
+    names-end h z = rw (none, ← e, eq-eqb b 10 h, z)
 
     pub names-cut : (b ≡ 10 → ⊥) → names_from (n - i) text at table i due order ≡ None
     unfolding names_from

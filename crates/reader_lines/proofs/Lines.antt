@@ -4,12 +4,10 @@ use mathlib.Core.Path.{◌≡◌}
 use mathlib.Core.List.{List}
 use native.Mathlib.Omega.{arith}
 use borrow.Author.Tests.{eq-eqb, ne_eqb}
-use lib.ListN.{length}
 use Rattle.reader_schema.specs.Schema.{word_count, column_kind}
 use Rattle.reader_cells.specs.Cells.{byte_at, cell_at}
 use Rattle.reader_cells.specs.declared.names.Span.{Span}
 use Rattle.std.specs.Prelude.{Option, Some, None}
-use Rattle.reader_cells.proofs.Inside.{inside}
 use Rattle.reader_lines.specs.Columns.{no_cells, ordered_column, valued_by}
 use Rattle.reader_lines.specs.ValuesLine.{stop_of, values_read, values_at}
 use Rattle.reader_lines.specs.declared.columns.Order.{Order}
@@ -52,10 +50,7 @@ module _ (text : List ℕ) (at table : ℕ) (order : Order) (i n : ℕ) (cells :
     unfolding values_read
     row-stop p = rw (next, ← f, ← g, ← h, k, ← e, ← st, ne_eqb b s p)
 
-    pub row_next : {cells' : Cells} → b ≡ s → cells' ≡ valued_by cells col w.value
-        → values_read (n - i) text at table order i cells ≡ values_read (n - (i + 1)) text (w.next + 1) table order (i + 1) cells'
+    pub row_next : {cells' : Cells} {q : ℕ} → b ≡ s → q ≡ w.next + 1 → cells' ≡ valued_by cells col w.value
+        → values_read (n - i) text at table order i cells ≡ values_read (n - (i + 1)) text q table order (i + 1) cells'
     unfolding values_read
-    row_next p y = rw (next, ← f, ← g, ← h, k, ← e, ← st, eq-eqb b s p, y)
-
-pub stop-inside : (text : List ℕ) (q m : ℕ) {b s : ℕ} → b ≡ byte_at text q → s ≡ stop_of m → b ≡ s → q < length text
-stop-inside text q m e st p = inside text q e (rw (p, st) (stop-positive m))
+    row_next p z y = rw (next, ← f, ← g, ← h, k, ← e, ← st, eq-eqb b s p, y, z)

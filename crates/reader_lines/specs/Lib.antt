@@ -1,3 +1,4 @@
 pub mod Columns
+pub mod Places
 pub mod NamesLine
 pub mod ValuesLine

@@ -4,6 +4,7 @@
 
 mod columns;
 mod names_line;
+mod places;
 mod values_line;
 
 pub use columns::{Cells, Order, put};

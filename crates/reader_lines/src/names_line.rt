@@ -3,6 +3,7 @@ ghost use Rattle.std.specs.Prelude.{◌≡◌};
 ghost use Rattle.reader_lines.specs.NamesLine.{column_at, head_at};
 
 use crate::columns::{Due, Order};
+use crate::places::after;
 use reader_cells::Span;
 
 // A space, then a name: the column of that name; none where no space stands, or the name is no column's.
@@ -10,10 +11,7 @@ use reader_cells::Span;
 fn column_at(text: &[u8], at: usize, table: usize) -> Option<Span<u8>>
     ensures { result ≡ column_at text.now at table }
 {
-    if reader_hex::byte_at(text, at) != b' ' {
-        return None;
-    }
-    let name = reader_cells::name_at(text, at + 1);
+    let name = reader_cells::name_at(text, after(text, at, b' ')?);
     let column = reader_schema::place_of(table, name.value)?;
     Some(Span {
         value: column,
@@ -40,11 +38,6 @@ pub fn head_at(text: &[u8], at: usize, table: usize) -> Option<Span<Order>>
         due.meet(column);
         next = named.next;
     }
-    if reader_hex::byte_at(text, next) != b'\n' {
-        return None;
-    }
-    Some(Span {
-        value: order,
-        next: next + 1,
-    })
+    let next = after(text, next, b'\n')?;
+    Some(Span { value: order, next })
 }

@@ -249,20 +249,20 @@ const LISTS: &[List] = &[
 ];
 
 // What the columns of a table hold, up to the last one that is no number. The other tables hold numbers alone.
-const GEOM: &[Kind] = &[Number, Number, Number, Number, Number, GeomKind];
+const GEOM_COLUMNS: &[Kind] = &[Number, Number, Number, Number, Number, GeomKind];
 
-const LANE: &[Kind] = &[Whole, Whole, ExtentKind, Bit];
+const LANE_COLUMNS: &[Kind] = &[Whole, Whole, ExtentKind, Bit];
 
 // Extents and heights alike: a section, a lane's id, and numbers.
-const UNDER_LANE: &[Kind] = &[Whole, Whole];
+const UNDER_LANE_COLUMNS: &[Kind] = &[Whole, Whole];
 
-const SHAPE: &[Kind] = &[Whole];
+const SHAPE_COLUMNS: &[Kind] = &[Whole];
 
-const STRIP: &[Kind] = &[Side, Bit, Bit];
+const STRIP_COLUMNS: &[Kind] = &[Side, Bit, Bit];
 
-const CUBIC: &[Kind] = &[Side, Bit, Term];
+const CUBIC_COLUMNS: &[Kind] = &[Side, Bit, Term];
 
-const MARK: &[Kind] = &[Whole, Whole, Number, Number, Whole];
+const MARK_COLUMNS: &[Kind] = &[Whole, Whole, Number, Number, Whole];
 
 // A table; past the last one it has the name 0 and no lines. No Option: the reader asks of the tables in their order alone, so that each question would
 // open one that never is none.
@@ -316,14 +316,14 @@ fn kinds_of(table: usize) -> &'static [Kind]
     ensures { (i : ℕ) → kind_by (get_or result.now i Number) ≡ column_kind table i }
 {
     match table {
-        GEOM_TABLE => GEOM,
-        LANE_TABLE => LANE,
-        EXTENT_TABLE => UNDER_LANE,
-        HEIGHT_TABLE => UNDER_LANE,
-        SHAPE_TABLE => SHAPE,
-        STRIP_TABLE => STRIP,
-        CUBIC_TABLE => CUBIC,
-        MARK_TABLE => MARK,
+        GEOM_TABLE => GEOM_COLUMNS,
+        LANE_TABLE => LANE_COLUMNS,
+        EXTENT_TABLE => UNDER_LANE_COLUMNS,
+        HEIGHT_TABLE => UNDER_LANE_COLUMNS,
+        SHAPE_TABLE => SHAPE_COLUMNS,
+        STRIP_TABLE => STRIP_COLUMNS,
+        CUBIC_TABLE => CUBIC_COLUMNS,
+        MARK_TABLE => MARK_COLUMNS,
         _ => &[],
     }
 }

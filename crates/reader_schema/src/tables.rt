@@ -52,16 +52,16 @@ pub const SIDES: usize = GEOM_KINDS + 3;
 
 pub const TERMS: usize = GEOM_KINDS + 4;
 
-// What a column holds: an f64, a whole number, or a word of a list: a geometry's kind; an extent's; the words 0 and 1; a side; a term.
+// What a column holds, by its number: an f64, a whole number, or a word of a list: a geometry's kind; an extent's; the words 0 and 1; a side; a term.
 #[derive(Clone, Copy, Debug, PartialEq, Eq)]
 pub enum Kind {
-    Number,
-    Whole,
-    GeomKind,
-    ExtentKind,
-    Bit,
-    Side,
-    Term,
+    Number = NUMBERS as isize,
+    Whole = WHOLES as isize,
+    GeomKind = GEOM_KINDS as isize,
+    ExtentKind = EXTENT_KINDS as isize,
+    Bit = BITS as isize,
+    Side = SIDES as isize,
+    Term = TERMS as isize,
 }
 
 // The numbers of the kinds that have no list of words: an f64 and a whole number.
@@ -75,14 +75,6 @@ impl From<Kind> for usize {
     fn from(kind: Kind) -> usize
         ensures { result ≡ kind_by kind }
     {
-        match kind {
-            Kind::Number => NUMBERS,
-            Kind::Whole => WHOLES,
-            Kind::GeomKind => GEOM_KINDS,
-            Kind::ExtentKind => EXTENT_KINDS,
-            Kind::Bit => BITS,
-            Kind::Side => SIDES,
-            Kind::Term => TERMS,
-        }
+        kind as usize
     }
 }

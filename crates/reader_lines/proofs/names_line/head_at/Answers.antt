@@ -1,4 +1,5 @@
-use mathlib.Core.Path.{sym, ◌∙◌}
+use mathlib.Core.Path.{refl, sym, ◌∙◌}
+use Rattle.reader_lines.proofs.PlaceLaws.{stood, another}
 use Rattle.reader_lines.proofs.Heads.{head-is, names-broken, names-stop, names-next, names-end, names-cut}
 use Rattle.reader_lines.proofs.names_line.head_at.Goals as goal
 
@@ -20,12 +21,13 @@ loop-i-preserved c =
     let a = c.args in let at = c.loop-i in
     at.invariant ∙ names-next a.text.now at.next a.table at.i _ at.due at.order c.column_at.ensures c.loop-i-test.true c.in_ok-named.was c.has.ensures c.if-not-has.false c.meet.ensures c.name.ensures
 
-pub returns-then-byte_at-ne10 : goal.returns-then-byte_at-ne10
-returns-then-byte_at-ne10 c =
+pub returns-in_err-next : goal.returns-in_err-next
+returns-in_err-next c =
     let a = c.args in let at = c.loop-i in
-    sym (at.invariant ∙ names-cut a.text.now at.next a.table at.i _ at.due at.order c.byte_at.ensures c.loop-i-test.false c.if-byte_at-ne10.true)
+    c.from_residual-in_err-next.ensures ∙ sym (at.invariant ∙ names-cut a.text.now at.next a.table at.i _ at.due at.order refl c.loop-i-test.false (another a.text.now at.next 10 c.after.ensures c.in_err-next.was))
 
 pub returns : goal.returns
 returns c =
     let a = c.args in let at = c.loop-i in
-    sym (at.invariant ∙ names-end a.text.now at.next a.table at.i _ at.due at.order c.byte_at.ensures c.loop-i-test.false c.if-byte_at-ne10.false)
+    let e = stood a.text.now at.next 10 c.after.ensures c.in_ok-next.was in
+    sym (at.invariant ∙ names-end a.text.now at.next a.table at.i _ at.due at.order refl c.loop-i-test.false e.0 e.1)
