@@ -20,7 +20,7 @@ use Rattle.reader_store.specs.Keep.{kept_words, kept_progress}
 use Rattle.reader_store.specs.declared.progress.Progress.{Progress}
 
 -- What reading comes to: the place after it, how many lines the last table had, what is remembered of references and order, and the words, numbers and
--- wants then held; or the number of the refusal.
+-- wants then held; or the number of the refusal. No `Result` of a record: the definitions by cases below take the six apart by name.
 pub data Outcome : Type 0 where
   done : (at lines : ℕ) (progress : Progress) (words : List ℕ) (numbers : List Float) (wants : List ℕ) → Outcome
   stop : (number : ℕ) → Outcome

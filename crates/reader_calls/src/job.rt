@@ -13,7 +13,7 @@ use refusals::Refusal;
 // The most bytes of a text.
 pub const TEXT_MOST: usize = 65536;
 
-// All three slices cleared.
+// Clears all three slices.
 #[tactic(auto, unfolding(crate::specs::Reading::zeros, crate::specs::Reading::zero_numbers))]
 fn clear(words: &mut [u16], numbers: &mut [f64], wants: &mut [u64])
     ensures words_after { words.new ≡ zeros (length words.old) }
@@ -36,7 +36,7 @@ fn judged(taken: Taken, words: &[u16], numbers: &[f64]) -> Result<usize, Refusal
     Ok(taken.lines as usize)
 }
 
-// A text read into slices that hold zeros; after a refusal they may hold anything.
+// Reads a text into slices that hold zeros; after a refusal they may hold anything.
 fn fill(
     text: &[u8],
     words: &mut [u16],

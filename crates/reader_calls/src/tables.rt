@@ -21,7 +21,7 @@ pub struct Taken {
     pub progress: Progress,
 }
 
-// The lines of a table up to an empty one. A line is tested for its form (1) before the table's limit (2). A `for` up to the limit would end the table
+// Takes the lines of a table up to an empty one. A line is tested for its form (1) before the table's limit (2). A `for` up to the limit would end the table
 // at two places, since the empty line may also follow the last line that is allowed.
 fn table_lines(
     text: &[u8],
@@ -63,7 +63,7 @@ fn table_lines(
     }
 }
 
-// A table, if its name stands here.
+// Takes a table, if its name stands here.
 fn table_at(
     text: &[u8],
     at: usize,
@@ -101,7 +101,7 @@ fn road_there(table: usize, lines: u16, progress: Progress) -> Progress
     }
 }
 
-// All tables, in their order.
+// Takes all tables, in their order.
 pub(crate) fn tables(
     text: &[u8],
     words: &mut [u16],

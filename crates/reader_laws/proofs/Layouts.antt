@@ -20,7 +20,7 @@ use Rattle.records.specs.Roads.{Lane, road_of, geom_shape_of, geom_in, unused_in
 use Rattle.records.proofs.CubicLaws.{height-count, height_in_lem}
 use Rattle.reader_schema.specs.Tables.{geom_table, elev_table, bank_table, offset_table, tshift_table, section_table, lane_table, extent_table, height_table, profile_table, shape_table, strip_table, cubic_table, mark_table, want_table}
 use Rattle.reader_schema.specs.Schema.{limits, limit_of}
-use Rattle.reader_store.specs.Layout.{number_lines, word_lines, number_columns, word_columns, count_place, ranges_of}
+use Rattle.reader_store.specs.Layout.{line_of, number_lines, word_lines, number_columns, word_columns, count_place, ranges_of}
 use Rattle.reader_laws.proofs.ColumnPlaces.{number_place, word_place}
 use Rattle.reader_store.specs.declared.layout.Family.{Family}
 use Rattle.reader_store.specs.declared.layout.Family.TheVariants.{Extent, Height, Shape, Cubic as CubicFamily, Mark as MarkFamily}
@@ -219,10 +219,10 @@ module _ (ws : List ℕ) (ns : List Float) where
 
   -- the range that a reader counts up for a parent, by family
   abbrev pub first_of : Family → ℕ → ℕ
-  first_of family i = get_or ws ((ranges_of family).first + i * (ranges_of family).stride) 0
+  first_of family i = get_or ws (line_of (ranges_of family) i) 0
 
   abbrev pub count_of : Family → ℕ → ℕ
-  count_of family i = get_or ws ((ranges_of family).first + i * (ranges_of family).stride + 1) 0
+  count_of family i = get_or ws (line_of (ranges_of family) i + 1) 0
 
   -- a lane by the places of its words
   abbrev lane_from : ℕ → ℕ → ℕ → ℕ → ℕ → ℕ → Lane

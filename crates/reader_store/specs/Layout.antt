@@ -22,6 +22,10 @@ use Rattle.reader_lines.specs.declared.columns.Cells.{Cells}
 abbrev pub spaced : ℕ → ℕ → Lines
 spaced first stride = record { first = first; stride = stride }
 
+-- where line k begins
+abbrev pub line_of : Lines → ℕ → ℕ
+line_of lines k = lines.first + k * lines.stride
+
 -- the numbers of each table; a lane, a strip and a want have none
 unfoldable pub number_lines : ℕ → Lines
 number_lines table =
@@ -114,10 +118,10 @@ cells_kept f cells (column ∷ columns) place xs = cells_kept f cells columns (p
 
 -- the numbers with the cells of line k kept, an f64 as the float of its pattern; the words with them kept, a word of a list as its place there
 unfoldable pub numbers_kept : ℕ → ℕ → Cells → List Float → List Float
-numbers_kept table k cells ns = cells_kept (of_bits binary64) cells (number_columns table) ((number_lines table).first + k * (number_lines table).stride) ns
+numbers_kept table k cells ns = cells_kept (of_bits binary64) cells (number_columns table) (line_of (number_lines table) k) ns
 
 unfoldable pub codes_kept : ℕ → ℕ → Cells → List ℕ → List ℕ
-codes_kept table k cells ws = cells_kept code_of cells (word_columns table) ((word_lines table).first + k * (word_lines table).stride) ws
+codes_kept table k cells ws = cells_kept code_of cells (word_columns table) (line_of (word_lines table) k) ws
 
 -- the wants with line k of the table want kept, as patterns: the digits of a NaN are not lost
 unfoldable pub wants_kept : ℕ → ℕ → Cells → List ℕ → List ℕ

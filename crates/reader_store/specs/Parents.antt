@@ -5,7 +5,7 @@ use Rattle.records.specs.Layout.{section_count_at, profile_count_at, section_wor
 use Rattle.reader_cells.specs.Cells.{whole_bias}
 use Rattle.reader_lines.specs.Columns.{cell_of}
 use Rattle.reader_lines.specs.declared.columns.Cells.{Cells}
-use Rattle.reader_store.specs.Layout.{ranges_of}
+use Rattle.reader_store.specs.Layout.{line_of, ranges_of}
 use Rattle.reader_store.specs.Progress.{strip_of, strip_line}
 use Rattle.reader_store.specs.declared.layout.Lines.{Lines}
 use Rattle.reader_store.specs.declared.layout.Family.{Family}
@@ -141,8 +141,8 @@ unfoldable pub range_of : List ℕ → Lines → Ranked → Counted
 range_of ws ranges at =
     record {
       rank = at.rank;
-      first = first_if (eqb (get_or ws (ranges.first + at.index * ranges.stride + 1) 0) 0) (ranges.first + at.index * ranges.stride);
-      count = ranges.first + at.index * ranges.stride + 1;
+      first = first_if (eqb (get_or ws (line_of ranges at.index + 1) 0) 0) (line_of ranges at.index);
+      count = line_of ranges at.index + 1;
     }
 
 -- the parent of a line that its parent has a range of, by the family of its table

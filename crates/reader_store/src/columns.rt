@@ -8,7 +8,7 @@ use reader_lines::{Cells, put};
 use reader_schema::tables::WANT_TABLE;
 use records::layout::WANT_STRIDE;
 
-// Line k of a table, counted from 0, and its cells.
+// Line k of a table, counted from 0, and its cells. Definitions take the three one by one: the laws go over the lines of a table by k.
 #[derive(Clone, Copy, Debug, PartialEq, Eq)]
 pub struct TableLine {
     pub table: usize,

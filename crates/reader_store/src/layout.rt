@@ -1,8 +1,8 @@
 // The layout of a lent road's memory by table: its places and strides are those of crate records. A function answers each question; a struct for each table
 // would name six things, most of them none. Where a table has no numbers, or no words, no column holds one, and nothing is kept wherever its lines are said to
 // stand: an Option of where they stand would say a second time what the columns say.
-ghost use Rattle.std.specs.Prelude.{◌≡◌, ◌+◌, ◌*◌, ◌<◌};
-ghost use Rattle.reader_store.specs.Layout.{spaced, number_lines, word_lines, number_columns, word_columns, count_place, rule_of, ranges_of};
+ghost use Rattle.std.specs.Prelude.{◌≡◌, ◌<◌};
+ghost use Rattle.reader_store.specs.Layout.{spaced, line_of, number_lines, word_lines, number_columns, word_columns, count_place, rule_of, ranges_of};
 
 use reader_schema::tables::{
     BANK_TABLE, CUBIC_TABLE, ELEV_TABLE, EXTENT_TABLE, GEOM_TABLE, HEIGHT_TABLE, LANE_TABLE,
@@ -42,7 +42,7 @@ impl Lines {
 
     // Where line k begins.
     pub(crate) fn line(self, k: u32) -> usize
-        ensures { (result ≡ self.first + k * self.stride) × (result < 1000000000000000) }
+        ensures { (result ≡ line_of self k) × (result < 1000000000000000) }
     {
         self.first as usize + k as usize * self.stride as usize
     }

@@ -117,7 +117,7 @@ fn side_word(section: SectionRecord, id: u64) -> Option<usize>
     next_right.then_some(RIGHT_WORD)
 }
 
-// A lane under its section.
+// Where a lane is counted under its section; none where it is not its id's turn, or the section is not there.
 #[tactic(auto, unfolding(crate::specs::Parents::lane_turn))]
 pub(crate) fn lane_turn(words: &[u16], cells: Cells) -> Option<Counted>
     ensures { result ≡ lane_turn words.now (cell_of cells 0) (cell_of cells 1) }
@@ -169,7 +169,7 @@ pub(crate) fn mark_lane(words: &[u16], cells: Cells) -> Option<Ranked>
     lane_by(record, cells.at(1))
 }
 
-// A mark under its section, which must have the mark's lane.
+// The section that a mark names, if it has the mark's lane.
 #[tactic(auto, unfolding(crate::specs::Parents::mark_index, crate::specs::Parents::mark_lane))]
 fn mark_index(words: &[u16], cells: Cells) -> Option<Ranked>
     ensures { result ≡ mark_index words.now (cell_of cells 0) (cell_of cells 1) }
@@ -206,7 +206,7 @@ fn index_of(words: &[u16], family: Family, cells: Cells, strips: Strips) -> Opti
     }
 }
 
-// A parent's range (first, count) of lines.
+// Where a line is counted in the range (first, count) of its parent.
 #[tactic(auto, unfolding(crate::specs::Parents::range_of))]
 fn range_of(words: &[u16], ranges: Lines, at: Ranked) -> Counted
     ensures { result ≡ range_of words.now ranges at }
@@ -221,7 +221,7 @@ fn range_of(words: &[u16], ranges: Lines, at: Ranked) -> Counted
     }
 }
 
-// The parent of a line that its parent has a range of, by the table's family.
+// Where a line is counted under the parent that its first columns name, by the table's family.
 #[tactic(auto, unfolding(crate::specs::Parents::parent_of, crate::specs::Parents::range_of))]
 pub(crate) fn parent_of(
     words: &[u16],
