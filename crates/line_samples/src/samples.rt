@@ -4,7 +4,7 @@ ghost use Rattle.std.specs.Float.Ieee.{le};
 ghost use Rattle.line_samples.specs.Quarters.{least_estimated, greatest_estimated, QuartersBelow};
 ghost use Rattle.line_samples.specs.Samples.{most_samples, most_steps, step_at, spiral_steps, sample_count, samples_before, samples_needed, first_sample, next_sample, turn_rate, heading_at};
 
-use crate::points::{Sample, Spiral};
+use crate::points::{SAMPLE_STRIDE, Sample, Spiral};
 use records::{GeomRec, GeomShape, LentRoad};
 use records_geometry::geom;
 
@@ -19,6 +19,9 @@ const NO_TURN_LENGTH: f64 = 1e-9;
 
 // The most samples that a road may need; one step more is counted, to see that it is over.
 const MOST_SAMPLES: usize = 2000;
+
+// The longest slice of samples that an admitted road needs.
+pub const SAMPLES_NEEDED: usize = MOST_SAMPLES * SAMPLE_STRIDE;
 
 const MOST_STEPS: usize = 2001;
 
