@@ -6,7 +6,7 @@ ghost use Rattle.fixed_text.specs.Texts.{appended};
 
 use std::marker::Model;
 
-// At most ROOM bytes; what does not fit is left off.
+// At most ROOM bytes; what does not fit is left off. No `ArrayVec` of the kit's: the project uses no library beside std (tools/layers.awk).
 #[derive(Drop)]
 pub struct Text<const ROOM: usize> {
     bytes: [u8; ROOM],

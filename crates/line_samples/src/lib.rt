@@ -7,4 +7,4 @@ mod samples;
 
 pub use points::{Pose, SAMPLE_STRIDE, Sample, Spiral};
 pub use sampled::SampledRoad;
-pub use samples::{sample_count, samples_before, samples_fit, samples_needed};
+pub use samples::{SAMPLES_NEEDED, sample_count, samples_before, samples_fit, samples_needed};

@@ -3,7 +3,7 @@ ghost use Rattle.std.specs.Prelude.{◌≡◌, ◌<◌, ◌≤◌, leb};
 ghost use Rattle.line_samples.specs.Quarters.{QuartersBelow};
 ghost use Rattle.line_samples.specs.Samples.{most_samples, most_steps, most_counted, counted_end, step_at, spiral_steps, sample_count, samples_before, samples_needed, first_sample, next_sample, turn_rate, heading_at};
 
-use crate::points::{Sample, Spiral};
+use crate::points::{SAMPLE_STRIDE, Sample, Spiral};
 use records::{GeomRec, GeomShape, LentRoad};
 use records_geometry::geom;
 use std::num::saturating_f64_to_usize;
@@ -19,6 +19,9 @@ const NO_TURN_LENGTH: f64 = 1e-9;
 
 // The most samples that a road may need.
 const MOST_SAMPLES: usize = 2000;
+
+// The longest slice of samples that an admitted road needs.
+pub const SAMPLES_NEEDED: usize = MOST_SAMPLES * SAMPLE_STRIDE;
 
 // One step more than the samples that a road may need, so as to see that it is over.
 const MOST_STEPS: usize = MOST_SAMPLES + 1;

@@ -1,9 +1,8 @@
 -- Document 01, "The program `surface`": the lines that it writes. "names `s t x y z`, then a line per want (f32 as 8 digits); a refused want writes s, t, `-` and the number. A refused job writes only the line `refused` and the number."
 -- s and t have the bits that were read. A zero of x, y or z is written with its own sign. Every line ends in LF.
-use Rattle.std.specs.Prelude.{ℕ, List, [], ◌∷◌, ◌++◌, T, Float}
+use Rattle.std.specs.Prelude.{ℕ, List, [], ◌∷◌, ◌++◌, Float}
 use Rattle.std.specs.Float.{binary32}
 use Rattle.std.specs.Float.Ieee.{to_bits}
-use Rattle.std.specs.Float.Ieee.Scale.{finite}
 use Rattle.refusals.specs.Answer.{Answer, value, refused}
 use Rattle.records.specs.declared.points.Point.{Point}
 use Rattle.surface_points.specs.declared.points.SurfacePoint32.{SurfacePoint32}
@@ -23,15 +22,7 @@ unfoldable pub number_line : ℕ → List ℕ
 unfolding decimal_of
 number_line n = decimal_of n ++ (line_end ∷ [])
 
--- ---- a point: each of x, y and z has the one pattern of its value, as none is a NaN; by demand 3 every point that is written is finite
-
-abbrev pub FinitePoint : Point → Type 0
-FinitePoint p = T (finite p.x) × T (finite p.y) × T (finite p.z)
-
--- where an answer is a point
-abbrev pub FiniteAnswer : Answer SurfacePoint32 → Type 0
-FiniteAnswer (value p) = FinitePoint p.point
-FiniteAnswer (refused n) = Unit {0}
+-- ---- a point: each of x, y and z has the one pattern of its value, as none is a NaN; by demand 3 every point that is written is finite (program_laws, Written)
 
 -- "f32 as 8 digits"
 abbrev pub digits_of : Float → List ℕ

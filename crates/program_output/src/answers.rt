@@ -4,16 +4,14 @@
 ghost use Rattle.std.specs.Prelude.{◌+◌, ◌*◌, ◌/◌, ◌≤◌, ◌≡◌, ◌++◌, true, length};
 ghost use Rattle.refusals.specs.Refusal.{number_of};
 ghost use Rattle.records.specs.Layout.{want_stride, wants_needed};
-ghost use Rattle.records.specs.Roads.{road_of};
-ghost use Rattle.line_samples.specs.Samples.{samples_of};
 ghost use Rattle.admission.specs.Admission.{admitted};
-ghost use Rattle.program_output.specs.declared.text.TheConstants.{OUTPUT_NEEDED};
+ghost use Rattle.program_output.specs.declared.text.TheConstants.{OUTPUT_NEEDED, WANT_LENGTH};
 ghost use Rattle.program_output.specs.Lines.{refused_line};
 ghost use Rattle.program_output.specs.Output.{want_lines, wants_text, output_of, bytes_written, answered_in};
 
 use crate::lines::push_want;
 use crate::text::{OUTPUT_NEEDED, Text, push_number};
-use line_samples::SAMPLE_STRIDE;
+use line_samples::{SAMPLE_STRIDE, SAMPLES_NEEDED};
 use records::layout::{NUMBERS_NEEDED, WANT_STRIDE, WANTS_NEEDED, WORDS_NEEDED};
 use refusals::Refusal;
 
@@ -27,11 +25,9 @@ fn refused(r: Refusal) -> Text
     text
 }
 
-// The lines of the wants: of an admitted road with its own samples, so that every point is finite.
+// The lines of the wants. By index: over `as_chunks`, tried, the proof that a turn keeps the invariant did not close.
 fn push_wants(text: &mut Text, words: &[u16], numbers: &[f64], samples: &[f64], wants: &[u64])
-    requires room { length text.old + 61 * (length wants.now / want_stride) ≤ OUTPUT_NEEDED }
-    requires numbers_value { admitted words.now numbers.now ≡ true }
-    requires samples_value { samples.now ≡ samples_of (road_of words.now numbers.now) }
+    requires { length text.old + WANT_LENGTH * (length wants.now / want_stride) ≤ OUTPUT_NEEDED }
     ensures { text.new ≡ text.old ++ want_lines words.now numbers.now samples.now wants.now (length wants.now / want_stride) }
 {
     for k in 0..wants.len() / WANT_STRIDE {
@@ -48,27 +44,24 @@ fn push_wants(text: &mut Text, words: &[u16], numbers: &[f64], samples: &[f64], 
     }
 }
 
-// The text of an admitted road's wants. Its samples are made here: 2,000 is the most that an admitted road needs.
+// The text of an admitted road's wants. Its samples are made here.
 fn wants_text(words: &[u16], numbers: &[f64], wants: &[u64]) -> Text
     requires numbers_value { admitted words.now numbers.now ≡ true }
     requires wants_bound { length wants.now ≤ wants_needed }
     ensures { result ≡ wants_text words.now numbers.now wants.now (length wants.now / want_stride) }
 {
-    let mut samples = [0.0; 8000];
+    let mut samples = [0.0; SAMPLES_NEEDED];
     let mut text = Text::new();
-    match line_calls::samples(words, numbers, &mut samples) {
-        Ok(count) => {
-            text.append(b"s t x y z\n");
-            push_wants(
-                &mut text,
-                words,
-                numbers,
-                &samples[..count * SAMPLE_STRIDE],
-                wants,
-            );
-        }
-        // an admitted road has no more samples than there is room for
-        Err(_) => (),
+    // it is a count each time: an admitted road has no more samples than there is room for
+    if let Ok(count) = line_calls::samples(words, numbers, &mut samples) {
+        text.append(b"s t x y z\n");
+        push_wants(
+            &mut text,
+            words,
+            numbers,
+            &samples[..count * SAMPLE_STRIDE],
+            wants,
+        );
     }
     text
 }

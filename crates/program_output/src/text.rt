@@ -6,10 +6,22 @@ ghost use Rattle.refusals.specs.Refusal.{number_of};
 ghost use Rattle.program_output.specs.declared.text.TheConstants.{OUTPUT_NEEDED};
 ghost use Rattle.program_output.specs.Lines.{number_line};
 
+use records::layout::{WANT_STRIDE, WANTS_NEEDED};
 use refusals::Refusal;
 
-// The most bytes that are written: the names' 10, and 61 for each of 16 wants.
-pub const OUTPUT_NEEDED: usize = 986;
+// The hexadecimal digits of an f64, and of an f32.
+pub(crate) const DOUBLE_DIGITS: usize = 16;
+
+pub(crate) const SINGLE_DIGITS: usize = 8;
+
+// The line of the names, `s t x y z`.
+const NAMES_LENGTH: usize = 10;
+
+// The longest line of a want: s and t, then x, y and z, a byte behind each.
+pub(crate) const WANT_LENGTH: usize = 2 * (DOUBLE_DIGITS + 1) + 3 * (SINGLE_DIGITS + 1);
+
+// The most bytes that are written: the names, and a line for each want.
+pub const OUTPUT_NEEDED: usize = NAMES_LENGTH + WANT_LENGTH * (WANTS_NEEDED / WANT_STRIDE);
 
 pub(crate) type Text = fixed_text::Text<OUTPUT_NEEDED>;
 

@@ -1,4 +1,4 @@
-// Bytes of a text and hexadecimal digits in lower case, numbers written as sixteen of them, and an f64 by such a pattern.
+// Bytes of a text and hexadecimal digits in lower case, numbers written as sixteen of them, an f64 by such a pattern, and the pattern of an f32.
 // A text and a place in it are two parameters; why, reader_cells says.
 #![tactic(auto)]
 
@@ -8,4 +8,4 @@ mod patterns;
 
 pub use bytes::{byte_at, digit};
 pub use digits::{eight_at, sixteen_at, sixteen_before};
-pub use patterns::{bits_of, of_bits};
+pub use patterns::{bits_of, bits_of_single, of_bits};

@@ -1,9 +1,9 @@
-// An f64 and its pattern, NaNs included. Both functions are the library's; here they have short names, those of the definitions that they are equal to.
+// An f64 and its pattern, and the pattern of an f32, NaNs included. All are the library's; here they have short names, those of the definitions that they are equal to.
 ghost use Rattle.std.specs.Prelude.{◌≡◌};
-ghost use Rattle.std.specs.Float.{binary64};
+ghost use Rattle.std.specs.Float.{binary32, binary64};
 ghost use Rattle.std.specs.Float.Ieee.{of_bits, to_bits};
 
-use std::num::{f64_from_bits_with_nan, f64_to_bits_with_nan};
+use std::num::{f32_to_bits_with_nan, f64_from_bits_with_nan, f64_to_bits_with_nan};
 
 // The f64 of a pattern, any NaN's too.
 pub fn of_bits(n: u64) -> f64
@@ -17,4 +17,11 @@ pub fn bits_of(x: f64) -> u64
     ensures { result ≡ to_bits binary64 x }
 {
     f64_to_bits_with_nan(x)
+}
+
+// The pattern of an f32, 7fc00000 for a NaN.
+pub fn bits_of_single(x: f32) -> u64
+    ensures { result ≡ to_bits binary32 x }
+{
+    u64::from(f32_to_bits_with_nan(x))
 }

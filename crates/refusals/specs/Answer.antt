@@ -12,6 +12,11 @@ abbrev pub answered : {A : Type 0} → Result A Refusal → Answer A
 answered (Ok a) = value a
 answered (Err r) = refused (number_of r)
 
+-- an answer in one number: 0 for values, else the number of the refusal
+abbrev pub answer_number : {A : Type 0} → Answer A → ℕ
+answer_number (value a) = 0
+answer_number (refused n) = n
+
 -- the call refuses not, and of what it answers P holds
 abbrev pub Answers : {A : Type 0} → Answer A → (A → Type 0) → Type 0
 Answers (value a) P = P a

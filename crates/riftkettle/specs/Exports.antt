@@ -1,4 +1,4 @@
--- Document 01, "What a call gives back", as a C function gives it: 0 and the values behind its pointers, or the number of the refusal, and what is behind them stays.
+-- Document 01, "What a call gives back", as a C function gives it: 0 and the values behind its pointers, or the number of the refusal, and what is behind them stays. The number is `answer_number` (refusals, Answer).
 use Rattle.std.specs.Prelude.{ℕ, List, [], ◌∷◌, ℤ, pos, Float, Option, Some, None}
 use Rattle.std.specs.Int.{from_bool}
 use Rattle.refusals.specs.Answer.{Answer, value, refused}
@@ -6,11 +6,6 @@ use Rattle.records.specs.declared.points.RefPoint.{RefPoint}
 use Rattle.surface_station.specs.declared.axis.Axes.{Axes}
 use Rattle.surface_points.specs.declared.points.SurfacePoint32.{SurfacePoint32}
 use Rattle.surface_locate.specs.declared.points.Position.{Position}
-
--- what the function returns
-abbrev pub returned : {A : Type 0} → Answer A → ℕ
-returned (value a) = 0
-returned (refused n) = n
 
 -- what is behind a pointer afterwards, where the part f of the answer belongs there; a refusal "changes no memory"
 abbrev pub left_by : {A B : Type 0} → (A → B) → Answer A → B → B

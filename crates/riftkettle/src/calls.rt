@@ -1,16 +1,19 @@
 // Calls on a road in lent memory. Each checks the road whole and anew.
 // The C interface lends a road's two slices as they are; the calls below make a road of them.
 ghost use Rattle.std.specs.Prelude.{◌≡◌, length};
+ghost use Rattle.refusals.specs.Answer.{answer_number};
 ghost use Rattle.admission.specs.Admission.{admit_call};
 ghost use Rattle.line_calls.specs.SampleCall.{samples_call, samples_list};
 ghost use Rattle.line_pose.specs.Poses.{pose_list};
 ghost use Rattle.line_calls.specs.PoseCall.{pose_call};
 ghost use Rattle.lanes_calls.specs.LaneCalls.{borders_call, borders_list, lane_named_call};
-ghost use Rattle.riftkettle.specs.Exports.{returned, left_by, id_returned};
+ghost use Rattle.riftkettle.specs.Exports.{left_by, id_returned};
 
-use crate::answers::{leave, number};
+use crate::answers::leave;
 use line_samples::Pose;
+use refusals::answer_number;
 
+// No `From`: both types are other crates', so the impl would be theirs and public.
 fn pose_list(p: Pose) -> [f64; 3]
     ensures { result ≡ pose_list p }
 {
@@ -20,9 +23,9 @@ fn pose_list(p: Pose) -> [f64; 3]
 // Refuses 3, 4, 5.
 #[unsafe(no_mangle)]
 pub extern "C" fn riftkettle_admit(words: &[u16], numbers: &[f64]) -> u32
-    ensures { result ≡ returned (admit_call words.now numbers.now) }
+    ensures { result ≡ answer_number (admit_call words.now numbers.now) }
 {
-    number(&admission_calls::admit(words, numbers))
+    answer_number(&admission_calls::admit(words, numbers))
 }
 
 // Refuses 3, 4, 5, 6.
@@ -33,7 +36,7 @@ pub extern "C" fn riftkettle_samples(
     samples: &mut [f64],
     made: &mut usize,
 ) -> u32
-    ensures value { result ≡ returned (samples_call words.now numbers.now (length samples.old)) }
+    ensures value { result ≡ answer_number (samples_call words.now numbers.now (length samples.old)) }
     ensures samples_after { samples.new ≡ samples_list words.now numbers.now samples.old }
     ensures made_after { made.new ≡ left_by (λ n. n) (samples_call words.now numbers.now (length samples.old)) made.old }
 {
@@ -50,7 +53,7 @@ pub extern "C" fn riftkettle_pose(
     s: f64,
     pose: &mut [f64; 3],
 ) -> u32
-    ensures value { result ≡ returned (pose_call words.now numbers.now samples.now geometry s) }
+    ensures value { result ≡ answer_number (pose_call words.now numbers.now samples.now geometry s) }
     ensures pose_after { pose.new ≡ left_by pose_list (pose_call words.now numbers.now samples.now geometry s) pose.old }
 {
     let found = line_calls::posed(words, numbers, samples, geometry, s);
@@ -66,7 +69,7 @@ pub extern "C" fn riftkettle_borders(
     list: &mut [f64],
     lanes: &mut usize,
 ) -> u32
-    ensures value { result ≡ returned (borders_call words.now numbers.now s (length list.old)) }
+    ensures value { result ≡ answer_number (borders_call words.now numbers.now s (length list.old)) }
     ensures list_after { list.new ≡ borders_list words.now numbers.now s list.old }
     ensures lanes_after { lanes.new ≡ left_by (λ n. n) (borders_call words.now numbers.now s (length list.old)) lanes.old }
 {
@@ -82,7 +85,7 @@ pub extern "C" fn riftkettle_lane_named(
     t: f64,
     id: &mut i32,
 ) -> u32
-    ensures value { result ≡ returned (lane_named_call words.now numbers.now s t) }
+    ensures value { result ≡ answer_number (lane_named_call words.now numbers.now s t) }
     ensures id_after { id.new ≡ left_by id_returned (lane_named_call words.now numbers.now s t) id.old }
 {
     let named = lanes_calls::lane_named(words, numbers, s, t);

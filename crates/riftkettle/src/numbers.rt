@@ -1,11 +1,12 @@
 // Functions of numbers.
 ghost use Rattle.std.specs.Prelude.{◌≡◌};
+ghost use Rattle.refusals.specs.Answer.{answer_number};
 ghost use Rattle.std.specs.Float.{binary32, binary64};
 ghost use Rattle.arithmetic.specs.Root.{root_of, hypot_of};
 ghost use Rattle.arithmetic_sine.specs.Sine.{sine_of, cosine_of, tan_of};
 ghost use Rattle.arithmetic.specs.Narrow.{narrowed};
 ghost use Rattle.arithmetic_counts.specs.Count.{counts_call};
-ghost use Rattle.riftkettle.specs.Exports.{returned, left_by};
+ghost use Rattle.riftkettle.specs.Exports.{left_by};
 
 use crate::answers::leave;
 
@@ -61,7 +62,7 @@ pub extern "C" fn riftkettle_narrow(x: f64) -> f32
 // Refuses 12.
 #[unsafe(no_mangle)]
 pub extern "C" fn riftkettle_counts(v: f64, count: &mut i64) -> u32
-    ensures value { result ≡ returned (counts_call v) }
+    ensures value { result ≡ answer_number (counts_call v) }
     ensures count_after { count.new ≡ left_by (λ n. n) (counts_call v) count.old }
 {
     leave(arithmetic_counts::counts(v), count)

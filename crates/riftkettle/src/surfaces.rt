@@ -1,16 +1,19 @@
 // Calls on a road in lent memory with its samples: stations, axes, the surface, and where a point lies on it. Each checks the road whole and anew.
 // The C interface lends a road's two slices as they are; the calls below make a road of them.
 ghost use Rattle.std.specs.Prelude.{◌≡◌};
+ghost use Rattle.refusals.specs.Answer.{answered, answer_number};
 ghost use Rattle.surface_calls.specs.SurfaceCalls.{station_call, axes_call, surface_call, lane_surface_call};
 ghost use Rattle.surface_calls.specs.LocateCall.{locate_call};
-ghost use Rattle.riftkettle.specs.Exports.{returned, left_by, station_list, axes_list, point_list, heading_of, pair_list, moves_of, met_of};
+ghost use Rattle.riftkettle.specs.Exports.{left_by, station_list, axes_list, point_list, heading_of, pair_list, moves_of, met_of};
 
 use crate::answers::leave;
 use records::RefPoint;
+use refusals::Refusal;
 use surface_locate::Position;
 use surface_points::SurfacePoint32;
 use surface_station::Axes;
 
+// No `From` here or below: both types are other crates', so the impl would be theirs and public.
 fn station_list(p: RefPoint) -> [f64; 8]
     ensures { result ≡ station_list p }
 {
@@ -42,7 +45,7 @@ pub extern "C" fn riftkettle_station(
     s: f64,
     station: &mut [f64; 8],
 ) -> u32
-    ensures value { result ≡ returned (station_call words.now numbers.now samples.now s) }
+    ensures value { result ≡ answer_number (station_call words.now numbers.now samples.now s) }
     ensures station_after { station.new ≡ left_by station_list (station_call words.now numbers.now samples.now s) station.old }
 {
     let found = surface_calls::station(words, numbers, samples, s);
@@ -58,13 +61,27 @@ pub extern "C" fn riftkettle_axes(
     s: f64,
     axes: &mut [f64; 9],
 ) -> u32
-    ensures value { result ≡ returned (axes_call words.now numbers.now samples.now s) }
+    ensures value { result ≡ answer_number (axes_call words.now numbers.now samples.now s) }
     ensures axes_after { axes.new ≡ left_by axes_list (axes_call words.now numbers.now samples.now s) axes.old }
 {
     leave(
         surface_calls::axes(words, numbers, samples, s).map(axes_list),
         axes,
     )
+}
+
+// A point of the surface and its heading, behind two pointers.
+fn leave_point(
+    found: Result<SurfacePoint32, Refusal>,
+    point: &mut [f32; 3],
+    heading: &mut f64,
+) -> u32
+    ensures value { result ≡ answer_number (answered found) }
+    ensures point_after { point.new ≡ left_by point_list (answered found) point.old }
+    ensures heading_after { heading.new ≡ left_by heading_of (answered found) heading.old }
+{
+    leave(found.map(|p| p.heading), heading);
+    leave(found.map(point_list), point)
 }
 
 // Refuses 3, 4, 5, 6, 7, 8.
@@ -78,13 +95,12 @@ pub extern "C" fn riftkettle_surface(
     point: &mut [f32; 3],
     heading: &mut f64,
 ) -> u32
-    ensures value { result ≡ returned (surface_call words.now numbers.now samples.now s t) }
+    ensures value { result ≡ answer_number (surface_call words.now numbers.now samples.now s t) }
     ensures point_after { point.new ≡ left_by point_list (surface_call words.now numbers.now samples.now s t) point.old }
     ensures heading_after { heading.new ≡ left_by heading_of (surface_call words.now numbers.now samples.now s t) heading.old }
 {
     let found = surface_calls::surface(words, numbers, samples, s, t);
-    leave(found.map(|p| p.heading), heading);
-    leave(found.map(point_list), point)
+    leave_point(found, point, heading)
 }
 
 // Refuses 3, 4, 5, 6, 7, 8, 10.
@@ -99,13 +115,12 @@ pub extern "C" fn riftkettle_lane_surface(
     point: &mut [f32; 3],
     heading: &mut f64,
 ) -> u32
-    ensures value { result ≡ returned (lane_surface_call words.now numbers.now samples.now id s t) }
+    ensures value { result ≡ answer_number (lane_surface_call words.now numbers.now samples.now id s t) }
     ensures point_after { point.new ≡ left_by point_list (lane_surface_call words.now numbers.now samples.now id s t) point.old }
     ensures heading_after { heading.new ≡ left_by heading_of (lane_surface_call words.now numbers.now samples.now id s t) heading.old }
 {
     let found = surface_calls::lane_surface(words, numbers, samples, id, s, t);
-    leave(found.map(|p| p.heading), heading);
-    leave(found.map(point_list), point)
+    leave_point(found, point, heading)
 }
 
 fn pair_list(p: Position) -> [f64; 2]
@@ -127,7 +142,7 @@ pub extern "C" fn riftkettle_locate(
     moves: &mut u32,
     met: &mut u32,
 ) -> u32
-    ensures value { result ≡ returned (locate_call words.now numbers.now samples.now x y guess) }
+    ensures value { result ≡ answer_number (locate_call words.now numbers.now samples.now x y guess) }
     ensures pair_after { pair.new ≡ left_by pair_list (locate_call words.now numbers.now samples.now x y guess) pair.old }
     ensures moves_after { moves.new ≡ left_by moves_of (locate_call words.now numbers.now samples.now x y guess) moves.old }
     ensures met_after { met.new ≡ left_by met_of (locate_call words.now numbers.now samples.now x y guess) met.old }

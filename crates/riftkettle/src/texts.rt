@@ -1,8 +1,9 @@
 // A job text into lent memory.
 // The C interface lends the slices as they are.
 ghost use Rattle.std.specs.Prelude.{◌≡◌, length};
+ghost use Rattle.refusals.specs.Answer.{answer_number};
 ghost use Rattle.reader_calls.specs.Reading.{reading_of, verdict_of, words_held, numbers_held, wants_held};
-ghost use Rattle.riftkettle.specs.Exports.{returned, left_by};
+ghost use Rattle.riftkettle.specs.Exports.{left_by};
 
 use crate::answers::leave;
 
@@ -15,7 +16,7 @@ pub extern "C" fn riftkettle_read(
     wants: &mut [u64],
     count: &mut usize,
 ) -> u32
-    ensures value { result ≡ returned (verdict_of (reading_of text.now (length words.old) (length numbers.old) (length wants.old))) }
+    ensures value { result ≡ answer_number (verdict_of (reading_of text.now (length words.old) (length numbers.old) (length wants.old))) }
     ensures words_after { words.new ≡ words_held (length words.old) (reading_of text.now (length words.old) (length numbers.old) (length wants.old)) }
     ensures numbers_after { numbers.new ≡ numbers_held (length numbers.old) (reading_of text.now (length words.old) (length numbers.old) (length wants.old)) }
     ensures wants_after { wants.new ≡ wants_held (length wants.old) (reading_of text.now (length words.old) (length numbers.old) (length wants.old)) }

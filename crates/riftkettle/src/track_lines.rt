@@ -1,15 +1,19 @@
-// Calls on a track line in lent memory, three f32 a point.
+// Calls on a track line in lent memory, three f32 a point. Each checks the line whole and anew.
+// The C interface lends the numbers as they are.
 ghost use Rattle.std.specs.Prelude.{◌≡◌, length};
+ghost use Rattle.refusals.specs.Answer.{answer_number};
 ghost use Rattle.coordinates.specs.Vectors.{place};
 ghost use Rattle.tracks.specs.Poses.{track_pose_list};
 ghost use Rattle.tracks.specs.Projections.{projection_list};
 ghost use Rattle.tracks_calls.specs.TrackCalls.{tangents_call, tangents_list, track_pose_call, project_call};
-ghost use Rattle.riftkettle.specs.Exports.{returned, left_by};
+ghost use Rattle.riftkettle.specs.Exports.{left_by};
 
-use crate::answers::{leave, number};
+use crate::answers::leave;
 use records::Point;
+use refusals::answer_number;
 use tracks::{Projection, TrackPose};
 
+// No `From` here or below: both types are other crates', so the impl would be theirs and public.
 fn track_pose_list(p: TrackPose) -> [f32; 6]
     ensures { result ≡ track_pose_list p }
 {
@@ -28,16 +32,16 @@ fn projection_list(p: Projection) -> [f32; 5]
 // Refuses 13, 14.
 #[unsafe(no_mangle)]
 pub extern "C" fn riftkettle_track_tangents(points: &[f32], list: &mut [f32]) -> u32
-    ensures value { result ≡ returned (tangents_call points.now (length list.old)) }
+    ensures value { result ≡ answer_number (tangents_call points.now (length list.old)) }
     ensures list_after { list.new ≡ tangents_list points.now list.old }
 {
-    number(&tracks_calls::tangents(points, list))
+    answer_number(&tracks_calls::tangents(points, list))
 }
 
 // Refuses 13, 14.
 #[unsafe(no_mangle)]
 pub extern "C" fn riftkettle_track_pose(points: &[f32], s: f32, pose: &mut [f32; 6]) -> u32
-    ensures value { result ≡ returned (track_pose_call points.now s) }
+    ensures value { result ≡ answer_number (track_pose_call points.now s) }
     ensures pose_after { pose.new ≡ left_by track_pose_list (track_pose_call points.now s) pose.old }
 {
     leave(tracks_calls::pose_at(points, s).map(track_pose_list), pose)
@@ -52,7 +56,7 @@ pub extern "C" fn riftkettle_track_project(
     z: f32,
     projection: &mut [f32; 5],
 ) -> u32
-    ensures value { result ≡ returned (project_call points.now (place x y z)) }
+    ensures value { result ≡ answer_number (project_call points.now (place x y z)) }
     ensures projection_after { projection.new ≡ left_by projection_list (project_call points.now (place x y z)) projection.old }
 {
     let found = tracks_calls::project(points, Point { x, y, z });

@@ -2,7 +2,8 @@
 use Rattle.std.specs.Prelude.{ℕ, cond, List, ◌==◌, Float, Option, Some, None}
 use Rattle.admission.specs.Admission.{admit_call}
 use Rattle.line_calls.specs.SampleCall.{samples_call}
-use Rattle.test_support.specs.Answers.{answer_number, count_word}
+use Rattle.refusals.specs.Answer.{answer_number}
+use Rattle.test_support.specs.Answers.{count_word}
 use Rattle.test_admission.specs.declared.calls.Call.{Call}
 use Rattle.test_admission.specs.declared.calls.Call.TheVariants.{Admission, Samples}
 

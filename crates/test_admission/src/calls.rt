@@ -3,15 +3,16 @@
 // The calls take the two lent slices and no road: whether one lies there is what is asked.
 ghost use Rattle.std.specs.Prelude.{◌≡◌, length};
 ghost use Rattle.admission.specs.Admission.{admit_call};
-ghost use Rattle.test_support.specs.Answers.{answer_number};
+ghost use Rattle.refusals.specs.Answer.{answer_number};
 ghost use Rattle.test_admission.specs.Case.{call_of, call_word};
 
-use test_support::{count_word, number_of};
+use refusals::answer_number;
+use test_support::count_word;
 
 fn admission_answer(words: &[u16], numbers: &[f64]) -> u64
     ensures { result ≡ answer_number (admit_call words.now numbers.now) }
 {
-    u64::from(number_of(&admission_calls::admit(words, numbers)))
+    u64::from(answer_number(&admission_calls::admit(words, numbers)))
 }
 
 #[derive(Clone, Copy)]
@@ -21,7 +22,7 @@ pub(crate) enum Call {
 }
 
 impl Call {
-    // The call of a letter, which is made an enum here and nowhere else.
+    // The call of a letter.
     #[tactic(auto, unfolding(crate::specs::Case::call_of))]
     pub(crate) fn named(letter: u8) -> Option<Call>
         ensures { result ≡ call_of letter }

@@ -2,6 +2,7 @@
 //
 // tools/lists/src/bin/admission/main.rs says what each letter means.
 use crate::calls::Call;
+use line_samples::{SAMPLE_STRIDE, SAMPLES_NEEDED};
 use reader_hex::of_bits;
 use records::layout::{NUMBERS_NEEDED, WORDS_NEEDED};
 use std::io;
@@ -9,16 +10,16 @@ use std::io::Read;
 use test_support::{LINE_LENGTH, Line, line_of, put};
 
 // What is lent may be a little more than a road needs.
-const MOST_WORDS: usize = WORDS_NEEDED + 3;
+const WORDS_ROOM: usize = WORDS_NEEDED + 3;
 
-const MOST_NUMBERS: usize = NUMBERS_NEEDED + 3;
+const NUMBERS_ROOM: usize = NUMBERS_NEEDED + 3;
 
-const MOST_SAMPLES: usize = 8004;
+const SAMPLES_ROOM: usize = SAMPLES_NEEDED + SAMPLE_STRIDE;
 
 #[derive(Clone, Copy)]
 struct Road {
-    words: [u16; MOST_WORDS],
-    numbers: [f64; MOST_NUMBERS],
+    words: [u16; WORDS_ROOM],
+    numbers: [f64; NUMBERS_ROOM],
 }
 
 // How many words, numbers and numbers for samples are lent.
@@ -44,14 +45,14 @@ impl Lent {
     const ALL: Lent = Lent {
         words: WORDS_NEEDED,
         numbers: NUMBERS_NEEDED,
-        samples: MOST_SAMPLES,
+        samples: SAMPLES_ROOM,
     };
 }
 
 impl Road {
     const EMPTY: Road = Road {
-        words: [0; MOST_WORDS],
-        numbers: [0.0; MOST_NUMBERS],
+        words: [0; WORDS_ROOM],
+        numbers: [0.0; NUMBERS_ROOM],
     };
 }
 
@@ -77,12 +78,12 @@ impl Replay {
 
     // What a call answers, with as much of each slice lent as is asked for and there is.
     fn asked(&self, call: Call) -> u64 {
-        let mut samples = [0.0; MOST_SAMPLES];
+        let mut samples = [0.0; SAMPLES_ROOM];
         let lent = self.lent;
         call.answer(
-            &self.road.words[..lent.words.min(MOST_WORDS)],
-            &self.road.numbers[..lent.numbers.min(MOST_NUMBERS)],
-            &mut samples[..lent.samples.min(MOST_SAMPLES)],
+            &self.road.words[..lent.words.min(WORDS_ROOM)],
+            &self.road.numbers[..lent.numbers.min(NUMBERS_ROOM)],
+            &mut samples[..lent.samples.min(SAMPLES_ROOM)],
         )
     }
 
@@ -99,41 +100,34 @@ impl Replay {
         Ok(())
     }
 
-    // A change; false where the letter, a place or a value is unknown. A letter is matched here and nowhere else, so no enum of changes
+    // A change; none where the letter, a place or a value is unknown. A letter is matched here and nowhere else, so no enum of changes
     // stands between it and what it does.
-    fn changed(&mut self, line: Line) -> bool {
+    fn change(&mut self, line: Line) -> Option<()> {
         match line.letter {
-            b'w' => match u16::try_from(line.b) {
-                Ok(word) => put(&mut self.road.words, line.a, word),
-                Err(_) => false,
-            },
-            b'n' => put(&mut self.road.numbers, line.a, of_bits(line.b)),
+            b'w' => put(
+                &mut self.road.words,
+                line.a,
+                u16::try_from(line.b).ok()?,
+            )?,
+            b'n' => put(&mut self.road.numbers, line.a, of_bits(line.b))?,
             b'l' => {
                 self.lent.words = line.a as usize;
                 self.lent.numbers = line.b as usize;
-                true
             }
-            b'm' => {
-                self.lent.samples = line.a as usize;
-                true
-            }
-            b'b' => {
-                self.base = self.road;
-                true
-            }
-            _ => false,
+            b'm' => self.lent.samples = line.a as usize,
+            b'b' => self.base = self.road,
+            _ => return None,
         }
+        Some(())
     }
 
     fn apply(&mut self, rt: &impl Print, line: Option<Line>) -> io::Result<()> {
-        let known = match line {
-            Some(line) => match Call::named(line.letter) {
-                Some(call) => return self.run(rt, call, line),
-                None => self.changed(line),
-            },
-            None => false,
-        };
-        if !known {
+        if let Some(line) = line
+            && let Some(call) = Call::named(line.letter)
+        {
+            return self.run(rt, call, line);
+        }
+        if line.and_then(|line| self.change(line)).is_none() {
             self.broken = self.broken.wrapping_add(1);
         }
         Ok(())

@@ -4,7 +4,8 @@ ghost use Rattle.refusals.specs.Answer.{answered};
 ghost use Rattle.test_jobs.specs.Case.{seen_of, case_in, case_of};
 
 use reader_hex::of_bits;
-use refusals::Refusal;
+use records::layout::{NUMBERS_NEEDED, WANTS_NEEDED, WORDS_NEEDED};
+use refusals::{Refusal, answer_number};
 use test_support::checksum;
 
 // How many words, numbers and wants are lent.
@@ -13,6 +14,14 @@ pub(crate) struct Lent {
     pub(crate) words: usize,
     pub(crate) numbers: usize,
     pub(crate) wants: usize,
+}
+
+impl Lent {
+    pub(crate) const ALL: Lent = Lent {
+        words: WORDS_NEEDED,
+        numbers: NUMBERS_NEEDED,
+        wants: WANTS_NEEDED,
+    };
 }
 
 // The two columns of an answer as they are written: a Result would leave them to the printing, of which no contract speaks.
@@ -32,12 +41,9 @@ pub(crate) struct Case {
 fn seen_of(read: Result<usize, Refusal>) -> Seen
     ensures { result ≡ seen_of (answered read) }
 {
-    match read {
-        Ok(wants) => Seen { answer: 0, wants },
-        Err(why) => Seen {
-            answer: u32::from(why),
-            wants: 0,
-        },
+    Seen {
+        answer: answer_number(&read),
+        wants: read.unwrap_or(0),
     }
 }
 

@@ -7,7 +7,6 @@
 //     l w n   the next case lends w words and n numbers
 //     r v k   the case numbered k is run, with v wants lent; then the text is empty
 use crate::cases::{Lent, case_of};
-use records::layout::{NUMBERS_NEEDED, WORDS_NEEDED};
 use std::io::Read;
 use std::{io, mem};
 use test_support::{LINE_LENGTH, Line, Text, extend, line_of};
@@ -16,9 +15,8 @@ use test_support::{LINE_LENGTH, Line, Text, extend, line_of};
 struct Replay {
     text: Text,
     base: Text,
-    // how many words and numbers the next case lends
-    words: usize,
-    numbers: usize,
+    // what the next case lends, but for the wants, which its own line says
+    lent: Lent,
     // how many cases there were, and lines that break the form
     cases: u64,
     broken: u64,
@@ -29,8 +27,7 @@ impl Replay {
         Replay {
             text: Text::new(),
             base: Text::new(),
-            words: WORDS_NEEDED,
-            numbers: NUMBERS_NEEDED,
+            lent: Lent::ALL,
             cases: 0,
             broken: 0,
         }
@@ -44,15 +41,13 @@ impl Replay {
     // Runs the case, and writes its number and what was seen. The next case lends all.
     fn run(&mut self, rt: &impl Print, number: u64, wants: usize) -> io::Result<()> {
         let lent = Lent {
-            words: self.words,
-            numbers: self.numbers,
             wants,
+            ..self.lent
         };
         let case = case_of(self.text.as_slice(), lent);
         let seen = case.seen;
         self.text.clear();
-        self.words = WORDS_NEEDED;
-        self.numbers = NUMBERS_NEEDED;
+        self.lent = Lent::ALL;
         self.cases = self.cases.wrapping_add(1);
         println!(rt; "{number} {} {} {:016x}", seen.answer, seen.wants, case.sum)
     }
@@ -71,8 +66,8 @@ impl Replay {
             }
             Some(Line { letter: b'b', .. }) => self.keep(),
             Some(Line { letter: b'l', a, b }) => {
-                self.words = a as usize;
-                self.numbers = b as usize;
+                self.lent.words = a as usize;
+                self.lent.numbers = b as usize;
             }
             Some(Line { letter: b'r', a, b }) => self.run(rt, b, a as usize)?,
             _ => self.broken = self.broken.wrapping_add(1),

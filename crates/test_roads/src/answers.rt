@@ -48,7 +48,7 @@ fn toward_numbers(road: &LentRoad, s: f64, t: f64) -> [f64; 4]
     [left, right, 0.0, 0.0]
 }
 
-// The id of the lane at t, 0 for none.
+// The id of the lane at t, 0 for none. A match: with `map_or` the proof would need a law of its own on the cases (test_tracks has tried it).
 fn name(words: &[u16], numbers: &[f64], s: f64, t: f64) -> f64
     ensures { result ≡ name_number (lane_named_call words.now numbers.now s t) }
 {
@@ -69,7 +69,7 @@ pub(crate) enum Question {
 }
 
 impl Question {
-    // The question of a letter, which is made an enum here and nowhere else.
+    // The question of a letter.
     #[tactic(auto, unfolding(crate::specs::Case::question_of))]
     pub(crate) fn named(letter: u8) -> Option<Question>
         ensures { result ≡ question_of letter }
@@ -131,7 +131,7 @@ pub(crate) enum Fill {
 }
 
 impl Fill {
-    // What is written for a letter, which is made an enum here and nowhere else.
+    // What is written for a letter.
     #[tactic(auto, unfolding(crate::specs::Case::fill_of))]
     pub(crate) fn named(letter: u8) -> Option<Fill>
         ensures { result ≡ fill_of letter }

@@ -92,7 +92,7 @@ pub(crate) enum Call {
 }
 
 impl Call {
-    // The call of a letter, which is made an enum here and nowhere else.
+    // The call of a letter.
     #[tactic(auto, unfolding(crate::specs::CallNumbers::call_of))]
     pub(crate) fn named(letter: u8) -> Option<Call>
         ensures { result ≡ call_of letter }

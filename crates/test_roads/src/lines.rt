@@ -4,6 +4,7 @@
 use crate::answers::{Fill, Question, lent_number};
 use crate::calls::Call;
 use crate::patterns::pattern;
+use line_samples::SAMPLES_NEEDED;
 use reader_hex::of_bits;
 use records::layout::{NUMBERS_NEEDED, WORDS_NEEDED};
 use std::io;
@@ -15,7 +16,7 @@ struct Replay {
     words: [u16; WORDS_NEEDED],
     numbers: [f64; NUMBERS_NEEDED],
     // the slice that calls write into, and that is lent as samples
-    lent: [f64; 8000],
+    lent: [f64; SAMPLES_NEEDED],
     // what the calls share: the third argument, and how much of the slice is lent
     with: u64,
     samples: usize,
@@ -25,26 +26,31 @@ fn show_number(rt: &impl Print, x: f64) -> io::Result<()> {
     print!(rt; "{:016x} ", pattern(x))
 }
 
+// The first numbers of a row.
+fn show_row(rt: &impl Print, row: &[f64], count: usize) -> io::Result<()> {
+    for x in row.iter().take(count) {
+        show_number(rt, *x)?;
+    }
+    println!(rt; "")
+}
+
 impl Replay {
     fn new() -> Self {
         Replay {
             words: [0; WORDS_NEEDED],
             numbers: [0.0; NUMBERS_NEEDED],
-            lent: [0.0; 8000],
+            lent: [0.0; SAMPLES_NEEDED],
             with: 0,
-            samples: 8000,
+            samples: SAMPLES_NEEDED,
         }
     }
 
     fn show_answer(&self, rt: &impl Print, question: Question, line: Line) -> io::Result<()> {
         let row = question.row(line, &self.words, &self.numbers, &self.lent);
-        for x in row.iter().take(question.count()) {
-            show_number(rt, *x)?;
-        }
-        println!(rt; "")
+        show_row(rt, &row, question.count())
     }
 
-    // The slice's numbers from a place on, as many as the line asks for.
+    // The slice's numbers from a place on, as many as the line asks for; no `show_row`, since past the slice's end they are NaNs.
     fn show_lent(&self, rt: &impl Print, from: u64, count: u64) -> io::Result<()> {
         for part in 0..count {
             show_number(rt, lent_number(&self.lent, from, part))?;
@@ -62,31 +68,26 @@ impl Replay {
     fn show_call(&self, rt: &impl Print, call: Call, line: Line) -> io::Result<()> {
         let samples = records_lent::part(&self.lent, 0, self.samples);
         let row = call.row(line, self.with, &self.words, &self.numbers, samples);
-        for x in row.iter().take(call.count()) {
-            show_number(rt, *x)?;
-        }
-        println!(rt; "")
+        show_row(rt, &row, call.count())
     }
 
-    // A change; false where the letter, a place or a value is unknown. No enum of changes stands between a letter and what it does: each is matched once.
-    fn changed(&mut self, line: Line) -> bool {
+    // A change; none where the letter, a place or a value is unknown. No enum of changes stands between a letter and what it does: each is matched once.
+    fn change(&mut self, line: Line) -> Option<()> {
         match line.letter {
-            b'w' => match u16::try_from(line.b) {
-                Ok(word) => put(&mut self.words, line.a, word),
-                Err(_) => false,
-            },
-            b'n' => put(&mut self.numbers, line.a, of_bits(line.b)),
-            b'f' => put(&mut self.lent, line.a, of_bits(line.b)),
+            b'w' => put(&mut self.words, line.a, u16::try_from(line.b).ok()?)?,
+            b'n' => put(&mut self.numbers, line.a, of_bits(line.b))?,
+            b'f' => put(&mut self.lent, line.a, of_bits(line.b))?,
             b'c' => {
                 self.with = line.a;
                 self.samples = line.b as usize;
-                true
             }
-            _ => false,
+            _ => return None,
         }
+        Some(())
     }
 
-    // A question, the slice's numbers (some must be asked for) or a change; false where it is unknown.
+    // A question, the slice's numbers (some must be asked for) or a change; false where it is unknown. The letter of the slice's numbers is tested as
+    // it is: an enum of it would have one case.
     fn apply(&mut self, rt: &impl Print, line: Line) -> io::Result<bool> {
         if let Some(question) = Question::named(line.letter) {
             self.show_answer(rt, question, line)?;
@@ -104,7 +105,7 @@ impl Replay {
             self.show_lent(rt, line.a, line.b)?;
             return Ok(true);
         }
-        Ok(self.changed(line))
+        Ok(self.change(line).is_some())
     }
 }
 

@@ -2,11 +2,6 @@
 use Rattle.std.specs.Prelude.{ℕ, ◌+◌, ◌%◌, ◌^◌}
 use Rattle.refusals.specs.Answer.{Answer, value, refused}
 
--- 0 for a value, else the number of the refusal
-abbrev pub answer_number : {A : Type 0} → Answer A → ℕ
-answer_number (value a) = 0
-answer_number (refused number) = number
-
 -- n + 2^63, in 64 bits, for a count of n, else the number of the refusal
 abbrev pub count_word : Answer ℕ → ℕ
 count_word (value n) = (n + 2 ^ 63) % 2 ^ 64

@@ -1,5 +1,8 @@
 // A line of a list is 36 bytes: a letter, a space, 16 digits, a space, 16 digits, LF.
 //
+// A letter is made a program's own enum by a function `named`, no `TryFrom`: its error would say no more than `None` does, and callers only ask
+// whether there is a call of that letter.
+//
 // Each program reads its list and splits it into lines by itself: one function for all would be public, and no contract can say what it
 // reads and prints.
 ghost use Rattle.std.specs.Prelude.{◌≡◌};

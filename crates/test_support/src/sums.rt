@@ -13,7 +13,7 @@ fn mixed(sum: u64, element: u64) -> u64
         .wrapping_add(element)
 }
 
-// Of the words first, then the patterns of the numbers, then the wants: of all lent memory, whether a road lies there or not.
+// The checksum of all lent memory, whether a road lies there or not: of the words, then the patterns of the numbers, then the wants.
 pub fn checksum(words: &[u16], numbers: &[f64], wants: &[u64]) -> u64
     ensures { result ≡ checksum_of words.now numbers.now wants.now }
 {

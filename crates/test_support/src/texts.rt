@@ -7,18 +7,18 @@ ghost use Rattle.test_support.specs.Texts.{part_of, word_bytes, piece_of};
 use crate::lines::Line;
 
 // Some more than the longest job, so that a text may be too long for one.
-const TEXT_ROOM: usize = 66000;
+pub const TEXT_ROOM: usize = 66000;
 
 pub type Text = fixed_text::Text<TEXT_ROOM>;
 
 // The sixteen bytes of a line's numbers, the most significant of each first.
-fn words_of(line: Line) -> [u8; 16]
+fn bytes_of(line: Line) -> [u8; 16]
     ensures { result ≡ word_bytes line.a ++ word_bytes line.b }
 {
-    let mut words = [0; 16];
-    words[..8].copy_from_slice(&line.a.to_be_bytes());
-    words[8..].copy_from_slice(&line.b.to_be_bytes());
-    words
+    let mut bytes = [0; 16];
+    bytes[..8].copy_from_slice(&line.a.to_be_bytes());
+    bytes[8..].copy_from_slice(&line.b.to_be_bytes());
+    bytes
 }
 
 // The bytes from `first` up to `last`, those of them that there are.
@@ -30,15 +30,16 @@ fn part(bytes: &[u8], first: u64, last: u64) -> &[u8]
 }
 
 // What a line appends: t the sixteen bytes of its numbers, x so many low bytes of the second as the first says, c the bytes of another
-// text from the first up to the second. Any other letter appends nothing.
+// text from the first up to the second. Any other letter appends nothing. An enum of the three would be made of the letter by a match of its
+// own, only to be matched here.
 #[tactic(auto, unfolding(crate::specs::Texts::piece_of))]
-fn piece_of<'a>(line: Line, words: &'a [u8], base: &'a [u8]) -> &'a [u8]
-    requires { words.now ≡ word_bytes line.a ++ word_bytes line.b }
+fn piece_of<'a>(line: Line, own: &'a [u8], base: &'a [u8]) -> &'a [u8]
+    requires { own.now ≡ word_bytes line.a ++ word_bytes line.b }
     ensures { result.now ≡ piece_of line base.now }
 {
     match line.letter {
-        b't' => words,
-        b'x' => &words[16 - line.a.min(8) as usize..],
+        b't' => own,
+        b'x' => &own[16 - line.a.min(8) as usize..],
         b'c' => part(base, line.a, line.b),
         _ => &[],
     }
@@ -48,5 +49,5 @@ fn piece_of<'a>(line: Line, words: &'a [u8], base: &'a [u8]) -> &'a [u8]
 pub fn extend(text: &mut Text, line: Line, base: &[u8])
     ensures { text.new ≡ appended TEXT_ROOM text.old (piece_of line base.now) }
 {
-    text.append(piece_of(line, &words_of(line), base));
+    text.append(piece_of(line, &bytes_of(line), base));
 }

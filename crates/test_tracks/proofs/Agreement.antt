@@ -2,14 +2,13 @@
 use Rattle.std.proofs.Common.{◌≡◌, ℕ, ◌+◌, ◌-◌, Bool, ◌&&◌, eqb, List, [], ◌∷◌, length, get_or, take, drop, refl, sym, ap, ◌∙◌, arith, length-drop, take_all, get_or-drop}
 use Rattle.std.specs.List.{list_all, zip}
 use lib.Ieee.{Float, nan}
-use Rattle.refusals.specs.Answer.{Answer}
+use Rattle.refusals.specs.Answer.{Answer, answer_number}
 use Rattle.records.specs.declared.points.Point.{Point}
 use Rattle.records_lent.specs.Lists.{all_below}
 use Rattle.records_lent.proofs.RangeLaws.{all-front}
 use Rattle.tracks.specs.declared.poses.TrackPose.{TrackPose}
 use Rattle.tracks.specs.declared.projections.Projection.{Projection}
 use Rattle.tracks_calls.specs.TrackCalls.{tangents_call, tangents_list, track_pose_call, project_call}
-use Rattle.test_support.specs.Answers.{answer_number}
 use Rattle.test_tracks.specs.Patterns.{pattern_of}
 use Rattle.test_tracks.specs.Case.{count_number, pose_numbers, project_numbers, agrees_of, number_in, place_in, pose_agrees, project_agrees, tangents_agree}
 

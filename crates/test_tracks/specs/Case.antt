@@ -2,7 +2,7 @@
 use Rattle.std.specs.Prelude.{ℕ, ◌+◌, ◌%◌, ◌^◌, Bool, cond, ◌&&◌, List, [], ◌∷◌, length, drop, ◌==◌, from_bits, nat_eq, slice_index, slice_index_or, Float, Option, Some, None}
 use Rattle.std.specs.Float.{binary32, nan}
 use Rattle.float_laws.specs.Binary32.{zero32}
-use Rattle.refusals.specs.Answer.{Answer, value, refused}
+use Rattle.refusals.specs.Answer.{Answer, value, refused, answer_number}
 use Rattle.records.specs.declared.points.Point.{Point}
 use Rattle.records_lent.specs.Lists.{all_below}
 use Rattle.tracks.specs.declared.poses.TrackPose.{TrackPose}
@@ -10,7 +10,6 @@ use Rattle.tracks.specs.declared.projections.Projection.{Projection}
 use Rattle.tracks.specs.Poses.{track_pose_list}
 use Rattle.tracks.specs.Projections.{projection_list}
 use Rattle.tracks_calls.specs.TrackCalls.{tangents_call, tangents_list, track_pose_call, project_call}
-use Rattle.test_support.specs.Answers.{answer_number}
 use Rattle.test_tracks.specs.Patterns.{pattern_of}
 use Rattle.test_tracks.specs.declared.calls.Verdict.{Verdict}
 use Rattle.test_tracks.specs.declared.calls.Call.{Call}

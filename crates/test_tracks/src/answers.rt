@@ -52,16 +52,21 @@ impl Answer<'_> {
     }
 }
 
-// 2^31 and the number of points, so that it is no refusal's.
+// What is added to a count, 2^31, so that it is no refusal's number.
+const COUNTS_FROM: u32 = 0x8000_0000;
+
+// 2^31 and the number of points, a refusal as its number.
 pub(crate) fn tangents_number(answer: Result<usize, Refusal>) -> u32
     ensures { result ≡ count_number (answered answer) }
 {
     match answer {
-        Ok(n) => (n % 0x8000_0000) as u32 + 0x8000_0000,
+        Ok(n) => (n % COUNTS_FROM as usize) as u32 + COUNTS_FROM,
         Err(why) => u32::from(why),
     }
 }
 
+// riftkettle writes a pose and a projection out too, for the C interface and not public: a function of both would be a new public one of tracks, for
+// their fields in their order. Matches: by `map_or`, tried, the proof would need a law of its own on its two cases, where a match needs no answer.
 pub(crate) fn pose_numbers(answer: Result<TrackPose, Refusal>) -> [f32; 6]
     ensures { result ≡ pose_numbers (answered answer) }
 {

@@ -8,9 +8,9 @@ ghost use Rattle.test_tracks.specs.Case.{call_of, words_wanted, tangents_agree, 
 
 use crate::answers::{Answer, pose_numbers, project_numbers, tangents_number};
 use records::Point;
+use refusals::answer_number;
 use std::io;
 use std::num::f32_from_bits_with_nan;
-use test_support::number_of;
 
 // A call that a line asks for.
 #[derive(Clone, Copy)]
@@ -36,7 +36,7 @@ pub(crate) struct Asked<'a> {
 }
 
 impl Call {
-    // The call of a letter, which is made an enum here and nowhere else.
+    // The call of a letter.
     #[tactic(auto, unfolding(crate::specs::Case::call_of))]
     fn named(letter: u8) -> Option<Call>
         ensures { result ≡ call_of letter }
@@ -82,7 +82,7 @@ impl Asked<'_> {
         let row = self.row;
         let pose = tracks_calls::pose_at(self.track, f32_from_bits_with_nan(row[0]));
         let answer = Answer {
-            number: number_of(&pose),
+            number: answer_number(&pose),
             numbers: &pose_numbers(pose),
         };
         answer.held_against(rt, self.line, &row[1..])
@@ -100,7 +100,7 @@ impl Asked<'_> {
         };
         let place = tracks_calls::project(self.track, at);
         let answer = Answer {
-            number: number_of(&place),
+            number: answer_number(&place),
             numbers: &project_numbers(place),
         };
         answer.held_against(rt, self.line, &row[3..])

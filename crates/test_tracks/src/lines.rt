@@ -18,6 +18,7 @@ struct Held {
     list: Vec<f32>,
 }
 
+// One line. No enum stands between t and l and what they do: they are matched here alone, and any other letter goes on as it is.
 fn step(
     rt: &impl Print,
     alloc: Global,

@@ -9,19 +9,12 @@ mod patterns;
 mod tally;
 mod words;
 
-use crate::tally::Counts;
 use std::io;
-
-fn report(rt: &impl Print, name: &str, counts: Counts) -> io::Result<()> {
-    let Counts { same, differ } = counts;
-    let lines = same.wrapping_add(differ);
-    println!(rt; "{name} {lines} lines, {differ} differ")
-}
 
 fn main(rt: HostRuntime) -> io::Result<()> {
     let tally = lines::run(&rt, rt.alloc())?;
-    report(&rt, "tangents", tally.tangents)?;
-    report(&rt, "pose", tally.pose)?;
-    report(&rt, "project", tally.project)?;
+    println!(rt; "tangents {}", tally.tangents)?;
+    println!(rt; "pose {}", tally.pose)?;
+    println!(rt; "project {}", tally.project)?;
     println!(rt; "broken {} lines", tally.broken)
 }

@@ -1,22 +1,6 @@
 // How many lines made each call.
 use crate::calls::{Call, Verdict};
-
-// Lines whose answer is the one given here, and lines whose answer differs.
-#[derive(Clone, Copy, Default)]
-pub(crate) struct Counts {
-    pub(crate) same: u64,
-    pub(crate) differ: u64,
-}
-
-impl Counts {
-    fn count(&mut self, same: bool) {
-        if same {
-            self.same = self.same.wrapping_add(1);
-        } else {
-            self.differ = self.differ.wrapping_add(1);
-        }
-    }
-}
+use test_support::Counts;
 
 #[derive(Clone, Copy, Default)]
 pub(crate) struct Tally {
@@ -34,9 +18,9 @@ impl Tally {
             return;
         };
         match call {
-            Call::Tangents => self.tangents.count(same),
-            Call::Pose => self.pose.count(same),
-            Call::Project => self.project.count(same),
+            Call::Tangents => self.tangents.count(!same),
+            Call::Pose => self.pose.count(!same),
+            Call::Project => self.project.count(!same),
         }
     }
 }

@@ -7,6 +7,9 @@ use reader_hex::eight_at;
 use std::alloc::{AllocError, Global};
 use std::num::f32_from_bits_with_nan;
 
+// A space and eight digits.
+const WORD_LENGTH: usize = 9;
+
 // How many words a line has at most.
 const MOST_WORDS: usize = 1600;
 
@@ -17,7 +20,7 @@ fn word_at(line: &[u8], i: usize) -> Option<u32>
     requires { i * 9 + 10 ≤ length line.now }
     ensures { result ≡ word_in line.now i }
 {
-    let at = i * 9 + 1;
+    let at = i * WORD_LENGTH + 1;
     if line[at] != b' ' {
         return None;
     }
@@ -29,8 +32,8 @@ fn word_at(line: &[u8], i: usize) -> Option<u32>
 pub(crate) fn words(alloc: Global, line: &[u8]) -> Result<Option<Vec<u32>>, AllocError>
     ensures { IfOk result (λ r. option_map (λ v. v.items) r ≡ words_in line.now) }
 {
-    let n = line.len() / 9;
-    if !((line.len() % 9 == 1) & (n <= MOST_WORDS)) {
+    let n = line.len() / WORD_LENGTH;
+    if !((line.len() % WORD_LENGTH == 1) & (n <= MOST_WORDS)) {
         return Ok(None);
     }
     let mut words = Vec::new(alloc);

@@ -2,8 +2,8 @@
 ghost use Rattle.std.specs.Prelude.{◌≡◌};
 ghost use Rattle.test_vectors.specs.Vector.{function_of, word_of};
 
-use crate::patterns::{bits_of_counts, bits_of_single};
-use reader_hex::bits_of;
+use crate::patterns::bits_of_counts;
+use reader_hex::{bits_of, bits_of_single};
 use std::fmt;
 
 #[derive(Clone, Copy)]
@@ -28,7 +28,9 @@ impl fmt::Display for Function {
 }
 
 impl Function {
-    pub(crate) const ALL: [Function; 5] = [
+    pub(crate) const COUNT: usize = 5;
+
+    pub(crate) const ALL: [Function; Function::COUNT] = [
         Function::Root,
         Function::Narrow,
         Function::Sine,
@@ -36,7 +38,7 @@ impl Function {
         Function::Counts,
     ];
 
-    // The function of a letter, which is made an enum here and nowhere else.
+    // The function of a letter.
     #[tactic(auto, unfolding(crate::specs::Vector::function_of))]
     pub(crate) fn named(letter: u8) -> Option<Function>
         ensures { result ≡ function_of letter }

@@ -1,25 +1,17 @@
 // Answers as words.
-ghost use Rattle.std.specs.Prelude.{◌≡◌, to_bits};
-ghost use Rattle.std.specs.Float.{binary32};
+ghost use Rattle.std.specs.Prelude.{◌≡◌};
 ghost use Rattle.test_vectors.specs.Raise.{raised_of};
 ghost use Rattle.refusals.specs.Answer.{answered};
 ghost use Rattle.test_vectors.specs.Vector.{counts_word};
 
 use refusals::Refusal;
-use std::num::f32_to_bits_with_nan;
-
-// The pattern of an f32, 7fc00000 for a NaN.
-pub(crate) fn bits_of_single(x: f32) -> u64
-    ensures { result ≡ to_bits binary32 x }
-{
-    u64::from(f32_to_bits_with_nan(x))
-}
+use test_support::COUNTS_FROM;
 
 // n + 2^63.
 fn raised(n: i64) -> u64
     ensures { result ≡ raised_of n }
 {
-    n.cast_unsigned().wrapping_add(0x8000_0000_0000_0000)
+    n.cast_unsigned().wrapping_add(COUNTS_FROM)
 }
 
 // A whole number n as n + 2^63, a refusal as its number: `count_word` of test_support, of an i64.

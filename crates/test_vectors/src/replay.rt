@@ -9,7 +9,7 @@ use crate::functions::Function;
 use reader_hex::of_bits;
 use std::io;
 use std::io::Read;
-use test_support::{LINE_LENGTH, Line, line_of};
+use test_support::{Counts, LINE_LENGTH, Line, line_of};
 
 // Where a whole line is counted. Of a difference, what was answered here.
 #[derive(Clone, Copy)]
@@ -18,14 +18,7 @@ enum Verdict {
     Differs(Function, u64),
 }
 
-// How many lines named a function, and how many of these differ.
-#[derive(Clone, Copy)]
-struct Tally {
-    lines: u64,
-    differ: u64,
-}
-
-// None where the line breaks the form, or its letter is no function's.
+// What is found of a line; none where it breaks the form, or its letter is no function's.
 fn judged(line: Option<Line>) -> Option<Verdict>
     ensures { result ≡ verdict_of line }
 {
@@ -39,18 +32,10 @@ fn judged(line: Option<Line>) -> Option<Verdict>
     }
 }
 
-impl Tally {
-    fn count(&mut self, differs: bool) {
-        self.lines = self.lines.wrapping_add(1);
-        self.differ = self.differ.wrapping_add(u64::from(differs));
-    }
-}
-
 // A line for each function.
-fn report(rt: &impl Print, tallies: &[Tally; 5]) -> io::Result<()> {
+fn report(rt: &impl Print, counts: &[Counts; Function::COUNT]) -> io::Result<()> {
     for function in Function::ALL {
-        let tally = tallies[function as usize];
-        println!(rt; "{function} {} lines, {} differ", tally.lines, tally.differ)?;
+        println!(rt; "{function} {}", counts[function as usize])?;
     }
     Ok(())
 }
@@ -60,22 +45,19 @@ fn report(rt: &impl Print, tallies: &[Tally; 5]) -> io::Result<()> {
 pub(crate) fn run(rt: &(impl Input + Print + Alloc)) -> io::Result<()> {
     let mut list = Vec::new(rt.alloc());
     rt.reader().read_to_end(&mut list)?;
-    let mut tallies = [Tally {
-        lines: 0,
-        differ: 0,
-    }; 5];
+    let mut counts = [Counts::default(); Function::COUNT];
     let mut broken = 0u64;
     for line in list.chunks(LINE_LENGTH) {
         match judged(line_of(line)) {
             None => broken = broken.wrapping_add(1),
-            Some(Verdict::Agrees(function)) => tallies[function as usize].count(false),
+            Some(Verdict::Agrees(function)) => counts[function as usize].count(false),
             Some(Verdict::Differs(function, got)) => {
                 print!(rt; "differs, here {got:016x}: ")?;
                 rt.write_all(line)?;
-                tallies[function as usize].count(true);
+                counts[function as usize].count(true);
             }
         }
     }
-    report(rt, &tallies)?;
+    report(rt, &counts)?;
     println!(rt; "broken {broken} lines")
 }

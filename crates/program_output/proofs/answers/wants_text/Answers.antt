@@ -17,11 +17,6 @@ slice_bounds-samples-end-in-Ok c = let h = made-count c.args.words.now c.args.nu
 pub slice_bounds-push_wants-end : goal.slice_bounds-push_wants-end
 slice_bounds-push_wants-end c = let h = made-count c.args.words.now c.args.numbers.now c.requires.numbers_value c.in-Ok.count (sym (ap answered c.in-Ok.is) ∙ c.samples.ensures.result_value) in simp length-take (omega (arith, blank-long, c.samples.auto.samples))
 
-pub push_wants-requires-clause-samples_value : goal.push_wants-requires-clause-samples_value
-push_wants-requires-clause-samples_value c =
-    let a = c.args in
-    made-part a.words.now a.numbers.now c.requires.numbers_value c.in-Ok.count (sym (ap answered c.in-Ok.is) ∙ c.samples.ensures.result_value) c.samples.ensures.samples_after
-
 pub returns-in-Ok : goal.returns-in-Ok
 unfolding wants_text
 returns-in-Ok c =
@@ -30,7 +25,7 @@ returns-in-Ok c =
     let names = c.append.ensures.fits (rw c.new-text.ensures (omega arith)) in
     rw (c.push_wants.ensures, names, c.new-text.ensures, own)
 
-pub returns-in-Err : goal.returns-in-Err
-returns-in-Err c =
+pub returns-in_default : goal.returns-in_default
+returns-in_default c =
     let a = c.args in
-    absurd (never-refused a.words.now a.numbers.now c.requires.numbers_value _ (sym (ap answered c.in-Err.is) ∙ c.samples.ensures.result_value))
+    absurd (never-refused a.words.now a.numbers.now c.requires.numbers_value _ (sym (ap answered c.in_default.is) ∙ c.samples.ensures.result_value))

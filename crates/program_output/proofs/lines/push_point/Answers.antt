@@ -13,4 +13,4 @@ push_word-requires-3-clause-room c = rw (c.push_word-2.ensures, c.push_word.ensu
 pub returns : goal.returns
 unfolding point_line
 returns c =
-    rw (c.push_word-3.ensures, c.push_word-2.ensures, c.push_word.ensures, c.bits_of.ensures, c.bits_of-2.ensures, c.bits_of-3.ensures) (simp append_assoc)
+    rw (c.push_word-3.ensures, c.push_word-2.ensures, c.push_word.ensures, c.bits_of_single.ensures, c.bits_of_single-2.ensures, c.bits_of_single-3.ensures) (simp append_assoc)

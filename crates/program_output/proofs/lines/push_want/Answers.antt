@@ -1,18 +1,14 @@
 -- s and t, sixteen digits and a byte each, then the point or the refusal.
-use Rattle.std.proofs.Common.{arith, append_assoc, length-append, ap, subst}
-use Rattle.refusals.specs.Answer.{answered}
-use Rattle.program_output.specs.Lines.{FiniteAnswer, output_line}
+use Rattle.std.proofs.Common.{arith, append_assoc, length-append}
+use Rattle.program_output.specs.Lines.{output_line}
 use Rattle.reader_hex.proofs.HexWritten.{hex-length}
 use Rattle.program_output.proofs.lines.push_want.Goals as goal
 
 pub push_word-requires-2-clause-room : goal.push_word-requires-2-clause-room
 push_word-requires-2-clause-room c = rw c.push_word.ensures (simp length-append (omega (arith, hex-length)))
 
-pub push_point-requires-clause-room : goal.push_point-requires-clause-room
-push_point-requires-clause-room c = rw (c.push_word-2.ensures, c.push_word.ensures) (simp length-append (omega (arith, hex-length)))
-
-pub push_point-requires-clause-finite_point : goal.push_point-requires-clause-finite_point
-push_point-requires-clause-finite_point c = subst FiniteAnswer (ap answered c.in-Ok.is) c.requires.finite_answer
+pub push_point-requires : goal.push_point-requires
+push_point-requires c = rw (c.push_word-2.ensures, c.push_word.ensures) (simp length-append (omega (arith, hex-length)))
 
 pub push_number-requires : goal.push_number-requires
 push_number-requires c =

@@ -2,11 +2,11 @@
 use mathlib.Core.Path.{◌∙◌, refl}
 use Rattle.records.specs.Roads.{road_of}
 use Rattle.admission_calls.proofs.AdmitLaws.{admit-alike}
-use Rattle.test_support.specs.Answers.{answer_number}
+use Rattle.refusals.specs.Answer.{answer_number}
 use Rattle.test_admission.proofs.calls.admission_answer.Goals as goal
 
 pub returns : goal.returns
 returns c =
     let w = c.args.words.now in
     let n = c.args.numbers.now in
-    c.from.ensures ∙ c.number_of.ensures ∙ admit-alike w n (road_of w n) answer_number answer_number (λ x. refl) (λ k. refl) _ c.admit.ensures
+    c.from.ensures ∙ c.answer_number.ensures ∙ admit-alike w n (road_of w n) answer_number answer_number (λ x. refl) (λ k. refl) _ c.admit.ensures

@@ -7,4 +7,4 @@ returns g c =
     let a = c.args in
     project-by a.self.now.track.now a.self.now.row.now
     (rw (c.f32_from_bits_with_nan.ensures, c.f32_from_bits_with_nan-2.ensures, c.f32_from_bits_with_nan-3.ensures))
-    c.project-place.ensures c.number_of.ensures c.project_numbers.ensures c.held_against.ensures
+    c.project-place.ensures c.answer_number.ensures c.project_numbers.ensures c.held_against.ensures
