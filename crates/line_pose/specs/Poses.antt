@@ -3,7 +3,7 @@ use Rattle.std.specs.Prelude.{ℕ, zero, suc, ◌+◌, ◌-◌, min, cond, List,
 use Rattle.std.specs.Float.Ieee.{lt, le}
 use Rattle.float_laws.specs.Binary64.{◌⊕◌, ◌⊖◌, ◌⊗◌, ◌⊘◌, zero64, abs_of}
 use Rattle.arithmetic_sine.specs.Sine.{sine_of, cosine_of}
-use Rattle.arithmetic_ranges.specs.Ranges.{clamped, blend}
+use Rattle.arithmetic_ranges.specs.Ranges.{clamped, blend, fraction}
 use Rattle.records.specs.declared.points.GeomRec.{GeomRec}
 use Rattle.records.specs.declared.points.GeomShape.{GeomShape}
 use Rattle.records.specs.declared.points.GeomShape.TheVariants.{Line, Arc, Spiral}
@@ -47,7 +47,7 @@ segment lead n = min (lead - 1) (n - 2)
 
 -- the fraction of the way from a to b; 0 where the distances do not rise
 abbrev pub fraction_of : Float → Float → Float → Float
-fraction_of a b d = cond (lt a b) ((d ⊖ a) ⊘ (b ⊖ a)) zero64
+fraction_of a b d = cond (lt a b) (fraction a b d) zero64
 
 -- straight from one sample to the next
 abbrev pub between : Sample → Sample → Float → Pose

@@ -3,7 +3,7 @@ ghost use Rattle.std.specs.Prelude.{◌≡◌, true, ℕ, ◌+◌, ◌-◌, ◌*
 ghost use Rattle.line_samples.specs.Samples.{most_counted, counted_end, sample_stride, sample_at};
 ghost use Rattle.line_pose.specs.Poses.{leading, segment, fraction_of, between, spiral_pose};
 
-use arithmetic_ranges::{blend, clamp};
+use arithmetic_ranges::{blend, clamp, fraction};
 use line_samples::{Pose, SAMPLE_STRIDE, Sample};
 use records_lent::number;
 
@@ -26,10 +26,10 @@ fn segment_of(lead: usize, n: usize) -> usize
     lead.saturating_sub(1).min(n.saturating_sub(2))
 }
 
-fn fraction(a: f64, b: f64, d: f64) -> f64
+fn fraction_of(a: f64, b: f64, d: f64) -> f64
     ensures { result ≡ fraction_of a b d }
 {
-    if a < b { (d - a) / (b - a) } else { 0.0 }
+    if a < b { fraction(a, b, d) } else { 0.0 }
 }
 
 fn between_samples(a: Sample, b: Sample, f: f64) -> Pose
@@ -105,6 +105,6 @@ impl<'a> SpiralSamples<'a> {
         let i = segment_of(self.leading(d), self.count);
         let a = self.sample(i);
         let b = self.sample(i + 1);
-        between_samples(a, b, fraction(a.distance, b.distance, d))
+        between_samples(a, b, fraction_of(a.distance, b.distance, d))
     }
 }

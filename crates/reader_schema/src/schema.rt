@@ -11,8 +11,8 @@ use crate::tables::{
 };
 use records::layout::{
     MOST_BANKS, MOST_CUBICS, MOST_ELEVS, MOST_EXTENTS, MOST_GEOMS, MOST_HEIGHTS, MOST_LANES,
-    MOST_MARKS, MOST_OFFSETS, MOST_PROFILES, MOST_SECTIONS, MOST_SHAPES, MOST_SHIFTS, WANT_STRIDE,
-    WANTS_NEEDED,
+    MOST_MARKS, MOST_OFFSETS, MOST_PROFILES, MOST_SECTIONS, MOST_SHAPES, MOST_SHIFTS, STRIPS,
+    WANT_STRIDE, WANTS_NEEDED,
 };
 
 // The name of a table, as a number, and the most lines of it.
@@ -88,7 +88,7 @@ const TABLES: &[Table] = &[
     // strip
     Table {
         name: 0x7374726970,
-        limit: 4,
+        limit: STRIPS as u16,
     },
     // cubic
     Table {

@@ -10,7 +10,7 @@ use reader_cells::WHOLE_BIAS;
 use reader_lines::Cells;
 use records::layout::{
     LEFT_WORDS, PROFILE_COUNT_AT, RIGHT_WORDS, SECTION_COUNT_AT, SECTION_STRIDE, SECTION_WORDS,
-    STRIP_STRIDE,
+    STRIP_COLUMNS, STRIP_STRIDE,
 };
 
 // The ids 1 and -1, the first of each side, as they are kept.
@@ -18,10 +18,8 @@ const FIRST_LEFT: u64 = WHOLE_BIAS + 1;
 
 const FIRST_RIGHT: u64 = WHOLE_BIAS - 1;
 
-// A strip's terms: its width, then 0 to 3. A cell that names one is its place among them.
-const TERM_COUNT: u64 = 5;
-
-const TERMS_A_STRIP: u32 = TERM_COUNT as u32;
+// A strip's columns: its width, then its terms. A cell that names one is its place among them.
+const COLUMNS_A_STRIP: u32 = STRIP_COLUMNS as u32;
 
 const WORDS_A_STRIP: u32 = STRIP_STRIDE as u32;
 
@@ -186,9 +184,9 @@ fn term_of(strips: Strips, side: u64, place: u64, term: u64) -> Option<Ranked>
 {
     let strip = strip_of(side, place);
     let line = strips[strip]?;
-    let t = (term % TERM_COUNT) as u32;
+    let t = (term % STRIP_COLUMNS as u64) as u32;
     Some(Ranked {
-        rank: line as u32 * TERMS_A_STRIP + t,
+        rank: line as u32 * COLUMNS_A_STRIP + t,
         index: strip as u32 * WORDS_A_STRIP + t * 2,
     })
 }

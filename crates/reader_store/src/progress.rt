@@ -2,10 +2,10 @@
 ghost use Rattle.std.specs.Prelude.{◌≡◌, ◌<◌};
 ghost use Rattle.reader_store.specs.Progress.{strip_of, start_progress, unsound_progress, ended_progress};
 
-const STRIP_COUNT: usize = 4;
+use records::layout::STRIPS;
 
 // Of each strip, its line in the strip table, counted from 0, if it has one.
-pub type Strips = [Option<u16>; STRIP_COUNT];
+pub type Strips = [Option<u16>; STRIPS];
 
 #[derive(Clone, Copy, Debug, PartialEq, Eq)]
 pub struct Progress {
@@ -24,7 +24,7 @@ pub fn start_progress() -> Progress
     Progress {
         sound: true,
         last: 0,
-        strips: [None; STRIP_COUNT],
+        strips: [None; STRIPS],
     }
 }
 

@@ -20,7 +20,7 @@ fn on_map(x: f64, y: f64) -> bool
 }
 
 // Where the point x, y lies on the road, from a guess of s, with the lent samples: s and t, the count of moves, and whether they converged; rows 3, 4, 5, 6, 7 and 9. On a straight road along x from the origin, target 3, 2 and guess 3: s 3, t 2, no move, converged.
-#[tactic(auto, using(crate::proofs::FiniteLaws::finite_is), unfolding(crate::specs::LocateCall::locate_call))]
+#[tactic(auto, using(arithmetic_ranges::proofs::FiniteLaws::finite_is), unfolding(crate::specs::LocateCall::locate_call))]
 pub fn locate(
     words: &[u16],
     numbers: &[f64],
