@@ -104,11 +104,7 @@ impl Replay {
     // stands between it and what it does.
     fn change(&mut self, line: Line) -> Option<()> {
         match line.letter {
-            b'w' => put(
-                &mut self.road.words,
-                line.a,
-                u16::try_from(line.b).ok()?,
-            )?,
+            b'w' => put(&mut self.road.words, line.a, u16::try_from(line.b).ok()?)?,
             b'n' => put(&mut self.road.numbers, line.a, of_bits(line.b))?,
             b'l' => {
                 self.lent.words = line.a as usize;

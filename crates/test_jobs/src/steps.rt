@@ -40,10 +40,7 @@ impl Replay {
 
     // Runs the case, and writes its number and what was seen. The next case lends all.
     fn run(&mut self, rt: &impl Print, number: u64, wants: usize) -> io::Result<()> {
-        let lent = Lent {
-            wants,
-            ..self.lent
-        };
+        let lent = Lent { wants, ..self.lent };
         let case = case_of(self.text.as_slice(), lent);
         let seen = case.seen;
         self.text.clear();
