@@ -5,14 +5,11 @@
 use program_input::read_full;
 use program_output::OUTPUT_NEEDED;
 use std::io;
-use test_support::{LINE_LENGTH, Line, line_of};
-
-// A text may be longer than a job that is read.
-const TEXT_ROOM: usize = 66000;
+use test_support::{LINE_LENGTH, Line, TEXT_ROOM, line_of};
 
 // How many jobs there were, and lines that break the form.
 #[derive(Drop)]
-pub(crate) struct Counts {
+pub(crate) struct Totals {
     pub(crate) jobs: u64,
     pub(crate) broken: u64,
 }
@@ -30,7 +27,7 @@ fn show(rt: &impl Print, number: u64, text: &[u8]) -> io::Result<()> {
     rt.write_all(&out[..n])
 }
 
-// Whether the text was there.
+// Reads a job's text and shows what is answered; false where the text is not all there.
 fn replayed(rt: &(impl Input + Print), number: u64, size: u64) -> io::Result<bool> {
     if size > TEXT_ROOM as u64 {
         return Ok(false);
@@ -41,20 +38,20 @@ fn replayed(rt: &(impl Input + Print), number: u64, size: u64) -> io::Result<boo
     Ok(n as u64 == size)
 }
 
-// The list ends with its last line, or with one that breaks the form.
-pub(crate) fn run(rt: &(impl Input + Print)) -> io::Result<Counts> {
+// The list ends with its last line, or with one that breaks the form. No enum of j and e: they are matched here alone.
+pub(crate) fn run(rt: &(impl Input + Print)) -> io::Result<Totals> {
     // a proved loop has to end, and nothing says that the input does: the turns are more than any run takes
     for jobs in 0..u64::MAX {
         let done = match next_line(rt) {
             Some(Line { letter: b'j', a, b }) => replayed(rt, a, b)?,
-            Some(Line { letter: b'e', .. }) => return Ok(Counts { jobs, broken: 0 }),
+            Some(Line { letter: b'e', .. }) => return Ok(Totals { jobs, broken: 0 }),
             _ => false,
         };
         if !done {
-            return Ok(Counts { jobs, broken: 1 });
+            return Ok(Totals { jobs, broken: 1 });
         }
     }
-    Ok(Counts {
+    Ok(Totals {
         jobs: u64::MAX,
         broken: 0,
     })

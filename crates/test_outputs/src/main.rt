@@ -8,6 +8,6 @@ mod jobs;
 use std::io;
 
 fn main(rt: HostRuntime) -> io::Result<()> {
-    let counts = jobs::run(&rt)?;
-    println!(rt; "{} jobs, {} broken lines", counts.jobs, counts.broken)
+    let totals = jobs::run(&rt)?;
+    println!(rt; "{} jobs, {} broken lines", totals.jobs, totals.broken)
 }

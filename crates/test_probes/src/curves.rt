@@ -21,7 +21,7 @@ pub extern "C" fn probe_slope(start: f64, a: f64, b: f64, c: f64, d: f64, s: f64
     cubic.slope(s)
 }
 
-// The place of the active cubic and one, or 0.
+// The place of the active cubic and one, or 0. A match: that i + 1 fits is known where the place is, and in the closure of a `map_or` it is not.
 #[unsafe(no_mangle)]
 pub extern "C" fn probe_active(part: &[f64], s: f64) -> usize
     ensures { found_of result ≡ active_in (cubics_of part.now) s }
