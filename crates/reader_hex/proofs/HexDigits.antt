@@ -1,7 +1,7 @@
 -- Hexadecimal digits, one at a time: each more multiplies the number by sixteen, and the first byte that is none breaks the word.
 use Prim.Native.Nat.{ℕ, zero, suc, ◌+◌, ◌*◌, ◌^◌, ◌<◌, ◌≤◌}
 use Prim.Native.Nat.{◌-◌}
-use mathlib.Core.Path.{◌≡◌, refl, sym, ◌∙◌}
+use mathlib.Core.Path.{◌≡◌, refl, sym, ap, ◌∙◌}
 use mathlib.Core.Bool.{Bool, true, false, ◌&&◌, cond}
 use mathlib.Core.List.{List}
 use mathlib.Core.Logic.{⊎_elim}
@@ -9,10 +9,13 @@ use native.Mathlib.Numerals.{add-one}
 use native.Mathlib.Nat.{pow-suc, pow-le-pow_right, le_of_suc-le-suc, eq-or-lt_of_le}
 use native.Mathlib.Omega.{arith}
 use lib.Dec.{ltb, eqb}
-use lib.ListN.{length, get_or-eq_default}
+use lib.ListN.{length, get_or, drop, get_or-eq_default}
 use borrow.Author.Tests.{lt-ltb, le-ltb, ltb-true, ltb-false}
 use Rattle.std.specs.Bool.{then_some}
 use Rattle.std.specs.Prelude.{Option, Some, None}
+use Rattle.std.specs.Array.{IsFirstChunk}
+use Rattle.std.specs.List.{slice_range}
+use Rattle.std.proofs.lemmas.List.{get_or-take, get_or-drop}
 use Rattle.std.proofs.lemmas.Option.{none-some, cond_some}
 use Rattle.reader_hex.specs.Hex.{digit_of, byte_at, digits_ok, digits_value, digits_at, word_within, sixteen_before}
 
@@ -32,6 +35,13 @@ pub more-below : (n v d : ℕ) → v < 16 ^ n → d < 16 → v * 16 + d < 16 ^ (
 more-below n v d k l = rw (add-one, pow-suc) (omega arith)
 
 module _ (text : List ℕ) (at : ℕ) where
+  -- the first n bytes of the text from a place on
+  pub part-digit : (n i : ℕ) {rest word : List ℕ} {d : ℕ} → (rest ≡ slice_range text at (length text)) × (length rest + at ≡ length text) → IsFirstChunk rest word n → i < n → d ≡ digit_of (get_or word i 0) → d ≡ digit_of (byte_at text (at + i))
+  part-digit n i {rest} {word} h w l e = e ∙ ap digit_of (rw (w.same, get_or-take n rest i 0 l, h.0, get_or-take (length text - at) (drop at text) i 0 inside) (get_or-drop at text i 0))
+    where
+      inside : i < length text - at
+      inside = omega (arith, h.1, w.enough, l)
+
   pub digits-none : digits_ok text at 0 ≡ true
   unfolding digits_ok
   digits-none = refl

@@ -5,15 +5,13 @@ ghost use Rattle.reader_hex.specs.Hex.{byte_at, digit_of, digits_at, sixteen_bef
 use crate::bytes::{NO_DIGIT, digit};
 
 // The values of N bytes as digits, good or not: with no way out between them, they are worked out together.
-// By index: no contract of an adapter over `iter_mut` tells what was written, and by `from_fn` the proof would have to carry from call to call what the
-// closure holds.
-fn values_at<const N: usize>(text: &[u8], at: usize) -> [u8; N]
-    requires { at + N ≤ length text.now }
-    ensures { (i : ℕ) → i < N → get_or result i 0 ≡ digit_of (byte_at text.now (at + i)) }
+// A loop: `word.map(digit)` is proved too, but then cells of sixteen digits are read in five times the time (53 kB in 205 µs, by the loop in 42).
+fn values_of<const N: usize>(word: &[u8; N]) -> [u8; N]
+    ensures { (i : ℕ) → i < N → get_or result i 0 ≡ digit_of (get_or word.now i 0) }
 {
-    let mut values = [0; N];
-    for i in 0..N {
-        values[i] = digit(text[at + i]);
+    let mut values = *word;
+    for value in values.iter_mut() {
+        *value = digit(*value);
     }
     values
 }
@@ -23,10 +21,7 @@ fn digits_at<const N: usize>(text: &[u8], at: usize) -> Option<u64>
     requires { (0 < N) × (N ≤ 16) }
     ensures { result ≡ digits_at N text.now at }
 {
-    if text.len().saturating_sub(at) < N {
-        return None;
-    }
-    let values = values_at::<N>(text, at);
+    let values = values_of(text.get(at..)?.first_chunk::<N>()?);
     let mut number: u64 = 0;
     for &value in &values {
         if NO_DIGIT <= value {

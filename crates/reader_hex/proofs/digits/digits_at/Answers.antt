@@ -1,11 +1,15 @@
 use native.Mathlib.Nat.{le_antisymm}
 use native.Mathlib.Omega.{arith}
 use borrow.Author.Rules.{rules}
-use Rattle.reader_hex.proofs.HexDigits.{more-fits, more-below, digits-none, value_none, digits_more, value-more, digits-broken, digits-short, digits-all}
+use mathlib.Core.Path.{◌∙◌}
+use Rattle.reader_hex.proofs.HexDigits.{part-digit, more-fits, more-below, digits-none, value_none, digits_more, value-more, digits-broken, digits-short, digits-all}
 use Rattle.reader_hex.proofs.digits.digits_at.Goals as goal
 
-pub returns-then-saturating_sub : goal.returns-then-saturating_sub
-returns-then-saturating_sub g c = digits-short c.args.text.now c.args.at g.row.N c.requires.0 (omega (arith, c.if-saturating_sub.true, c.saturating_sub.ensures))
+pub returns-in_err-get : goal.returns-in_err-get
+returns-in_err-get g c = c.from_residual.ensures ∙ digits-short c.args.text.now c.args.at g.row.N c.requires.0 (omega (arith, c.in_err-get.ensures.lookup, c.requires.0))
+
+pub returns-in_err-first_chunk : goal.returns-in_err-first_chunk
+returns-in_err-first_chunk g c = c.from_residual-in_err-first_chunk.ensures ∙ digits-short c.args.text.now c.args.at g.row.N c.requires.0 (omega (arith, c.in_ok-get.ensures.lookup, c.in_err-first_chunk.ensures.cases))
 
 pub loop-value-init : goal.loop-value-init
 loop-value-init g c = (search rules, digits-none _ _, value_none _ _)
@@ -13,7 +17,8 @@ loop-value-init g c = (search rules, digits-none _ _, value_none _ _)
 pub returns-then-value-ge-NO_DIGIT : goal.returns-then-value-ge-NO_DIGIT
 returns-then-value-ge-NO_DIGIT g c =
     let here = c.loop-value in
-    digits-broken c.args.text.now c.args.at here.value-index g.row.N (c.values_at-values.ensures here.value-index c.loop-value-test.true) c.loop-value-test.true c.if-value-ge-NO_DIGIT.true
+    let f = part-digit c.args.text.now c.args.at g.row.N here.value-index (c.in_ok-get.ensures.lookup.0.2, c.in_ok-get.ensures.lookup.0.3) c.in_ok-first_chunk.ensures.cases c.loop-value-test.true (c.values_of-values.ensures here.value-index c.loop-value-test.true) in
+    digits-broken c.args.text.now c.args.at here.value-index g.row.N f c.loop-value-test.true c.if-value-ge-NO_DIGIT.true
 
 pub overflow_mul-number : goal.overflow_mul-number
 overflow_mul-number g c =
@@ -28,7 +33,7 @@ overflow_add-number g c =
 pub loop-value-preserved : goal.loop-value-preserved
 loop-value-preserved g c =
     let here = c.loop-value in
-    let f = c.values_at-values.ensures here.value-index c.loop-value-test.true in (
+    let f = part-digit c.args.text.now c.args.at g.row.N here.value-index (c.in_ok-get.ensures.lookup.0.2, c.in_ok-get.ensures.lookup.0.3) c.in_ok-first_chunk.ensures.cases c.loop-value-test.true (c.values_of-values.ensures here.value-index c.loop-value-test.true) in (
       more-below here.value-index here.number _ here.invariant.0 c.if-value-ge-NO_DIGIT.false,
       digits_more c.args.text.now c.args.at here.value-index f here.invariant.1 c.if-value-ge-NO_DIGIT.false,
       value-more c.args.text.now c.args.at here.value-index f here.invariant.2,
