@@ -1,8 +1,8 @@
 -- What a line of the list asks, as numbers: each is an answer of the crates by its own definition. Read `answer_numbers` and `filled_of` first.
-use Rattle.std.specs.Prelude.{ℕ, ◌+◌, ◌/◌, ◌%◌, ◌^◌, cond, List, [], ◌∷◌, get_or, ◌==◌, from_bits, to_bits, ℤ, Float, Option, Some, None}
-use Rattle.std.specs.Float.Ieee.{binary64, of_int, eq, neg}
+use Rattle.std.specs.Prelude.{ℕ, ◌+◌, ◌/◌, ◌%◌, ◌^◌, true, false, cond, List, [], ◌∷◌, get_or, ◌==◌, from_bits, to_bits, ℤ, Float, Option, Some, None}
+use Rattle.std.specs.Float.Ieee.{binary64, of_int, eq}
 use Rattle.std.specs.Float.{nan}
-use Rattle.float_laws.specs.Binary64.{f64, zero64}
+use Rattle.float_laws.specs.Binary64.{zero64}
 use Rattle.refusals.specs.Answer.{Answer, value, refused}
 use Rattle.arithmetic_sine.specs.Sine.{tan_of}
 use Rattle.records.specs.Active.{value_in}
@@ -11,6 +11,7 @@ use Rattle.line_pose.specs.Poses.{pose_of}
 use Rattle.line_samples.specs.declared.points.Pose.{Pose}
 use Rattle.line_calls.specs.SampleCall.{samples_call, samples_list}
 use Rattle.lanes.specs.Lateral.{height_toward}
+use Rattle.lanes.specs.Sides.{sign_of}
 use Rattle.lanes_heights.specs.Heights.{across_at}
 use Rattle.lanes_heights.specs.declared.across.Across.{Across}
 use Rattle.test_roads.specs.declared.answers.Question.{Question}
@@ -38,7 +39,7 @@ lane_across road s lane = across_at road (section_index road s) s (tan_of (value
 -- the heights at t to the left, then to the right
 abbrev pub toward_numbers : Road → Float → Float → List Float
 toward_numbers road s t =
-    height_toward road s t (f64 0x3ff0_0000_0000_0000) ∷ height_toward road s t (neg (f64 0x3ff0_0000_0000_0000)) ∷ zero64 ∷ zero64 ∷ []
+    height_toward road s t (sign_of false) ∷ height_toward road s t (sign_of true) ∷ zero64 ∷ zero64 ∷ []
 
 -- a lane's id, 0 for none, NaN for a refusal
 abbrev pub name_number : Answer (Option ℤ) → Float

@@ -6,6 +6,7 @@ ghost use Rattle.lanes_calls.specs.LaneCalls.{lane_named_call};
 ghost use Rattle.test_support.specs.Answers.{count_word};
 ghost use Rattle.test_roads.specs.Case.{pose_numbers, lane_across, across_numbers, toward_numbers, name_number, question_of, answer_numbers, lent_number, fill_of, filled_of, filled_list};
 
+use lanes::sign_of;
 use lanes_heights::Across;
 use line_samples::{Pose, SampledRoad};
 use reader_hex::of_bits;
@@ -43,8 +44,8 @@ fn across_numbers(a: Across) -> [f64; 4]
 fn toward_numbers(road: &LentRoad, s: f64, t: f64) -> [f64; 4]
     ensures { result ≡ toward_numbers road.now s t }
 {
-    let left = lanes_shape::height_toward(road, s, t, 1.0);
-    let right = lanes_shape::height_toward(road, s, t, -1.0);
+    let left = lanes_shape::height_toward(road, s, t, sign_of(false));
+    let right = lanes_shape::height_toward(road, s, t, sign_of(true));
     [left, right, 0.0, 0.0]
 }
 
