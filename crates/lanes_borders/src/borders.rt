@@ -5,7 +5,7 @@ ghost use Rattle.lanes_borders.specs.Borders.{border_width, width_of, borders_fr
 
 use crate::across::LaneBorders;
 use crate::sides::SideAt;
-use arithmetic_ranges::not_below_zero;
+use arithmetic_ranges::width_or_zero;
 use records::{LanePlace, LentRoad};
 use records_active::{active_cubic, value};
 use records_lanes::LentLane;
@@ -44,7 +44,7 @@ pub fn lane_width(lane: &LentLane, into: f64, sign: f64, inner: f64) -> f64
     } else {
         value(&lane.extents, into)
     };
-    not_below_zero(width)
+    width_or_zero(width)
 }
 
 // A lane's borders from its inner one, at a distance into its section: one step outward. sign is a number, since the function answers for every f64.

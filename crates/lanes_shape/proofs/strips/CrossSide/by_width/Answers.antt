@@ -11,7 +11,7 @@ returns-in-Some c =
     λ d e.
     let widths = rw (c.inner_of-inner.ensures, e) at c.strip_column-widths.ensures in
     let found = place-of_some _ (active_in _ _) _ (sym c.active_cubic.ensures ∙ c.in-Some.is) in
-    rw (← widths, found.1, found.2, ← c.eval.ensures, ← c.not_below_zero.ensures) (c.past_width.ensures d e)
+    rw (← widths, found.1, found.2, ← c.eval.ensures, ← c.width_or_zero.ensures) (c.past_width.ensures d e)
 
 pub returns-in-None : goal.returns-in-None
 unfolding strip_height
