@@ -8,7 +8,7 @@ use arithmetic_ranges::in_range;
 const HALF_WIDTH: f64 = 80.0;
 
 // Row 8: t in -80..80. Answers whether, as `on_road` does, and no refusal: surface_locate asks both of the place where it stops, and refuses nothing there.
-pub fn across(t: f64) -> bool
+pub fn across_road(t: f64) -> bool
     ensures { result ≡ across_road t }
 {
     in_range(-HALF_WIDTH, HALF_WIDTH, t)

@@ -4,4 +4,4 @@
 mod arguments;
 
 pub use admission::on_road;
-pub use arguments::across;
+pub use arguments::across_road;

@@ -1,11 +1,11 @@
 // The order of a section's marks. Lines of other lanes may stand between two of one lane, so each is held against all before it.
-ghost use Rattle.std.specs.Prelude.{◌≡◌, ℕ, length};
+ghost use Rattle.std.specs.Prelude.{◌≡◌, ℕ, length, get_or};
 ghost use Rattle.records_lent.specs.Lists.{all_below};
-ghost use Rattle.records.specs.Roads.{mark_at};
+ghost use Rattle.records.specs.Roads.{no_mark};
 ghost use Rattle.admission_order.specs.Order.{starts_in_order, marks_in_order};
 
 use records::{LentRoad, Mark};
-use records_marks::{mark, mark_count};
+use records_marks::LentMarks;
 
 // Of two marks on one lane the later starts no earlier.
 fn starts_in_order(a: Mark, b: Mark) -> bool
@@ -15,18 +15,18 @@ fn starts_in_order(a: Mark, b: Mark) -> bool
 }
 
 // The j-th mark of a section against each before it.
-fn mark_in_order(road: &LentRoad, section: usize, j: usize) -> bool
-    ensures { result ≡ all_below (λ (h : ℕ). starts_in_order (mark_at road.now section h) (mark_at road.now section j)) j }
+fn mark_in_order(marks: &LentMarks, j: usize) -> bool
+    ensures { result ≡ all_below (λ (h : ℕ). starts_in_order (get_or marks.now h no_mark) (get_or marks.now j no_mark)) j }
 {
-    let later = mark(road, section, j);
-    (0..j).all(|h| starts_in_order(mark(road, section, h), later))
+    let later = marks.get(j);
+    (0..j).all(|h| starts_in_order(marks.get(h), later))
 }
 
 fn section_marks_in_order(road: &LentRoad, section: usize) -> bool
     ensures { result ≡ marks_in_order road.now section }
 {
-    let n = mark_count(road, section);
-    (0..n).all(|j| mark_in_order(road, section, j))
+    let marks = LentMarks::new(road, section);
+    (0..marks.len()).all(|j| mark_in_order(&marks, j))
 }
 
 // The marks of every section.

@@ -6,8 +6,8 @@ ghost use Rattle.admission_structure.specs.Structure.{marks_ok};
 
 use crate::structure::{count, range_ok};
 use records::layout::{
-    LEFT_WORDS, MARK_STRIDE, MARK_WORDS, MOST_MARKS, MOST_MARKS_A_SECTION, RIGHT_WORDS,
-    SECTION_COUNT_AT, SECTION_MARK_STRIDE, SECTION_MARK_WORDS, SECTION_STRIDE,
+    LEFT_WORDS, MARK_COUNT_WORDS, MARK_STRIDE, MARK_WORDS, MOST_MARKS, MOST_MARKS_A_SECTION,
+    RIGHT_WORDS, SECTION_COUNT_AT, SECTION_MARK_STRIDE, SECTION_MARK_WORDS, SECTION_STRIDE,
 };
 use records_lent::word;
 
@@ -19,16 +19,23 @@ fn on_lanes(words: &[u16], first: u16, n: u16, lanes: usize) -> bool
     (0..n).all(|j| word(words, MARK_WORDS + (first + usize::from(j)) * MARK_STRIDE) < lanes)
 }
 
-// A section's marks: their number first, then the lane of each.
+// A section's marks: their number first, then the lane of each. Its lanes are counted here too: `section_ok` tests left and right each before it adds them, and
+// a function of the sum would read both words again for it.
 #[tactic(auto, unfolding(crate::specs::Structure::marks_ok))]
 fn section_marks_ok(words: &[u16], i: u16) -> bool
     ensures { result ≡ marks_ok words.now i }
 {
-    let k = SECTION_MARK_WORDS + usize::from(i) * SECTION_MARK_STRIDE;
+    let at = usize::from(i) * SECTION_MARK_STRIDE;
+    let k = SECTION_MARK_WORDS + at;
     let section = usize::from(i) * SECTION_STRIDE;
     let lanes = word(words, LEFT_WORDS + section) + word(words, RIGHT_WORDS + section);
     range_ok(words, k, 0, MOST_MARKS_A_SECTION, MOST_MARKS)
-        && on_lanes(words, count(words, k), count(words, k + 1), lanes)
+        && on_lanes(
+            words,
+            count(words, k),
+            count(words, MARK_COUNT_WORDS + at),
+            lanes,
+        )
 }
 
 // The marks of every section.

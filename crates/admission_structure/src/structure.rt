@@ -7,27 +7,15 @@ ghost use Rattle.admission_structure.specs.Structure.{range_ok, counts_ok, kinds
 
 use crate::marks::all_marks_ok;
 use records::layout::{
-    BANK_COUNT_AT, ELEV_COUNT_AT, GEOM_COUNT_AT, KIND_WORDS, LANE_STRIDE, LANE_WORDS, LEFT_WORDS,
-    MOST_BANKS, MOST_CUBICS, MOST_CUBICS_A_TERM, MOST_ELEVS, MOST_EXTENTS, MOST_EXTENTS_A_LANE,
-    MOST_GEOMS, MOST_HEIGHTS, MOST_HEIGHTS_A_LANE, MOST_LANES, MOST_LANES_A_SIDE, MOST_OFFSETS,
-    MOST_PROFILES, MOST_SECTIONS, MOST_SHAPES, MOST_SHAPES_A_PROFILE, MOST_SHIFTS, NUMBERS_NEEDED,
-    OFFSET_COUNT_AT, PROFILE_COUNT_AT, PROFILE_STRIDE, PROFILE_WORDS, RIGHT_WORDS,
-    SECTION_COUNT_AT, SECTION_STRIDE, SECTION_WORDS, STRIP_COLUMNS, STRIP_STRIDE, STRIP_WORDS,
-    STRIPS, TSHIFT_COUNT_AT, WORDS_NEEDED,
+    ABSENT_CODE, BANK_COUNT_AT, ELEV_COUNT_AT, EXTENT_KINDS, GEOM_COUNT_AT, GEOM_KINDS, KIND_WORDS,
+    LANE_STRIDE, LANE_WORDS, LEFT_WORDS, LEVELS, MOST_BANKS, MOST_CUBICS, MOST_CUBICS_A_TERM,
+    MOST_ELEVS, MOST_EXTENTS, MOST_EXTENTS_A_LANE, MOST_GEOMS, MOST_HEIGHTS, MOST_HEIGHTS_A_LANE,
+    MOST_LANES, MOST_LANES_A_SIDE, MOST_OFFSETS, MOST_PROFILES, MOST_SECTIONS, MOST_SHAPES,
+    MOST_SHAPES_A_PROFILE, MOST_SHIFTS, NUMBERS_NEEDED, OFFSET_COUNT_AT, PROFILE_COUNT_AT,
+    PROFILE_STRIDE, PROFILE_WORDS, RIGHT_WORDS, SECTION_COUNT_AT, SECTION_STRIDE, SECTION_WORDS,
+    STRIP_COLUMNS, STRIP_KINDS, STRIP_STRIDE, STRIP_WORDS, STRIPS, TSHIFT_COUNT_AT, WORDS_NEEDED,
 };
 use records_lent::word;
-
-// How many codes are listed: a geometry is line, arc or spiral, an extent is width or border, a level 0 or 1, a strip absent, absolute or relative.
-const GEOM_KINDS: usize = 3;
-
-const EXTENT_KINDS: usize = 2;
-
-const LEVELS: usize = 2;
-
-const STRIP_KINDS: usize = 3;
-
-// The code of a strip that is not there.
-const ABSENT: usize = 0;
 
 // The word at a place, 0 past the end, as it is lent: the number of a line below such a count is a u16 too, so a function of a line asks for no bound.
 pub(crate) fn count(words: &[u16], at: usize) -> u16
@@ -145,7 +133,7 @@ fn strip_ok(words: &[u16], i: usize) -> bool
     ensures { result ≡ strip_ok words.now i }
 {
     let code = word(words, STRIP_WORDS + i * STRIP_STRIDE);
-    (code < STRIP_KINDS) && ((code == ABSENT) || columns_ok(words, i))
+    (code < STRIP_KINDS) && ((code == ABSENT_CODE) || columns_ok(words, i))
 }
 
 fn strips_ok(words: &[u16]) -> bool

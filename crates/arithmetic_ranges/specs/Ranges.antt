@@ -24,8 +24,8 @@ abbrev pub at_least_zero : Float → Float
 at_least_zero x = cond (lt x zero64) zero64 x
 
 -- "NaN or below 0 becomes 0", of a width: unlike `at_least_zero` it keeps no NaN and no -0
-abbrev pub not_below_zero : Float → Float
-not_below_zero w = cond (lt zero64 w) w zero64
+abbrev pub width_or_zero : Float → Float
+width_or_zero w = cond (lt zero64 w) w zero64
 
 -- "raised to 0 if below it, then lowered" to the most "if above it"; a NaN stays
 abbrev pub clamped : Float → Float → Float

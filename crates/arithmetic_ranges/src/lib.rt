@@ -4,5 +4,5 @@
 mod ranges;
 
 pub use ranges::{
-    LARGEST, abs, at_least_zero, blend, clamp, fraction, in_range, not_below_zero, sized,
+    LARGEST, abs, at_least_zero, blend, clamp, fraction, in_range, sized, width_or_zero,
 };

@@ -1,7 +1,7 @@
 // Sizes and ranges of numbers, a NaN outside every range; the way between two.
 ghost use Rattle.std.specs.Prelude.{◌≡◌};
 ghost use Rattle.float_laws.specs.Binary64.{abs_of};
-ghost use Rattle.arithmetic_ranges.specs.Ranges.{in_range, at_least_zero, not_below_zero, clamped, sized, blend, fraction};
+ghost use Rattle.arithmetic_ranges.specs.Ranges.{in_range, at_least_zero, width_or_zero, clamped, sized, blend, fraction};
 
 // What lies in -LARGEST..LARGEST is finite.
 pub const LARGEST: f64 = f64::MAX;
@@ -21,8 +21,8 @@ pub fn at_least_zero(x: f64) -> f64
 }
 
 // A width: a NaN becomes 0 too, where `at_least_zero` keeps it. Not `w.max(0.0)`, which may keep -0.
-pub fn not_below_zero(w: f64) -> f64
-    ensures { result ≡ not_below_zero w }
+pub fn width_or_zero(w: f64) -> f64
+    ensures { result ≡ width_or_zero w }
 {
     if 0.0 < w { w } else { 0.0 }
 }

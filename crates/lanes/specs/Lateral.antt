@@ -3,7 +3,7 @@ use Rattle.std.specs.Prelude.{ℕ, ◌+◌, Bool, true, false, ◌&&◌, ◌||�
 use Rattle.std.specs.Float.Ieee.{lt}
 use Rattle.float_laws.specs.Binary64.{◌⊕◌, ◌⊖◌, ◌⊗◌, f64, zero64, abs_of}
 use Rattle.records_cubic.specs.declared.cubics.Cubic.{Cubic}
-use Rattle.arithmetic_ranges.specs.Ranges.{not_below_zero, blend, fraction}
+use Rattle.arithmetic_ranges.specs.Ranges.{width_or_zero, blend, fraction}
 use Rattle.records.specs.declared.points.HeightDef.{HeightDef}
 use Rattle.records_cubic.specs.Cubics.{cubic_at, eval_at}
 use Rattle.records.specs.Active.{active_in, value_in, last_start, active_up_to}
@@ -83,7 +83,7 @@ past_width inner (present outer) s t sign w = cond (lt w (sign ⊗ t)) (outer_he
 
 -- "where no inner width is active at s there is no outer"
 abbrev pub by_width : StripDef → Strip → Float → Float → Float → Option ℕ → Float
-by_width inner outer s t sign (Some i) = past_width inner outer s t sign (not_below_zero (eval_at (cubic_at inner.width i) s))
+by_width inner outer s t sign (Some i) = past_width inner outer s t sign (width_or_zero (eval_at (cubic_at inner.width i) s))
 by_width inner outer s t sign None = strip_height inner s t
 
 -- "No inner strip: 0"

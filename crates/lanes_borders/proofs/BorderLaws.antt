@@ -18,7 +18,7 @@ use Rattle.std.specs.declared.option.Option.TheVariants.{Some, None}
 use Rattle.records_cubic.specs.Cubics.{cubic_at, eval_at}
 use Rattle.records.specs.Active.{active_in, value_in}
 use Rattle.records.specs.Roads.{Lane, no_lane}
-use Rattle.arithmetic_ranges.specs.Ranges.{not_below_zero}
+use Rattle.arithmetic_ranges.specs.Ranges.{width_or_zero}
 use Rattle.lanes.specs.Sides.{sign_of}
 use Rattle.lanes_borders.specs.Borders.{border_width, width_of, outer_after, borders_at}
 use Rattle.lanes_borders.proofs.Outward.{SideSign, Ahead, Fitted, fitted-width, fitted-border, step-outward}
@@ -77,13 +77,13 @@ width_fits : (lane : Lane) (right : Bool) (t s : Float) (M : ℕ) → ExtentWith
 unfolding width_of
 width_fits lane right t s M e r h l u = by_kind lane.border e.width e.border
   where
-    by-active : (a : Option ℕ) → ((i : ℕ) → a ≡ Some i → Within binary64 (eval_at (cubic_at lane.extents i) s) thirty_six) → Fitted binary64 right t (not_below_zero (border_width lane (sign_of right) t s a)) (M + 8)
+    by-active : (a : Option ℕ) → ((i : ℕ) → a ≡ Some i → Within binary64 (eval_at (cubic_at lane.extents i) s) thirty_six) → Fitted binary64 right t (width_or_zero (border_width lane (sign_of right) t s a)) (M + 8)
     by-active (Some i) w = fitted-border binary64 right (sign_of right) (eval_at (cubic_at lane.extents i) s) thirty_six zero64 t M (M + 8) (sign-whole right) (w i refl) thirty_six-whole zero-whole r h u (omega arith) (omega arith)
     by-active None w = fitted-width binary64 right zero64 eight zero64 t M (M + 8) zero-eight eight-whole zero-whole h (omega arith)
 
     by_kind :
         (b : Bool) → (b ≡ false → Within binary64 (value_in lane.extents s) eight) → (b ≡ true → (i : ℕ) → active_in lane.extents s ≡ Some i → Within binary64 (eval_at (cubic_at lane.extents i) s) thirty_six)
-        → Fitted binary64 right t (not_below_zero (cond b (border_width lane (sign_of right) t s (active_in lane.extents s)) (value_in lane.extents s))) (M + 8)
+        → Fitted binary64 right t (width_or_zero (cond b (border_width lane (sign_of right) t s (active_in lane.extents s)) (value_in lane.extents s))) (M + 8)
     by_kind false w b = fitted-width binary64 right (value_in lane.extents s) eight zero64 t M (M + 8) (w refl) eight-whole zero-whole h (omega arith)
     by_kind true w b = by-active (active_in lane.extents s) (b refl)
 

@@ -7,7 +7,7 @@ use Rattle.records.specs.Active.{active_in, value_in}
 use Rattle.records.specs.Roads.{Road, Lane, no_lane, section_of}
 use Rattle.lanes.specs.Sides.{sign_of}
 use Rattle.lanes_borders.specs.declared.across.LaneBorders.{LaneBorders}
-use Rattle.arithmetic_ranges.specs.Ranges.{not_below_zero}
+use Rattle.arithmetic_ranges.specs.Ranges.{width_or_zero}
 
 -- a border lane's width: from its inner border to the border record's t; none active is 0 wide, not a border at 0
 abbrev pub border_width : Lane → Float → Float → Float → Option ℕ → Float
@@ -18,7 +18,7 @@ border_width lane sign inner into None = zero64
 unfoldable pub width_of : Lane → Float → Float → Float → Float
 unfolding active_in value_in
 width_of lane sign inner into =
-    not_below_zero (cond lane.border (border_width lane sign inner into (active_in lane.extents into)) (value_in lane.extents into))
+    width_or_zero (cond lane.border (border_width lane sign inner into (active_in lane.extents into)) (value_in lane.extents into))
 
 -- the outer border after k lanes of a side; the base after none
 unfoldable pub outer_after : List Lane → Float → Float → Float → ℕ → Float

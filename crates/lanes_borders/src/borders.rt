@@ -5,9 +5,9 @@ ghost use Rattle.lanes_borders.specs.Borders.{border_width, width_of, borders_fr
 
 use crate::across::LaneBorders;
 use crate::sides::SideAt;
-use arithmetic_ranges::not_below_zero;
+use arithmetic_ranges::width_or_zero;
 use records::{LanePlace, LentRoad};
-use records_active::{active, value};
+use records_active::{active_cubic, value};
 use records_lanes::LentLane;
 use records_sections::lane_count;
 
@@ -29,8 +29,8 @@ pub fn section_lanes(road: &LentRoad, section: usize) -> usize
 fn border_width(lane: &LentLane, into: f64, sign: f64, inner: f64) -> f64
     ensures { result ≡ border_width lane.now sign inner into (active_in lane.now.extents into) }
 {
-    match active(&lane.extents, into) {
-        Some(i) => sign * (lane.extents.get(i).eval(into) - inner),
+    match active_cubic(&lane.extents, into) {
+        Some(border) => sign * (border.eval(into) - inner),
         None => 0.0,
     }
 }
@@ -44,7 +44,7 @@ pub fn lane_width(lane: &LentLane, into: f64, sign: f64, inner: f64) -> f64
     } else {
         value(&lane.extents, into)
     };
-    not_below_zero(width)
+    width_or_zero(width)
 }
 
 // A lane's borders from its inner one, at a distance into its section: one step outward. sign is a number, since the function answers for every f64.

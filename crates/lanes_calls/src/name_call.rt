@@ -4,7 +4,7 @@ ghost use Rattle.std.specs.Prelude.{◌≡◌};
 ghost use Rattle.refusals.specs.Answer.{answered};
 ghost use Rattle.lanes_calls.specs.LaneCalls.{lane_named_call};
 
-use admission_arguments::{across, on_road};
+use admission_arguments::{across_road, on_road};
 use admission_calls::admit;
 use lanes_naming::lane_named_in;
 use records_active::section_index;
@@ -18,7 +18,7 @@ pub fn lane_named(words: &[u16], numbers: &[f64], s: f64, t: f64) -> Result<Opti
     if !on_road(&road, s) {
         return Err(Refusal::Station);
     }
-    if !across(t) {
+    if !across_road(t) {
         return Err(Refusal::Offset);
     }
     Ok(lane_named_in(&road, section_index(&road, s), s, t))

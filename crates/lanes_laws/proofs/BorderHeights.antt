@@ -22,7 +22,7 @@ use Rattle.records.specs.Roads.{Road, Lane, no_lane, section_index}
 use Rattle.admission_laws.proofs.RoadBounds.{OnRoad}
 use Rattle.lanes.specs.declared.border_heights.BorderHeights.{BorderHeights}
 use Rattle.lanes.specs.Lateral.{height_toward}
-use Rattle.arithmetic_ranges.specs.Ranges.{not_below_zero}
+use Rattle.arithmetic_ranges.specs.Ranges.{width_or_zero}
 use Rattle.lanes_laws.proofs.LateralBounds.{two-wide, height-most}
 use Rattle.lanes.specs.Sides.{sign_of}
 use Rattle.lanes_borders.specs.Borders.{border_width, width_of, base_at, side_lanes, borders_at, borders_of}
@@ -99,7 +99,7 @@ slope_within_lem : (right : Bool) (width tangent : Float) → Within binary64 wi
 slope_within_lem right width tangent w t =
     subst (λ (A : Float). Within binary64 (sign_of right ⊗ width ⊗ tangent) A) times-one.1 (mul-within binary64 (sign_of right ⊗ width) tangent widest one (signed-within right width w) t times-one.0)
 
-raised-within : (w : Float) → Within binary64 w widest → Within binary64 (not_below_zero w) widest
+raised-within : (w : Float) → Within binary64 w widest → Within binary64 (width_or_zero w) widest
 raised-within w h = go (lt zero64 w)
   where
     go : (b : Bool) → Within binary64 (cond b w zero64) widest
@@ -119,7 +119,7 @@ width-most lane right inner s e w = by_kind lane.border e.width e.border
 
     by_kind :
         (b : Bool) → (b ≡ false → Within binary64 (value_in lane.extents s) eight) → (b ≡ true → (i : ℕ) → active_in lane.extents s ≡ Some i → Within binary64 (eval_at (cubic_at lane.extents i) s) thirty_six)
-        → Within binary64 (not_below_zero (cond b (border_width lane (sign_of right) inner s (active_in lane.extents s)) (value_in lane.extents s))) widest
+        → Within binary64 (width_or_zero (cond b (border_width lane (sign_of right) inner s (active_in lane.extents s)) (value_in lane.extents s))) widest
     by_kind false p q = raised-within (value_in lane.extents s) (within-mono binary64 (value_in lane.extents s) eight widest (p refl) widest-own.bound eight-below.0)
     by_kind true p q = raised-within (border_width lane (sign_of right) inner s (active_in lane.extents s)) (by-active (active_in lane.extents s) (q refl))
 

@@ -22,7 +22,7 @@ use Rattle.std.specs.declared.option.Option.TheVariants.{Some, None}
 use Rattle.records_cubic.specs.Cubics.{cubic_at, eval_at}
 use Rattle.records.specs.Active.{active_in, value_in}
 use Rattle.records.specs.Roads.{Road, Strip, StripDef, absent, present, strip_at}
-use Rattle.arithmetic_ranges.specs.Ranges.{not_below_zero}
+use Rattle.arithmetic_ranges.specs.Ranges.{width_or_zero}
 use Rattle.lanes.specs.Lateral.{strip_height, outer_height, past_width, by_width, by_side, is_left, cross_by, cross_height}
 use Rattle.lanes.specs.Sides.{sign_of}
 use Rattle.lanes_borders.proofs.Outward.{fore, back, SideSign, turned}
@@ -83,7 +83,7 @@ above_zero : (p n z z' : ℕ) → z ≡ 0 → z' ≡ 0 → (p ≡ 0) ⊎ (n ≡ 
 above_zero p n z z' e e' (inl q) h = absurd (omega arith)
 above_zero p n z z' e e' (inr q) h = q
 
-width-real : (v y : Float) → T (fits binary64 v) → T (finite y) → T (lt (not_below_zero v) y) → Real binary64 (not_below_zero v) × (mi binary64 (not_below_zero v) ≡ 0)
+width-real : (v y : Float) → T (fits binary64 v) → T (finite y) → T (lt (width_or_zero v) y) → Real binary64 (width_or_zero v) × (mi binary64 (width_or_zero v) ≡ 0)
 width-real v y g t = go (lt zero64 v) (λ h. h)
   where
     go : (b : Bool) → (T b → T (lt zero64 v)) → T (lt (cond b v zero64) y) → Real binary64 (cond b v zero64) × (mi binary64 (cond b v zero64) ≡ 0)
@@ -114,18 +114,18 @@ module _ (s t R H : Float) (wt : Within binary64 t R) (r_h : Real binary64 H) (z
       base false = zero-within H r_h z_h
 
   past-within : (inner : StripDef) (outer : Strip) (right : Bool) (v : Float) → T (fits binary64 v) → StripWithin s R H inner → ((d : StripDef) → outer ≡ present d → StripWithin s R H d)
-      → Within binary64 (past_width inner outer s t (sign_of right) (not_below_zero v)) (H ⊕ H)
+      → Within binary64 (past_width inner outer s t (sign_of right) (width_or_zero v)) (H ⊕ H)
   past-within inner absent right v g ki ko = twice (strip_height inner s t) (ki t wt)
-  past-within inner (present d) right v g ki ko = go (lt (not_below_zero v) (o ⊗ t)) (λ h. h)
+  past-within inner (present d) right v g ki ko = go (lt (width_or_zero v) (o ⊗ t)) (λ h. h)
     where
       o : Float
       o = sign_of right
 
-      go : (b : Bool) → (T b → T (lt (not_below_zero v) (o ⊗ t))) → Within binary64 (cond b (outer_height inner d s t o (not_below_zero v)) (strip_height inner s t)) (H ⊕ H)
+      go : (b : Bool) → (T b → T (lt (width_or_zero v) (o ⊗ t))) → Within binary64 (cond b (outer_height inner d s t o (width_or_zero v)) (strip_height inner s t)) (H ⊕ H)
       go true h =
           let r = width-real v (o ⊗ t) g (turned binary64 right o t (sign-whole right) wt.value).value.finite (h tt) in
-          let e = edge-within binary64 right o t (not_below_zero v) R (sign-whole right) wt r.0 r.1 (h tt) in
-          outer-within inner d o (not_below_zero v) ki (ko d refl) e.0 e.1
+          let e = edge-within binary64 right o t (width_or_zero v) R (sign-whole right) wt r.0 r.1 (h tt) in
+          outer-within inner d o (width_or_zero v) ki (ko d refl) e.0 e.1
       go false h = twice (strip_height inner s t) (ki t wt)
 
   width-within : (inner : StripDef) (outer : Strip) (right : Bool) (f : Option ℕ) → StripWithin s R H inner → ((d : StripDef) → outer ≡ present d → StripWithin s R H d)

@@ -4,7 +4,7 @@ ghost use Rattle.lanes.specs.Lateral.{profile_height, shape_between, shape_of};
 
 use arithmetic_ranges::{blend, fraction};
 use records::LentRoad;
-use records_active::{active, profile_index};
+use records_active::{active_cubic, profile_index};
 use records_shapes::{profile_count, profile_start, shapes};
 
 // The i-th profile at t; before its first shape that shape's a.
@@ -12,8 +12,8 @@ fn profile_height(road: &LentRoad, i: usize, t: f64) -> f64
     ensures { result ≡ profile_height road.now i t }
 {
     let shapes = shapes(road, i);
-    match active(&shapes, t) {
-        Some(k) => shapes.get(k).eval(t),
+    match active_cubic(&shapes, t) {
+        Some(shape) => shape.eval(t),
         None => shapes.get(0).a,
     }
 }

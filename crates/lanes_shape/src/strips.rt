@@ -5,10 +5,10 @@ ghost use Rattle.records.specs.Roads.{strip_at, StripDef, present, column_of};
 ghost use Rattle.lanes.specs.Lateral.{strip_height, past_width, by_width, by_side, is_left, is_present, cross_height};
 ghost use Rattle.lanes.specs.Sides.{sign_of, inner_of, outer_of};
 
-use arithmetic_ranges::{abs, not_below_zero};
+use arithmetic_ranges::{abs, width_or_zero};
 use lanes::sign_of;
 use records::{LentRoad, StripKind};
-use records_active::{active, value};
+use records_active::{active_cubic, value};
 use records_shapes::{strip, strip_column};
 
 // Nearer the ridge than this the side is the one that toward points to.
@@ -97,8 +97,8 @@ impl<'r, 'a> CrossSide<'r, 'a> {
     {
         let inner = inner_of(self.right);
         let widths = strip_column(self.road, inner, 0);
-        match active(&widths, self.s) {
-            Some(k) => self.past_width(t, not_below_zero(widths.get(k).eval(self.s))),
+        match active_cubic(&widths, self.s) {
+            Some(width) => self.past_width(t, width_or_zero(width.eval(self.s))),
             None => strip_height(self.road, inner, self.s, t),
         }
     }

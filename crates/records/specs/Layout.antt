@@ -1,6 +1,7 @@
 -- Where a lent road's tables stand: `numbers` has the f64 columns, `words` the counts, codes and ranges. Document 01 leaves the layout free; docs/MEMORY.md is the same table for whoever lends a road.
 -- A table has a first place, a stride (places a line) and a limit (lines). Limits are those of document 01, "The job text", and of document 02 for marks.
 use Rattle.std.specs.Prelude.{ℕ}
+pub use Rattle.records_cubic.specs.Cubics.{cubic_stride}
 
 -- ---- numbers: the road's length, then the tables
 
@@ -50,10 +51,7 @@ span_base = 7937
 abbrev pub numbers_needed : ℕ
 numbers_needed = 8449
 
--- a cubic is five numbers, a height three, the span of a mark two
-abbrev pub cubic_stride : ℕ
-cubic_stride = 5
-
+-- a height is three numbers, the span of a mark two; a cubic's are beside its definition
 abbrev pub height_stride : ℕ
 height_stride = 3
 

@@ -87,6 +87,8 @@ pub const STRIP_COLUMNS: usize = STRIP_TERMS + 1;
 // a section's marks: first mark, marks
 pub const SECTION_MARK_WORDS: usize = 1347;
 
+pub const MARK_COUNT_WORDS: usize = SECTION_MARK_WORDS + 1;
+
 pub const SECTION_MARK_STRIDE: usize = 2;
 
 // a mark: the place of its lane among those of its section, its kind
@@ -95,6 +97,32 @@ pub const MARK_WORDS: usize = 1379;
 pub const MARK_STRIDE: usize = 2;
 
 pub const WORDS_NEEDED: usize = 1891;
+
+// ---- codes: what a word stands for, counted from 0; after a list's codes how many it has
+
+// a geometry's kind: line, arc, spiral
+pub const ARC_CODE: usize = 1;
+
+pub const SPIRAL_CODE: usize = 2;
+
+pub const GEOM_KINDS: usize = 3;
+
+// a lane's extents: width, border
+pub const BORDER_CODE: usize = 1;
+
+pub const EXTENT_KINDS: usize = 2;
+
+// a lane's level: 0, 1
+pub const LEVEL_CODE: usize = 1;
+
+pub const LEVELS: usize = 2;
+
+// a strip: absent, absolute, relative
+pub const ABSENT_CODE: usize = 0;
+
+pub const RELATIVE_CODE: usize = 2;
+
+pub const STRIP_KINDS: usize = 3;
 
 // ---- wants: s and t of each
 pub const WANT_STRIDE: usize = 2;

@@ -1,1 +1,2 @@
+pub mod ActiveLaws
 pub mod FirstLaws

@@ -4,5 +4,5 @@
 mod scan;
 mod stations;
 
-pub use scan::{ACTIVE_MARGIN, Starting, active, slope, value};
+pub use scan::{ACTIVE_MARGIN, Starting, active, active_cubic, slope, value};
 pub use stations::{geom_index, profile_index, section_index};

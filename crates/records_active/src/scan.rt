@@ -44,7 +44,7 @@ pub fn active<T: Starting>(records: &Records<T>, s: f64) -> Option<usize>
 
 // The active cubic of a list, by value. Not by `map`: the prover infers nothing of a closure that calls `get`, and its clause in words would be the longer
 // form.
-fn active_cubic(cubics: &Cubics, s: f64) -> Option<Cubic>
+pub fn active_cubic(cubics: &Cubics, s: f64) -> Option<Cubic>
     ensures { result ≡ option_map (cubic_at cubics.now) (active_in cubics.now s) }
 {
     let i = active(cubics, s)?;

@@ -21,6 +21,9 @@ abbrev pub slope_at : Cubic → Float → Float
 slope_at c s = slope_by c (s ⊖ c.start)
 
 -- five numbers from a place on: start a b c d
+abbrev pub cubic_stride : ℕ
+cubic_stride = 5
+
 abbrev pub cubic_from : List Float → ℕ → Cubic
 cubic_from xs k =
     record {
@@ -36,7 +39,7 @@ no_cubic = record { start = nan; a = nan; b = nan; c = nan; d = nan }
 
 unfoldable pub cubics_of : List Float → List Cubic
 unfolding tabulate
-cubics_of xs = tabulate (λ i. cubic_from xs (i * 5)) (length xs / 5)
+cubics_of xs = tabulate (λ i. cubic_from xs (i * cubic_stride)) (length xs / cubic_stride)
 
 -- the i-th cubic of a list, one of NaNs past its end
 abbrev pub cubic_at : List Cubic → ℕ → Cubic

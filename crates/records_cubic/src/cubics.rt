@@ -34,13 +34,13 @@ impl Cubic {
 impl Record for Cubic {
     ghost use Rattle.std.proofs.Common.{rules};
     ghost use Rattle.records_lent.proofs.TableLaws.{span-first, span-at};
-    ghost use Rattle.records_cubic.specs.Cubics.{cubic_from, no_cubic};
+    ghost use Rattle.records_cubic.specs.Cubics.{cubic_from, no_cubic, cubic_stride};
 
     ghost from = { cubic_from };
 
     ghost none = { no_cubic };
 
-    ghost STRIDE = { 5 };
+    ghost STRIDE = { cubic_stride };
 
     const STRIDE: usize = 5;
 

@@ -2,7 +2,7 @@
 ghost use Rattle.std.specs.Prelude.{◌≡◌};
 ghost use Rattle.records.specs.Roads.{geom_at, geom_shape_of, geom_from, unused_zero};
 
-use records::layout::{GEOM_BASE, GEOM_STRIDE, KIND_WORDS};
+use records::layout::{ARC_CODE, GEOM_BASE, GEOM_STRIDE, KIND_WORDS, SPIRAL_CODE};
 use records::{GeomRec, GeomShape, LentRoad};
 use records_lent::{number, part, word};
 
@@ -11,8 +11,8 @@ fn shape_of(code: usize, k0: f64, k1: f64) -> GeomShape
     ensures { result ≡ geom_shape_of code k0 k1 }
 {
     match code {
-        1 => GeomShape::Arc(k0),
-        2 => GeomShape::Spiral(k0, k1),
+        ARC_CODE => GeomShape::Arc(k0),
+        SPIRAL_CODE => GeomShape::Spiral(k0, k1),
         _ => GeomShape::Line,
     }
 }

@@ -4,7 +4,7 @@ ghost use Rattle.std.specs.Prelude.{◌≡◌};
 ghost use Rattle.records.specs.Roads.{lane_in, no_lane};
 
 use records::Heights;
-use records::layout::{EXTENT_BASE, HEIGHT_BASE, LANE_STRIDE, LANE_WORDS};
+use records::layout::{BORDER_CODE, EXTENT_BASE, HEIGHT_BASE, LANE_STRIDE, LANE_WORDS, LEVEL_CODE};
 use records_cubic::Cubics;
 use records_lent::word;
 use std::marker::Model;
@@ -34,8 +34,8 @@ pub fn lane_in<'a>(words: &[u16], numbers: &'a [f64], line: u32) -> LentLane<'a>
 {
     let at = LANE_WORDS + line as usize * LANE_STRIDE;
     LentLane {
-        border: word(words, at) == 1,
-        level: word(words, at + 1) == 1,
+        border: word(words, at) == BORDER_CODE,
+        level: word(words, at + 1) == LEVEL_CODE,
         extents: Cubics::of_table(
             numbers,
             EXTENT_BASE,

@@ -4,15 +4,13 @@ ghost use Rattle.records.specs.Roads.{section_of, mark_in, no_mark, mark_at};
 ghost use Rattle.records_marks.specs.Covers.{covers, paints, covered};
 
 use records::layout::{
-    MARK_STRIDE, MARK_WORDS, SECTION_MARK_STRIDE, SECTION_MARK_WORDS, SPAN_BASE, SPAN_STRIDE,
+    MARK_COUNT_WORDS, MARK_STRIDE, MARK_WORDS, SECTION_MARK_STRIDE, SECTION_MARK_WORDS, SPAN_BASE,
+    SPAN_STRIDE,
 };
 use records::{LentRoad, Mark};
 use records_lent::{number, word};
 use records_sections::{section_count, section_start};
 use std::marker::Model;
-
-// How many marks each section has stands beside its first mark.
-const MARK_COUNT_WORDS: usize = SECTION_MARK_WORDS + 1;
 
 // The j-th mark of the mark table. It takes the slices: a road's model has marks by section, and no table.
 fn mark_in(words: &[u16], numbers: &[f64], j: usize) -> Mark

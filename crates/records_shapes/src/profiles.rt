@@ -4,8 +4,8 @@ ghost use Rattle.records.specs.declared.points.StripKind.TheVariants.{Absent, Ab
 ghost use Rattle.records.specs.Roads.{cubics_in, profile_at, strip_at, strip_kind_of, column_of};
 
 use records::layout::{
-    CUBIC_BASE, PROFILE_BASE, PROFILE_COUNT_AT, PROFILE_STRIDE, PROFILE_WORDS, SHAPE_BASE,
-    STRIP_COLUMNS, STRIP_STRIDE, STRIP_WORDS, STRIPS,
+    ABSENT_CODE, CUBIC_BASE, PROFILE_BASE, PROFILE_COUNT_AT, PROFILE_STRIDE, PROFILE_WORDS,
+    RELATIVE_CODE, SHAPE_BASE, STRIP_COLUMNS, STRIP_STRIDE, STRIP_WORDS, STRIPS,
 };
 use records::{LentRoad, StripKind};
 use records_cubic::Cubics;
@@ -57,8 +57,8 @@ fn kind_of(code: usize) -> StripKind
     ensures { result ≡ cond (eqb code 0) Absent (cond (eqb code 2) Relative Absolute) }
 {
     match code {
-        0 => StripKind::Absent,
-        2 => StripKind::Relative,
+        ABSENT_CODE => StripKind::Absent,
+        RELATIVE_CODE => StripKind::Relative,
         _ => StripKind::Absolute,
     }
 }
@@ -85,7 +85,7 @@ pub fn strip_column<'a>(road: &LentRoad<'a>, i: usize, column: usize) -> Cubics<
         return no_cubics();
     }
     let at = STRIP_WORDS + i * STRIP_STRIDE;
-    if word(words, at) == 0 {
+    if word(words, at) == ABSENT_CODE {
         return no_cubics();
     }
     cubics_at(words, road.numbers, CUBIC_BASE, at + 1 + column * 2)

@@ -6,7 +6,7 @@ ghost use Rattle.surface_calls.specs.SurfaceCalls.{station_call, axes_call, surf
 
 use crate::entries::enter;
 use crate::lane_ids::lane_with_id;
-use admission_arguments::across;
+use admission_arguments::across_road;
 use records::RefPoint;
 use records_active::section_index;
 use refusals::Refusal;
@@ -44,7 +44,7 @@ pub fn surface(
 {
     let lent = enter(words, numbers, samples, s)?;
     // here and in `lane_surface`: as a function beside `enter` the test is sixteen lines, with parameters and contract, for twice three
-    if !across(t) {
+    if !across_road(t) {
         return Err(Refusal::Offset);
     }
     Ok(surface_in(&lent, s, t))
@@ -63,7 +63,7 @@ pub fn lane_surface(
     ensures { answered result ≡ lane_surface_call words.now numbers.now samples.now id s t }
 {
     let lent = enter(words, numbers, samples, s)?;
-    if !across(t) {
+    if !across_road(t) {
         return Err(Refusal::Offset);
     }
     let place = lane_with_id(&lent.road, section_index(&lent.road, s), id).ok_or(Refusal::Lane)?;

@@ -67,7 +67,7 @@ fn arrived(place: Place, moves: u32, miss: PlanVector) -> Arrival
 fn met(road: &LentRoad, at: Place, miss: PlanVector) -> bool
     ensures { result ≡ (on_road road.now at.s && across_road at.t && lt (size_of miss) meeting) }
 {
-    admission_arguments::on_road(road, at.s) & admission_arguments::across(at.t) & near(miss)
+    admission_arguments::on_road(road, at.s) & admission_arguments::across_road(at.t) & near(miss)
 }
 
 // The place that the moves find from a guess of s, the count of moves, and the mark.

@@ -5,4 +5,4 @@ use Rattle.admission_marks.proofs.marks.section_marks_limited.Goals as goal
 
 pub returns : goal.returns
 unfolding marks_limited
-returns c = rw (← c.mark_count.ensures.value) (all_range _ _ c.all.ensures.ran (λ x b q k. search rules))
+returns c = rw (← c.new-marks.ensures, ← c.len.ensures.value) (all_range _ _ c.all.ensures.ran (λ x b q k. search rules))

@@ -1,10 +1,8 @@
-use mathlib.Core.Path.{◌∙◌, ap}
 use Rattle.std.proofs.Common.{rules}
-use Rattle.records_lent.specs.Lists.{all_below}
 use Rattle.records_lent.proofs.RangeLaws.{all_range}
 use Rattle.admission_order.specs.Order.{marks_in_order}
 use Rattle.admission_order.proofs.marks.section_marks_in_order.Goals as goal
 
 pub returns : goal.returns
 unfolding marks_in_order
-returns c = all_range _ _ c.all.ensures.ran (λ x b q k. search rules) ∙ ap (all_below _) (c.mark_count-n.ensures.value)
+returns c = rw (← c.new-marks.ensures, ← c.len.ensures.value) (all_range _ _ c.all.ensures.ran (λ x b q k. search rules))

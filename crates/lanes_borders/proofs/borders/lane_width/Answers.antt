@@ -7,6 +7,6 @@ pub returns : goal.returns
 unfolding width_of
 returns c =
     elim c.if-lane.branch [
-      | then-lane w ↦ rw (c.not_below_zero.ensures, w.width-is, w.border_width-width.ensures, ← c.lane.view_is, w.if-lane.true)
-      | else-lane w ↦ rw (c.not_below_zero.ensures, w.width-is, w.value-width.ensures, ← c.lane.view_is, w.if-lane.false)
+      | then-lane w ↦ rw (c.width_or_zero.ensures, w.width-is, w.border_width-width.ensures, ← c.lane.view_is, w.if-lane.true)
+      | else-lane w ↦ rw (c.width_or_zero.ensures, w.width-is, w.value-width.ensures, ← c.lane.view_is, w.if-lane.false)
     ]

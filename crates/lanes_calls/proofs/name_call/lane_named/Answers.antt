@@ -16,12 +16,12 @@ returns-then-not-on_road c =
     let d = a.numbers.now in
     named-admitted w d a.s a.t c.in_ok-road.ensures (λ r. name-off w d a.s a.t r c.on_road.ensures c.if-not-on_road.true)
 
-pub returns-then-not-across : goal.returns-then-not-across
-returns-then-not-across c =
+pub returns-then-not-across_road : goal.returns-then-not-across_road
+returns-then-not-across_road c =
     let a = c.args in
     let w = a.words.now in
     let d = a.numbers.now in
-    named-admitted w d a.s a.t c.in_ok-road.ensures (λ r. name-beyond w d a.s a.t r c.on_road.ensures c.if-not-on_road.false c.across.ensures c.if-not-across.true)
+    named-admitted w d a.s a.t c.in_ok-road.ensures (λ r. name-beyond w d a.s a.t r c.on_road.ensures c.if-not-on_road.false c.across_road.ensures c.if-not-across_road.true)
 
 pub returns : goal.returns
 returns c =
@@ -29,4 +29,4 @@ returns c =
     let w = a.words.now in
     let d = a.numbers.now in
     named-admitted w d a.s a.t c.in_ok-road.ensures
-    (λ r. name-found w d a.s a.t r c.on_road.ensures c.if-not-on_road.false c.across.ensures c.if-not-across.false c.section_index.ensures c.lane_named_in.ensures)
+    (λ r. name-found w d a.s a.t r c.on_road.ensures c.if-not-on_road.false c.across_road.ensures c.if-not-across_road.false c.section_index.ensures c.lane_named_in.ensures)

@@ -18,12 +18,12 @@ returns-then-i-ge-STRIPS c =
       | then-i-ge-STRIPS-via-else-i-ge-STRIPS+then-column-ge-STRIP_COLUMNS w ↦ column-over r.words.now r.numbers.now a.i a.column (omega arith) w.if-column-ge-STRIP_COLUMNS.true
     ]))
 
-pub returns-then-word-eq0 : goal.returns-then-word-eq0
-returns-then-word-eq0 c =
+pub returns-then-word-eq-ABSENT_CODE : goal.returns-then-word-eq-ABSENT_CODE
+returns-then-word-eq-ABSENT_CODE c =
     let r = c.road.inside in
     let a = c.args in
     rw (← c.road.view_is)
-    (c.no_cubics-then-word-eq0.ensures ∙ sym (column-absent r.words.now r.numbers.now a.i a.column (omega arith) (eq-eqb _ _ (sym c.word.ensures.value ∙ c.if-word-eq0.true))))
+    (c.no_cubics-then-word-eq-ABSENT_CODE.ensures ∙ sym (column-absent r.words.now r.numbers.now a.i a.column (omega arith) (eq-eqb _ _ (sym c.word.ensures.value ∙ c.if-word-eq-ABSENT_CODE.true))))
 
 pub returns : goal.returns
 unfolding column_in
@@ -31,4 +31,4 @@ returns c =
     let r = c.road.inside in
     let a = c.args in
     rw (← c.road.view_is)
-    (c.cubics_at.ensures ∙ sym (column_in_lem r.words.now r.numbers.now a.i a.column (omega arith) (omega arith) (ne_eqb _ _ (λ z. c.if-word-eq0.false (c.word.ensures.value ∙ z)))))
+    (c.cubics_at.ensures ∙ sym (column_in_lem r.words.now r.numbers.now a.i a.column (omega arith) (omega arith) (ne_eqb _ _ (λ z. c.if-word-eq-ABSENT_CODE.false (c.word.ensures.value ∙ z)))))
