@@ -3,13 +3,20 @@ ghost use Rattle.std.specs.Prelude.{◌≡◌};
 ghost use Rattle.records.specs.Active.{active_in};
 ghost use Rattle.lanes_borders.specs.Borders.{border_width, width_of, borders_from, base_at, lanes_of, borders_of};
 
-use crate::across::LaneBorders;
 use crate::sides::SideAt;
 use arithmetic_ranges::not_below_zero;
 use records::{LanePlace, LentRoad};
 use records_active::{active, value};
 use records_lanes::LentLane;
 use records_sections::lane_count;
+
+// Where one lane lies across the road at one station: the t of its inner and outer border, and its width between them.
+#[derive(Clone, Copy)]
+pub struct LaneBorders {
+    pub inner: f64,
+    pub outer: f64,
+    pub width: f64,
+}
 
 // The t of the center.
 pub fn base_at(road: &LentRoad, s: f64) -> f64
