@@ -13,7 +13,7 @@ use lib.Ieee.{Float}
 use Rattle.float_laws.specs.Binary64.{◌⊖◌}
 use Rattle.records_lent.proofs.StoreLaws.{three-stores}
 use Rattle.records.specs.Roads.{Road, Lane, no_lane, section_of}
-use Rattle.lanes_borders.specs.declared.across.LaneBorders.{LaneBorders}
+use Rattle.lanes_borders.specs.declared.borders.LaneBorders.{LaneBorders}
 use Rattle.lanes.specs.Sides.{sign_of}
 use Rattle.lanes_borders.specs.Borders.{outer_after, borders_from, borders_at, base_at, side_lanes, borders_of, side_list, border_list}
 

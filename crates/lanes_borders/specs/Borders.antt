@@ -6,7 +6,7 @@ use Rattle.records_cubic.specs.Cubics.{cubic_at, eval_at}
 use Rattle.records.specs.Active.{active_in, value_in}
 use Rattle.records.specs.Roads.{Road, Lane, no_lane, section_of}
 use Rattle.lanes.specs.Sides.{sign_of}
-use Rattle.lanes_borders.specs.declared.across.LaneBorders.{LaneBorders}
+use Rattle.lanes_borders.specs.declared.borders.LaneBorders.{LaneBorders}
 use Rattle.arithmetic_ranges.specs.Ranges.{width_or_zero}
 
 -- a border lane's width: from its inner border to the border record's t; none active is 0 wide, not a border at 0

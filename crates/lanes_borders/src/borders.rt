@@ -1,15 +1,24 @@
 // Where the lanes of a section lie across the road. A side is left or right of the center; its lanes count from the center outward.
+// lane, into, sign and inner stay four parameters of three functions, each the next one's step: inner is another at each lane, so one value of the four would be
+// built for each and taken apart at once. What stays the same along a side is `SideAt`.
 ghost use Rattle.std.specs.Prelude.{◌≡◌};
 ghost use Rattle.records.specs.Active.{active_in};
 ghost use Rattle.lanes_borders.specs.Borders.{border_width, width_of, borders_from, base_at, lanes_of, borders_of};
 
-use crate::across::LaneBorders;
 use crate::sides::SideAt;
 use arithmetic_ranges::width_or_zero;
 use records::{LanePlace, LentRoad};
 use records_active::{active_cubic, value};
 use records_lanes::LentLane;
 use records_sections::lane_count;
+
+// Where one lane lies across the road at one station: the t of its inner and outer border, and its width between them.
+#[derive(Clone, Copy)]
+pub struct LaneBorders {
+    pub inner: f64,
+    pub outer: f64,
+    pub width: f64,
+}
 
 // The t of the center.
 pub fn base_at(road: &LentRoad, s: f64) -> f64
@@ -59,7 +68,8 @@ pub fn border_from(lane: &LentLane, into: f64, sign: f64, inner: f64) -> LaneBor
     }
 }
 
-// The borders at s of the lane at a place: where the lane before it ends, and its width from there.
+// The borders at s of the lane at a place: where the lane before it ends, and its width from there. It answers for document 01's
+// `side_borders`, lane by lane (docs/INSPECTION.md, row 102).
 pub fn lane_borders(road: &LentRoad, place: LanePlace, s: f64) -> LaneBorders
     ensures { result ≡ borders_of road.now place.section s place.right place.k }
 {

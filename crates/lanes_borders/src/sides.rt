@@ -4,8 +4,7 @@ ghost use Rattle.records.specs.Roads.{no_lane};
 ghost use Rattle.lanes_borders.specs.Borders.{outer_after, borders_from};
 ghost use Rattle.lanes_borders.specs.Sides.{side_at};
 
-use crate::across::LaneBorders;
-use crate::borders::{base_at, border_from};
+use crate::borders::{LaneBorders, base_at, border_from};
 use lanes::sign_of;
 use records::LentRoad;
 use records_lanes::LentSide;

@@ -5,7 +5,7 @@ use Rattle.std.specs.Prelude.{Bool, true, false, ◌||◌, cond, List, length, g
 use Rattle.float_laws.specs.Binary64.{◌⊕◌, ◌⊖◌, ◌⊗◌}
 use Rattle.records_lent.specs.Lists.{any_below}
 use Rattle.records.specs.Roads.{Road, Lane, no_lane, section_of}
-use Rattle.lanes_borders.specs.declared.across.LaneBorders.{LaneBorders}
+use Rattle.lanes_borders.specs.declared.borders.LaneBorders.{LaneBorders}
 use Rattle.lanes.specs.declared.border_heights.BorderHeights.{BorderHeights}
 use Rattle.lanes_heights.specs.declared.across.Across.{Across}
 use Rattle.lanes.specs.Lateral.{height_of, height_toward}

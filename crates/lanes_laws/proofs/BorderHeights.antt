@@ -27,7 +27,7 @@ use Rattle.lanes_laws.proofs.LateralBounds.{two-wide, height-most}
 use Rattle.lanes.specs.Sides.{sign_of}
 use Rattle.lanes_borders.specs.Borders.{border_width, width_of, base_at, side_lanes, borders_at, borders_of}
 use Rattle.lanes_heights.specs.Heights.{level_up_to, level_heights, tilted_heights, own_heights, heights_from, height_after, heights_at}
-use Rattle.lanes_borders.specs.declared.across.LaneBorders.{LaneBorders}
+use Rattle.lanes_borders.specs.declared.borders.LaneBorders.{LaneBorders}
 use Rattle.lanes_borders.proofs.BorderLaws.{eight, thirty_six, eighty, ExtentWithin}
 use Rattle.lanes_laws.proofs.AdmittedRoad.{Admits, eighty-own, across-within, into}
 use Rattle.lanes_laws.proofs.BordersKept.{center, extents, inner-kept, outer-kept}

@@ -24,7 +24,7 @@ use Rattle.admission_laws.proofs.RoadBounds.{OnRoad}
 use Rattle.admission.specs.Admission.{admitted}
 use Rattle.admission.proofs.RowLaws.{pass-checked, checked-pass}
 use Rattle.admission.proofs.AdmissionLaws.{road-answered, road-admitted}
-use Rattle.lanes_borders.specs.declared.across.LaneBorders.{LaneBorders}
+use Rattle.lanes_borders.specs.declared.borders.LaneBorders.{LaneBorders}
 use Rattle.lanes.specs.Sides.{sign_of}
 use Rattle.lanes_borders.specs.Borders.{base_at, side_lanes, borders_of as lane_borders, border_list}
 use Rattle.lanes_border_list.specs.BorderList.{listed_by}

@@ -52,8 +52,8 @@ fn strip_height(road: &LentRoad, i: usize, s: f64, dt: f64) -> f64
     let c2 = column_value(road, i, 3, s);
     let c1 = column_value(road, i, 2, s);
     let c0 = column_value(road, i, 1, s);
-    // from 0.0 on, as the definition: a sum of -0 alone is 0; written out, since `horner` of arithmetic_sine reads a slice, to which the four would be
-    // stored at each height
+    // from 0.0 on, as the definition: a sum of -0 alone is 0; written out, since `horner(dt, 0.0, &[c3, c2, c1, c0])` names the same five in the same
+    // order, and this crate, which asks for no sine, would stand on arithmetic_sine for it
     (((0.0 * dt + c3) * dt + c2) * dt + c1) * dt + c0
 }
 

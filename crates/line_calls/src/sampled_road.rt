@@ -1,4 +1,5 @@
 // A road that is admitted, with as many samples as it needs: what each call with samples begins with.
+// Slices are lent and no `SampledRoad`, which is what is made of them here.
 ghost use Rattle.std.specs.Prelude.{◌≡◌, ◌/◌, [], ◌∷◌, ◌++◌, length, leb};
 ghost use Rattle.refusals.specs.Answer.{answered, row, checked, value};
 ghost use Rattle.refusals.specs.declared.refusals.Refusal.TheVariants.{SampleSpace};

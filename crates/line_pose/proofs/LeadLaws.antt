@@ -35,12 +35,12 @@ module _ (samples : List Float) (d : Float) (at : ℕ) where
     unfolding left
     next k j l e h = lead-next samples d at (n + 8) k (omega arith) (ap tested e ∙ h)
 
-    pub eight-leads : (a b c e p q r s : Bool) → (a && b && c && e) && (p && q && r && s) ≡ true
+    pub group-leads : (a b c e p q r s : Bool) → (a && b && c && e) && (p && q && r && s) ≡ true
         → a ≡ tested (at * 4) → b ≡ tested (at * 4 + 4) → c ≡ tested (at * 4 + 8) → e ≡ tested (at * 4 + 12)
         → p ≡ tested (at * 4 + 16) → q ≡ tested (at * 4 + 20) → r ≡ tested (at * 4 + 24) → s ≡ tested (at * 4 + 28)
         → leading samples at d (n + 8) ≡ 8 + leading samples (at + 8) d n
     unfolding left
-    eight-leads a b c e p q r s h ea eb ec ee ep eq er es =
+    group-leads a b c e p q r s h ea eb ec ee ep eq er es =
         let halves = both _ _ h in
         let low = four halves.0 in
         let high = four halves.1 in
@@ -56,11 +56,11 @@ module _ (samples : List Float) (d : Float) (at : ℕ) where
         ∙ next 7 (at * 4 + 28) (omega arith) (omega arith) (sym es ∙ high.3)
         ∙ ap (λ (m : ℕ). 8 + leading samples (at + 8) d m) w
 
--- eight more, where the loop has counted k of n
-pub lead-eights : (samples : List Float) (d : Float) (first n k j : ℕ) → j ≡ k + 8 → j ≤ n
+-- one group more, where the loop has counted k of n
+pub lead-group : (samples : List Float) (d : Float) (first n k j : ℕ) → j ≡ k + 8 → j ≤ n
     → ((m : ℕ) → leading samples (first + k) d (m + 8) ≡ 8 + leading samples (first + k + 8) d m)
     → k + leading samples (first + k) d (n - k) ≡ j + leading samples (first + j) d (n - j)
-lead-eights samples d first n k j p l h =
+lead-group samples d first n k j p l h =
     let e : n - k ≡ n - j + 8 = omega arith in
     let f : first + k + 8 ≡ first + j = omega arith in
     let g : k + leading samples (first + k) d (n - k) ≡ k + (8 + leading samples (first + j) d (n - j)) = ap (λ (m : ℕ). k + leading samples (first + k) d m) e ∙ ap (λ (m : ℕ). k + m) (h (n - j) ∙ ap (λ (i : ℕ). 8 + leading samples i d (n - j)) f) in
@@ -71,18 +71,18 @@ pub found-within : (r : Option ℕ) (m : ℕ) → MatchOption r ((k : ℕ) → 0
 found-within None m h = omega arith
 found-within (Some i) m h = omega (arith, h.1)
 
--- each of the eights before the one that is found leads
+-- each of the groups before the one that is found leads
 module _ (samples : List Float) (d : Float) (first n : ℕ) where
   run : (e : ℕ) → e * 8 ≤ n → ((i : ℕ) → 0 ≤ i → i < e → (m : ℕ) → leading samples (first + i * 8) d (m + 8) ≡ 8 + leading samples (first + i * 8 + 8) d m)
       → leading samples first d n ≡ e * 8 + leading samples (first + e * 8) d (n - e * 8)
   run zero l h = lead-start samples d first n
   run (suc e) l h =
       run e (omega arith) (λ i a b. h i a (omega arith))
-      ∙ lead-eights samples d first n (e * 8) (suc e * 8) (omega arith) l (h e (omega arith) (omega arith))
+      ∙ lead-group samples d first n (e * 8) (suc e * 8) (omega arith) l (h e (omega arith) (omega arith))
 
-  pub eights_found : (r : Option ℕ)
+  pub groups_found : (r : Option ℕ)
       → MatchOption r ((i : ℕ) → 0 ≤ i → i < n / 8 → (m : ℕ) → leading samples (first + i * 8) d (m + 8) ≡ 8 + leading samples (first + i * 8 + 8) d m)
       (λ e. (0 ≤ e) × (e < n / 8) × Unit {0} × ((i : ℕ) → 0 ≤ i → i < e → (m : ℕ) → leading samples (first + i * 8) d (m + 8) ≡ 8 + leading samples (first + i * 8 + 8) d m))
       → leading samples first d n ≡ unwrap_or r (n / 8) * 8 + leading samples (first + unwrap_or r (n / 8) * 8) d (n - unwrap_or r (n / 8) * 8)
-  eights_found None h = run (n / 8) (omega arith) h
-  eights_found (Some e) h = run e (omega (arith, h.1)) h.3
+  groups_found None h = run (n / 8) (omega arith) h
+  groups_found (Some e) h = run e (omega (arith, h.1)) h.3

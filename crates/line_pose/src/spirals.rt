@@ -16,8 +16,8 @@ pub(crate) struct SpiralSamples<'a> {
     ghost few: { (first < counted_end) × (count ≤ most_counted) },
 }
 
-// How many samples are looked at with no branch between their tests.
-const AT_ONCE: usize = 8;
+// How many samples make a group: they are looked at with no branch between their tests.
+const GROUP: usize = 8;
 
 // The first sample of the segment: the last leading one, but never the very last.
 fn segment_of(lead: usize, n: usize) -> usize
@@ -57,8 +57,8 @@ impl<'a> SpiralSamples<'a> {
         }
     }
 
-    // Whether the eight samples from the k-th on all have a distance of at most d.
-    fn eight_lead(&self, k: usize, d: f64) -> bool
+    // Whether the samples of the group from the k-th on all have a distance of at most d.
+    fn group_leads(&self, k: usize, d: f64) -> bool
         requires { (k ≤ self.now.count) × ((self.now.first + k + 8) * sample_stride ≤ length self.now.samples.now) }
         ensures { result ≡ true → (n : ℕ) → leading self.now.samples.now (self.now.first + k) d (n + 8) ≡ 8 + leading self.now.samples.now (self.now.first + k + 8) d n }
     {
@@ -69,20 +69,20 @@ impl<'a> SpiralSamples<'a> {
         low & high
     }
 
-    // How many samples lead with a distance of at most d, as far as whole eights of them go: their tests need no branch between them, and one by one a long spiral takes near twice as long.
-    fn leading_eights(&self, d: f64) -> usize
+    // How many samples lead with a distance of at most d, as far as whole groups of them go: one by one a long spiral takes near twice as long.
+    fn leading_in_groups(&self, d: f64) -> usize
         ensures n_value { leading self.now.samples.now self.now.first d self.now.count ≡ result + leading self.now.samples.now (self.now.first + result) d (self.now.count - result) }
         ensures small { result ≤ self.now.count }
     {
-        let eights = self.count / AT_ONCE;
+        let groups = self.count / GROUP;
         let whole = self.samples.len() / SAMPLE_STRIDE;
-        (0..eights)
-            .find(|&eight| {
-                let k = eight * AT_ONCE;
-                whole < self.first + k + AT_ONCE || !self.eight_lead(k, d)
+        (0..groups)
+            .find(|&group| {
+                let k = group * GROUP;
+                whole < self.first + k + GROUP || !self.group_leads(k, d)
             })
-            .unwrap_or(eights)
-            * AT_ONCE
+            .unwrap_or(groups)
+            * GROUP
     }
 
     // How many samples lead with a distance of at most d. Each is looked at, since the distances of a lent slice may stand in any order.
@@ -90,7 +90,7 @@ impl<'a> SpiralSamples<'a> {
         ensures value { result ≡ leading self.now.samples.now self.now.first d self.now.count }
         ensures small { result ≤ self.now.count }
     {
-        (self.leading_eights(d)..self.count)
+        (self.leading_in_groups(d)..self.count)
             .find(|&k| !(number(self.samples, (self.first + k) * SAMPLE_STRIDE) <= d))
             .unwrap_or(self.count)
     }

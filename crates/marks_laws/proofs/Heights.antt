@@ -12,7 +12,7 @@ use Rattle.records.specs.Active.{last_start, active_up_to}
 use Rattle.records.specs.Roads.{Road, Lane, no_lane, profile_at}
 use Rattle.lanes.specs.declared.border_heights.BorderHeights.{BorderHeights}
 use Rattle.lanes.specs.Lateral.{profile_height, shape_between, shape_from, shape_of, cross_height, height_toward, has_cross_section, flat_across}
-use Rattle.lanes_borders.specs.declared.across.LaneBorders.{LaneBorders}
+use Rattle.lanes_borders.specs.declared.borders.LaneBorders.{LaneBorders}
 use Rattle.lanes_borders.specs.Borders.{side_lanes}
 use Rattle.lanes_heights.specs.declared.across.Across.{Across}
 use Rattle.lanes_heights.specs.Heights.{heights_from, height_after, heights_at, across_at, is_raised, section_raised}

@@ -9,7 +9,7 @@ use Rattle.float_laws.specs.Binary64.{◌⊖◌}
 use Rattle.records_lent.specs.Lists.{last_that}
 use Rattle.records.specs.Active.{last_start, active_up_to, or_first}
 use Rattle.records.specs.Roads.{Road, Section, Lane, no_section, section_of, section_index}
-use Rattle.lanes_borders.specs.declared.across.LaneBorders.{LaneBorders}
+use Rattle.lanes_borders.specs.declared.borders.LaneBorders.{LaneBorders}
 use Rattle.lanes.specs.Sides.{sign_of}
 use Rattle.lanes_borders.specs.Borders.{base_at, side_lanes, lanes_of, borders_at, borders_of, side_list, border_list}
 use Rattle.lanes_naming.specs.Naming.{named_test, named_on, name_by, lane_named, beyond_test, beyond_on, place_by, lane_at}

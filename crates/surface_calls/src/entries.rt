@@ -1,4 +1,4 @@
-// The rows that the calls at a station share.
+// The rows that the calls at a station share. Slices are lent and no `SampledRoad`, which is what is answered.
 ghost use Rattle.std.specs.Prelude.{◌≡◌};
 ghost use Rattle.refusals.specs.Answer.{answered, checked, value};
 ghost use Rattle.records.specs.Roads.{road_of};

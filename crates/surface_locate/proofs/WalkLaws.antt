@@ -2,7 +2,7 @@
 use Prim.Native.Nat.{ℕ, suc, ◌+◌, ◌-◌, ◌<◌, ◌≤◌}
 use native.Mathlib.Numerals.{add-one}
 use native.Mathlib.Omega.{arith}
-use mathlib.Core.Path.{◌≡◌, ap, ◌∙◌}
+use mathlib.Core.Path.{◌≡◌, refl, ap, ◌∙◌}
 use mathlib.Core.List.{List}
 use mathlib.Core.Bool.{true}
 use lib.Ieee.{Float, lt}
@@ -18,6 +18,11 @@ module _ (road : Road) (samples : List Float) (target : PlanVector) where
   pub miss_is : (s t : Float) → miss_on target (plan_on road (footing_of road samples s) t) ≡ miss_at road samples target (place s t)
   unfolding miss_at
   miss_is s t = ap (miss_on target) (plan-is-surface road samples s t)
+
+  -- a station stands at its s
+  pub station_of : (s : Float) → (footing_of road samples s).s ≡ s
+  unfolding footing_of
+  station_of s = refl
 
   -- a small miss ends the moves
   pub move_none : (at : Place) → lt (size_of (miss_at road samples target at)) tolerance ≡ true → Stay ≡ move_at road samples target at
@@ -45,4 +50,4 @@ module _ (road : Road) (samples : List Float) (target : PlanVector) where
     walk_on p h = one-move ∙ rw (← h, add-one)
 
 -- the laws of one turn of the walk
-pub ruleset turn = (miss_is, move_none, walk_full, walk_stay, walk_last, walk_on)
+pub ruleset turn = (miss_is, station_of, move_none, walk_full, walk_stay, walk_last, walk_on)

@@ -2,7 +2,7 @@
 ghost use Rattle.std.specs.Prelude.{◌≡◌, false};
 ghost use Rattle.std.specs.Float.Ieee.{lt};
 ghost use Rattle.surface_points.specs.Plan.{footing_of};
-ghost use Rattle.surface_locate.specs.Locating.{tolerance, miss_at, size_of, ahead_of, det_of, newton_move, move_at};
+ghost use Rattle.surface_locate.specs.Locating.{tolerance, place, miss_at, size_of, ahead_of, det_of, newton_move, move_at};
 
 use crate::misses::{Search, TOLERANCE, rate};
 use crate::points::{Move, Place};
@@ -56,20 +56,18 @@ fn newton(length: f64, at: Place, r: PlanVector, along: PlanVector, across: Plan
 }
 
 impl<'a> Search<'a> {
-    // The move from a place whose miss r isn't small; here is its station.
+    // The move from t of a station, whose miss r there isn't small.
     #[tactic(auto, using(crate::proofs::WalkLaws::miss_is), unfolding(crate::specs::Locating::move_at))]
-    pub(crate) fn move_from(&self, here: Footing, at: Place, r: PlanVector) -> Move
-        requires { (here ≡ footing_of self.now.lent.now.road self.now.lent.now.samples.now at.s) × (r ≡ miss_at self.now.lent.now.road self.now.lent.now.samples.now self.now.target at) × (lt (size_of r) tolerance ≡ false) }
-        ensures { result ≡ move_at self.now.lent.now.road self.now.lent.now.samples.now self.now.target at }
+    pub(crate) fn move_from(&self, here: Footing, t: f64, r: PlanVector) -> Move
+        requires { (here ≡ footing_of self.now.lent.now.road self.now.lent.now.samples.now here.s) × (r ≡ miss_at self.now.lent.now.road self.now.lent.now.samples.now self.now.target (place here.s t)) × (lt (size_of r) tolerance ≡ false) }
+        ensures { result ≡ move_at self.now.lent.now.road self.now.lent.now.samples.now self.now.target (place here.s t) }
     {
         let length = self.lent.road.length();
+        let at = Place { s: here.s, t };
         let h = ahead(length, at.s);
-        let on = Place {
-            s: at.s + h,
-            t: at.t,
-        };
+        let on = Place { s: at.s + h, t };
         let along = rate(self.miss(on), r, h);
-        let across = rate(self.miss_on(here, at.t + RATE_STEP), r, RATE_STEP);
+        let across = rate(self.miss_on(here, t + RATE_STEP), r, RATE_STEP);
         newton(length, at, r, along, across)
     }
 }

@@ -5,7 +5,7 @@ ghost use Rattle.admission.specs.Limits.{on_road};
 ghost use Rattle.admission_arguments.specs.Arguments.{across_road};
 ghost use Rattle.surface_points.specs.Plan.{footing_of};
 ghost use Rattle.surface_locate.specs.Meeting.{meeting};
-ghost use Rattle.surface_locate.specs.Locating.{most_moves, miss_at, size_of, walk_from, locate_of};
+ghost use Rattle.surface_locate.specs.Locating.{most_moves, place, miss_at, size_of, walk_from, locate_of};
 
 use crate::misses::{Search, near, small};
 use crate::points::{Move, Place, Position, Walk};
@@ -25,21 +25,22 @@ struct Arrival {
 }
 
 impl<'a> Search<'a> {
-    // The moves from a place, until one is none or the last; first is that place's station.
+    // The moves from t of a station, until one is none or the last.
     #[tactic(auto, using(crate::proofs::WalkLaws::turn))]
-    fn walk(&self, from: Place, first: Footing) -> Arrival
-        requires { first ≡ footing_of self.now.lent.now.road self.now.lent.now.samples.now from.s }
-        ensures walk_value { result.walk ≡ walk_from self.now.lent.now.road self.now.lent.now.samples.now self.now.target most_moves from 0 }
+    fn walk(&self, first: Footing, from_t: f64) -> Arrival
+        requires { first ≡ footing_of self.now.lent.now.road self.now.lent.now.samples.now first.s }
+        ensures walk_value { result.walk ≡ walk_from self.now.lent.now.road self.now.lent.now.samples.now self.now.target most_moves (place first.s from_t) 0 }
         ensures seen { result.miss ≡ miss_at self.now.lent.now.road self.now.lent.now.samples.now self.now.target result.walk.place }
     {
-        let mut at = from;
         let mut here = first;
+        let mut t = from_t;
         for moves in 0..MOST_MOVES {
-            let r = self.miss_on(here, at.t);
+            let r = self.miss_on(here, t);
+            let at = Place { s: here.s, t };
             if small(r) {
                 return arrived(at, moves, r);
             }
-            match self.move_from(here, at, r) {
+            match self.move_from(here, t, r) {
                 Move::Stay => {
                     return arrived(at, moves, r);
                 }
@@ -47,12 +48,12 @@ impl<'a> Search<'a> {
                     return arrived(p, moves + 1, self.miss(p));
                 }
                 Move::On(p) => {
-                    at = p;
                     here = footing_at(self.lent, p.s);
+                    t = p.t;
                 }
             }
         }
-        arrived(at, MOST_MOVES, self.miss_on(here, at.t))
+        arrived(Place { s: here.s, t }, MOST_MOVES, self.miss_on(here, t))
     }
 }
 
@@ -77,11 +78,7 @@ pub fn locate_from(lent: &SampledRoad, target: PlanVector, guess: f64) -> Positi
 {
     let s = clamp(lent.road.length(), guess);
     let here = footing_at(lent, s);
-    let from = Place {
-        s,
-        t: first_t(here, target),
-    };
-    let end = Search { lent, target }.walk(from, here);
+    let end = Search { lent, target }.walk(here, first_t(here, target));
     let at = end.walk.place;
     let converged = met(&lent.road, at, end.miss);
     Position {

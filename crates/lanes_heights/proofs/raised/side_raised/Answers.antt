@@ -11,5 +11,5 @@ use Rattle.lanes_heights.proofs.raised.side_raised.Goals as goal
 
 pub returns : goal.returns
 returns c =
-    let p = λ (k : ℕ). is_raised (get_or c.new-side.result k no_lane) in
-    rw c.new-side.ensures at (any_range p _ c.any.ensures.ran (λ x b q k. search rules) ∙ ap (any_below p) c.len.ensures.value)
+    let p = λ (k : ℕ). is_raised (get_or c.args.side.now k no_lane) in
+    any_range p _ c.any.ensures.ran (λ x b q k. search rules) ∙ ap (any_below p) c.len.ensures.value

@@ -13,8 +13,8 @@ pub returns-clause-value : goal.returns-clause-value
 returns-clause-value c =
     let own = c.args.self.now in
     let d = c.args.d in
-    let eights = c.leading_eights.ensures in
-    c.unwrap_or.ensures ∙ sym (eights.n_value ∙ lead_found own.samples.now d own.first own.count c.leading_eights.result c.find.result eights.small
+    let groups = c.leading_in_groups.ensures in
+    c.unwrap_or.ensures ∙ sym (groups.n_value ∙ lead_found own.samples.now d own.first own.count c.leading_in_groups.result c.find.result groups.small
     (first_from_Range _ _ _ _ (λ k. le (get_or own.samples.now ((own.first + k) * 4) nan) d ≡ false) (λ k. le (get_or own.samples.now ((own.first + k) * 4) nan) d ≡ true) c.find.ensures.ran
     (λ x q k. search (rules, tests))
     (λ x q k. (search rules, search (rules, tests)))))

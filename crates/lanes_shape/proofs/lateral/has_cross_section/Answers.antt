@@ -8,7 +8,7 @@ use Rattle.records_lent.specs.Lists.{any_below}
 use Rattle.records_lent.proofs.RangeLaws.{any_range}
 use Rattle.records.specs.Roads.{strip_at}
 use Rattle.lanes.specs.Lateral.{is_present, has_cross_section}
-use Rattle.lanes_shape.proofs.across.has_cross_section.Goals as goal
+use Rattle.lanes_shape.proofs.lateral.has_cross_section.Goals as goal
 
 four-more : (x a b c d : Bool) → x || (((a || b) || c) || d) ≡ (((x || a) || b) || c) || d
 four-more true a b c d = refl

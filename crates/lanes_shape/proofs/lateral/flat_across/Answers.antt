@@ -1,6 +1,6 @@
 -- `flat_across`: by the profiles and the cross section.
 use Rattle.lanes.specs.Lateral.{flat_across}
-use Rattle.lanes_shape.proofs.across.flat_across.Goals as goal
+use Rattle.lanes_shape.proofs.lateral.flat_across.Goals as goal
 
 pub returns : goal.returns
 unfolding flat_across

@@ -1,4 +1,6 @@
 // Profiles and cross section together.
+// s and t stay two numbers, here and in the files beside: profiles are sought by s and their shapes worked out at t, and the cross section goes by t less
+// the shift at s, so that a pair of them would be taken apart at once.
 ghost use Rattle.std.specs.Prelude.{◌≡◌};
 ghost use Rattle.lanes.specs.Lateral.{height_toward, has_cross_section, flat_across};
 

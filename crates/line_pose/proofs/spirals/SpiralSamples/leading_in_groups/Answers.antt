@@ -1,11 +1,11 @@
--- The eights before the one that is found all lead.
+-- The groups before the one that is found all lead.
 use Prim.Native.Nat.{ℕ, ◌+◌, ◌*◌, ◌/◌}
 use mathlib.Core.Path.{◌≡◌}
 use Rattle.std.proofs.Common.{arith, rules, tests}
 use Rattle.std.proofs.lemmas.Iterator.{first_from_Range}
 use Rattle.line_pose.specs.Poses.{leading}
-use Rattle.line_pose.proofs.LeadLaws.{found-within, eights_found}
-use Rattle.line_pose.proofs.spirals.SpiralSamples.leading_eights.Goals as goal
+use Rattle.line_pose.proofs.LeadLaws.{found-within, groups_found}
+use Rattle.line_pose.proofs.spirals.SpiralSamples.leading_in_groups.Goals as goal
 
 pub overflow_mul-result : goal.overflow_mul-result
 overflow_mul-result c =
@@ -15,7 +15,7 @@ overflow_mul-result c =
 pub returns-clause-n_value : goal.returns-clause-n_value
 returns-clause-n_value c =
     let own = c.args.self.now in
-    rw c.unwrap_or.ensures (eights_found own.samples.now c.args.d own.first own.count c.find.result
+    rw c.unwrap_or.ensures (groups_found own.samples.now c.args.d own.first own.count c.find.result
     (first_from_Range _ _ _ _ (λ i. Unit {0}) (λ i. (m : ℕ) → leading own.samples.now (own.first + i * 8) c.args.d (m + 8) ≡ 8 + leading own.samples.now (own.first + i * 8 + 8) c.args.d m) c.find.ensures.ran
     (λ x q k. tt)
     (λ x q k. (search rules, search (rules, tests)))))
