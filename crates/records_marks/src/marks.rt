@@ -38,7 +38,8 @@ fn no_mark() -> Mark
     }
 }
 
-// A section's marks: the line where they begin is read once, and not for each mark.
+// A section's marks: the line where they begin is read once, and not for each mark. Not one type with `LentSide`, which has the same fields: a line of lanes and
+// one of marks are read by functions of their own, so the type would take a trait with two impls for the five lines of `get`.
 #[derive(Drop)]
 pub struct LentMarks<'a> {
     words: &'a [u16],
