@@ -29,6 +29,10 @@ table_at f (suc n) (suc i) d h = table_at (λ k. f (suc k)) n i d (le_of_suc-le-
 pub table-past : {A : Type 0} (f : ℕ → A) (n i : ℕ) (d : A) → n ≤ i → get_or (tabulate f n) i d ≡ d
 table-past f n i d h = get_or-eq_default (tabulate f n) d (rw length-table h)
 
+-- how many lines a table has, from the list that it is
+pub table-count : {A : Type 0} (f : ℕ → A) {m n : ℕ} {xs : List A} → n ≡ length xs → tabulate f m ≡ xs → n ≡ m
+table-count f {m = m} e v = e ∙ sym (ap length v) ∙ length-table f m
+
 -- the first line, and the others
 pub table-step : {A : Type 0} (f : ℕ → A) (first : ℕ) {n m : ℕ} → n ≡ suc m → tabulate (λ k. f (first + k)) n ≡ f first ∷ tabulate (λ k. f (first + 1 + k)) m
 unfolding tabulate

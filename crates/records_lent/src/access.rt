@@ -24,8 +24,8 @@ pub fn raw_word(words: &[u16], at: usize) -> u16
     item_or(words, at, 0)
 }
 
-// The word at a place, 0 past the end. It is a usize, since it counts or numbers lines and callers calculate places with it; that it came of a u16 is a
-// clause, in the functions of counts too, where the model's list is of any length.
+// The word at a place, 0 past the end. It is a usize, since callers calculate places with it and compare it with lengths: of a u16 each would make one. So
+// that it came of a u16 is a clause, here and in the functions of counts, where the model's list is of any length.
 pub fn word(words: &[u16], at: usize) -> usize
     ensures value { result ≡ get_or words.now at 0 }
     ensures small { result < 65536 }

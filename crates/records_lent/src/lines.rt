@@ -27,31 +27,31 @@ pub struct Lines<'a, N: Copy, T: Line<N>> {
     words: &'a [u16],
     numbers: N,
     first: u32,
-    count: usize,
+    end: u32,
     of: PhantomData<T>,
 }
 
 impl<'a, N: Copy, T: Line<N>> Model for Lines<'a, N, T> {
-    ghost use Rattle.std.specs.Prelude.{ℕ, ◌+◌, ◌<◌, ◌^◌, List};
+    ghost use Rattle.std.specs.Prelude.{ℕ, ◌+◌, ◌-◌, ◌<◌, ◌≤◌, ◌^◌, List};
     ghost use Rattle.records_lent.specs.Lists.{tabulate};
 
     ghost Value = { List T };
 
-    ghost view = { λ lines. tabulate (λ (k : ℕ). T.at lines.words.now lines.numbers (lines.first + k)) lines.count };
+    ghost view = { λ lines. tabulate (λ (k : ℕ). T.at lines.words.now lines.numbers (lines.first + k)) (lines.end - lines.first) };
 
-    ghost invariant = { λ lines. (lines.first + lines.count < 2 ^ 32) × (lines.count < 65536) };
+    ghost invariant = { λ lines. (lines.first ≤ lines.end) × (lines.end < lines.first + 65536) × (lines.end < 2 ^ 32) };
 }
 
 impl<'a, N: Copy, T: Line<N>> Lines<'a, N, T> {
-    // Lines past the last that a u32 numbers are not told apart: no table has so many.
+    // They end where the numbers of lines do, in 32 bits, if they come so far: no table has so many.
     pub fn new(words: &'a [u16], numbers: N, first: u32, count: u16) -> Self
         ensures { first + count < 2 ^ 32 → result ≡ tabulate (λ (k : ℕ). T.at words.now numbers (first + k)) count }
     {
         Lines {
             words,
             numbers,
-            first: first.min(u32::MAX - u32::from(count)),
-            count: usize::from(count),
+            first,
+            end: first.saturating_add(u32::from(count)),
             of: PhantomData,
         }
     }
@@ -60,14 +60,14 @@ impl<'a, N: Copy, T: Line<N>> Lines<'a, N, T> {
         ensures value { result ≡ length self.now }
         ensures small { result < 65536 }
     {
-        self.count
+        (self.end - self.first) as usize
     }
 
     // The k-th line, none past the last.
     pub fn get(&self, k: usize) -> T
         ensures { result ≡ get_or self.now k T.none }
     {
-        if k < self.count {
+        if k < self.len() {
             T::at(self.words, self.numbers, self.first + k as u32)
         } else {
             T::none()
@@ -82,7 +82,7 @@ impl<'a, N: Copy, T: Line<N>> Lines<'a, N, T> {
             words: self.words,
             numbers: self.numbers,
             first: self.first,
-            count: self.count,
+            end: self.end,
             of: PhantomData,
         }
     }
@@ -96,12 +96,11 @@ impl<'a, N: Copy, T: Line<N>> Iterator for Lines<'a, N, T> {
     ghost remaining = { item_count (λ lines. lines) };
 
     fn next(&mut self) -> Option<T> {
-        if self.count == 0 {
+        if self.first == self.end {
             return None;
         }
         let line = T::at(self.words, self.numbers, self.first);
         self.first += 1;
-        self.count -= 1;
         Some(line)
     }
 }
