@@ -3,10 +3,12 @@ use Prim.Native.Nat.{ℕ, zero, suc, ◌+◌, ◌-◌, ◌*◌, ◌^◌, ◌<◌
 use mathlib.Core.Path.{◌≡◌, refl, sym, ap, ◌∙◌}
 use mathlib.Core.Bool.{Bool, true, false, cond, ◌&&◌, and_assoc, and-true}
 use mathlib.Core.List.{List}
+use mathlib.Core.Logic.{inl, inr}
 use native.Mathlib.Numerals.{add-one}
 use native.Mathlib.Nat.{pow-suc, pow-le-pow_right, mul-le-mul_right, suc-mul}
 use native.Mathlib.Omega.{arith}
-use borrow.Author.Tests.{eq-eqb, ne_eqb, le-leb, lt-leb, ltb-true, ltb-false}
+use borrow.Author.Tests.{eq-eqb, ne_eqb, le-leb, lt-leb, le-ltb, lt-ltb, ltb-true, ltb-false}
+use Rattle.std.specs.Char.{IsAsciiDigit, IsNotAsciiDigit}
 use lib.Dec.{ltb, leb}
 use Rattle.reader_cells.specs.Cells.{digit_of, byte_at, span_of, name_from, name_span, decimal_from, natural_at, hex_from, hex_at}
 use Rattle.std.specs.Prelude.{Option, Some, None}
@@ -44,6 +46,25 @@ name-whole text from n v g h = let e : n ≡ 8 = omega arith in rw e
 pub name-is : (text : List ℕ) (from : ℕ) → name_span text from ≡ name_from (8 - 0) text (from + 0) 0
 unfolding name_span
 name-is text from = let z : from + 0 ≡ from = omega arith in rw z
+
+-- the value of a decimal digit; any other byte is worth ten or more
+pub decimal_digit : (b : ℕ) → IsAsciiDigit b → (b - 48 ≡ digit_of b) × (b - 48 < 10)
+unfolding digit_of
+decimal_digit b r = (rw (le-ltb b 48 r.0, le-leb b 57 r.1), omega (arith, r.0, r.1))
+
+past_nine : (b : ℕ) → 57 < b → 10 ≤ digit_of b
+unfolding digit_of
+past_nine b h = let l : 48 ≤ b = omega arith in rw (le-ltb b 48 l, lt-leb b 57 h) (letter (ltb b 97) refl (leb b 102))
+  where
+    letter : (t : Bool) → ltb b 97 ≡ t → (u : Bool) → 10 ≤ cond t 16 (cond u (b - 87) 16)
+    letter true e u = omega arith
+    letter false e true = let l : 97 ≤ b = ltb-false b 97 e in omega arith
+    letter false e false = omega arith
+
+pub no_decimal : (b : ℕ) → IsNotAsciiDigit b → 10 ≤ digit_of b
+unfolding digit_of
+no_decimal b (inl l) = rw (lt-ltb b 48 l) (omega arith)
+no_decimal b (inr h) = past_nine b h
 
 -- a decimal number: digit n of four at most
 module _ (text : List ℕ) (from n v : ℕ) {b d : ℕ} (e : b ≡ byte_at text (from + n)) (f : d ≡ digit_of b) (l : n < 4) where

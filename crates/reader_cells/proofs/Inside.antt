@@ -7,7 +7,7 @@ use native.Mathlib.Omega.{arith}
 use borrow.Author.Tests.{ltb-true, ltb-false}
 use lib.Dec.{ltb}
 use lib.ListN.{length, get_or-eq_default}
-use Rattle.reader_cells.specs.Cells.{byte_at, digit_of}
+use Rattle.reader_cells.specs.Cells.{byte_at}
 
 -- a byte that is not 0 stands in the text
 pub inside : (text : List ℕ) (p : ℕ) {b : ℕ} → b ≡ byte_at text p → 0 < b → p < length text
@@ -19,21 +19,3 @@ inside text p {b} e h = go (ltb p (length text)) refl
         let l : length text ≤ p = ltb-false p (length text) q in
         let z : b ≡ 0 = e ∙ get_or-eq_default text 0 l in
         absurd (omega (arith, z, h))
-
--- a digit is not the byte 0
-pub digit-positive : (b : ℕ) {d : ℕ} → d ≡ digit_of b → d < 16 → 0 < b
-unfolding digit_of
-digit-positive b {d} e h = go (ltb 0 b) refl
-  where
-    zero-digit : b ≡ 0 → digit_of b ≡ 16
-    zero-digit z = rw z
-
-    go : (t : Bool) → ltb 0 b ≡ t → 0 < b
-    go true q = ltb-true 0 b q
-    go false q =
-        let l : b ≤ 0 = ltb-false 0 b q in
-        let z : d ≡ 16 = e ∙ zero-digit (omega arith) in
-        absurd (omega (arith, z, h))
-
-pub digit-inside : (text : List ℕ) (p : ℕ) {b d : ℕ} → b ≡ byte_at text p → d ≡ digit_of b → d < 16 → p < length text
-digit-inside text p {b} e f h = inside text p e (digit-positive b f h)

@@ -1,20 +1,19 @@
 // The cells of a line: an f64, a whole number, one of a list's words. A cell is one number: an f64's bit pattern, a whole number with its bias, or a
-// word's place in its list; none where it is broken.
+// word's place in its list; none where it is broken. It is no enum of the three: the schema says what a column holds, and whoever takes a cell takes it by its
+// column; of an enum each taker would open one variant, and answer for two that never stand there.
 ghost use Rattle.std.specs.Prelude.{◌≡◌, ◌<◌, IfSome};
 ghost use Rattle.reader_schema.specs.Schema.{kind_by};
 ghost use Rattle.reader_cells.specs.Cells.{natural_at, hex_at, whole_at, listed_at, cell_at};
 
 use crate::names::{Span, name_at};
-use reader_hex::{byte_at, digit, sixteen_at};
+use reader_hex::{DOUBLE_DIGITS, byte_at, sixteen_at};
 use reader_schema::place_of;
-use reader_schema::tables::{Kind, NUMBERS, WHOLES};
+use reader_schema::tables::Kind;
 
 // A whole number n is kept as this and n. It has up to four digits, so that the sum is never negative and keeps the numbers' order.
 pub const WHOLE_BIAS: u64 = 10000;
 
 const WHOLE_DIGITS: usize = 4;
-
-const PATTERN_DIGITS: usize = 16;
 
 // The decimal number at a place, up to four digits; a 0 stands alone. None where no digit stands there.
 fn natural_at(text: &[u8], at: usize) -> Option<Span<u64>>
@@ -28,19 +27,19 @@ fn natural_at(text: &[u8], at: usize) -> Option<Span<u64>>
             next: at + 1,
         });
     }
-    if 10 <= digit(first) {
+    if !first.is_ascii_digit() {
         return None;
     }
     let mut value: u64 = 0;
     for n in 0..WHOLE_DIGITS {
-        let d = digit(byte_at(text, at + n)) as u64;
-        if 10 <= d {
+        let b = byte_at(text, at + n);
+        if !b.is_ascii_digit() {
             return Some(Span {
                 value,
                 next: at + n,
             });
         }
-        value = value * 10 + d;
+        value = value * 10 + (b - b'0') as u64;
     }
     Some(Span {
         value,
@@ -55,7 +54,7 @@ fn hex_at(text: &[u8], at: usize) -> Option<Span<u64>>
     let value = sixteen_at(text, at)?;
     Some(Span {
         value,
-        next: at + PATTERN_DIGITS,
+        next: at + DOUBLE_DIGITS,
     })
 }
 
@@ -94,21 +93,25 @@ fn listed_at(text: &[u8], at: usize, list: usize) -> Option<Span<u64>>
     })
 }
 
-// The cell at a place, by the number of what its column holds: any list's. What stands after it is the caller's to test.
+// The cell at a place, by what its column holds. What stands after it is the caller's to test.
+#[tactic(auto, unfolding(crate::specs::Cells::cell_at))]
+pub fn cell_at(text: &[u8], at: usize, kind: Kind) -> Option<Span<u64>>
+    ensures { result ≡ cell_at text.now at (kind_by kind) }
+{
+    match kind {
+        Kind::Number => hex_at(text, at),
+        Kind::Whole => whole_at(text, at),
+        listed => listed_at(text, at, usize::from(listed)),
+    }
+}
+
+// The cell at a place, by the number of what its column holds: any list's, of words that a column holds or of columns' names.
 #[tactic(auto, unfolding(crate::specs::Cells::cell_at))]
 pub fn cell_by_number(text: &[u8], at: usize, number: usize) -> Option<Span<u64>>
     ensures { result ≡ cell_at text.now at number }
 {
-    match number {
-        NUMBERS => hex_at(text, at),
-        WHOLES => whole_at(text, at),
-        list => listed_at(text, at, list),
+    match Kind::try_from(number) {
+        Ok(kind) => cell_at(text, at, kind),
+        Err(_) => listed_at(text, at, number),
     }
-}
-
-// The cell at a place, by what its column holds.
-pub fn cell_at(text: &[u8], at: usize, kind: Kind) -> Option<Span<u64>>
-    ensures { result ≡ cell_at text.now at (kind_by kind) }
-{
-    cell_by_number(text, at, usize::from(kind))
 }

@@ -4,6 +4,11 @@ ghost use Rattle.reader_hex.specs.Hex.{byte_at, digit_of, digits_at, sixteen_bef
 
 use crate::bytes::{NO_DIGIT, digit};
 
+// The digits of an f32's pattern, and of an f64's.
+pub const SINGLE_DIGITS: usize = 8;
+
+pub const DOUBLE_DIGITS: usize = 16;
+
 // The values of N bytes as digits, good or not: with no way out between them, they are worked out together.
 // A loop: `word.map(digit)` is proved too, but then cells of sixteen digits are read in five times the time (53 kB in 205 µs, by the loop in 42).
 fn values_of<const N: usize>(word: &[u8; N]) -> [u8; N]
@@ -18,7 +23,7 @@ fn values_of<const N: usize>(word: &[u8; N]) -> [u8; N]
 
 // The number that N digits stand for; none where a byte is no digit, or the text ends before.
 fn digits_at<const N: usize>(text: &[u8], at: usize) -> Option<u64>
-    requires { (0 < N) × (N ≤ 16) }
+    requires { (0 < N) × (N ≤ DOUBLE_DIGITS) }
     ensures { result ≡ digits_at N text.now at }
 {
     let values = values_of(text.get(at..)?.first_chunk::<N>()?);
@@ -36,14 +41,14 @@ fn digits_at<const N: usize>(text: &[u8], at: usize) -> Option<u64>
 pub fn eight_at(text: &[u8], at: usize) -> Option<u64>
     ensures { result ≡ digits_at 8 text.now at }
 {
-    digits_at::<8>(text, at)
+    digits_at::<SINGLE_DIGITS>(text, at)
 }
 
 // The number of sixteen digits; none where a byte is no digit, or the text ends before.
 pub fn sixteen_at(text: &[u8], at: usize) -> Option<u64>
     ensures { result ≡ digits_at 16 text.now at }
 {
-    digits_at::<16>(text, at)
+    digits_at::<DOUBLE_DIGITS>(text, at)
 }
 
 // The number of sixteen digits before the byte `stop`; none where another byte stands there, or the text ends before it.
@@ -51,6 +56,6 @@ pub fn sixteen_before(text: &[u8], at: usize, stop: u8) -> Option<u64>
     ensures { result ≡ sixteen_before text.now at stop }
 {
     let number = sixteen_at(text, at)?;
-    let after = *text.get(at + 16)?;
+    let after = *text.get(at + DOUBLE_DIGITS)?;
     (after == stop).then_some(number)
 }

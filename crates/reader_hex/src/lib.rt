@@ -1,5 +1,5 @@
-// Bytes of a text and hexadecimal digits in lower case, numbers written as sixteen of them, an f64 by such a pattern, and the pattern of an f32.
-// A text and a place in it are two parameters; why, reader_cells says.
+// Bytes of a text, the numbers that eight and sixteen hexadecimal digits in lower case stand for, and the patterns of an f64 and an f32.
+// A text and a place in it are two parameters, as the definitions take them: a struct of both would be taken apart for each byte and made anew for each step.
 #![tactic(auto)]
 
 mod bytes;
@@ -7,5 +7,5 @@ mod digits;
 mod patterns;
 
 pub use bytes::{byte_at, digit};
-pub use digits::{eight_at, sixteen_at, sixteen_before};
+pub use digits::{DOUBLE_DIGITS, SINGLE_DIGITS, eight_at, sixteen_at, sixteen_before};
 pub use patterns::{bits_of, bits_of_single, of_bits};

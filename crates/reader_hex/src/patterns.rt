@@ -1,4 +1,5 @@
-// An f64 and its pattern, and the pattern of an f32, NaNs included. All are the library's; here they have short names, those of the definitions that they are equal to.
+// An f64 and its pattern, and the pattern of an f32, by the library's functions for any NaN too. Here each has a short name, and a pattern is a u64, as the
+// numbers of a text's digits are.
 ghost use Rattle.std.specs.Prelude.{◌≡◌};
 ghost use Rattle.std.specs.Float.{binary32, binary64};
 ghost use Rattle.std.specs.Float.Ieee.{of_bits, to_bits};

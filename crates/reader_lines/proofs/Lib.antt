@@ -1,3 +1,4 @@
 pub mod PlaceLaws
 pub mod Heads
 pub mod Lines
+mod Made

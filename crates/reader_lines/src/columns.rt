@@ -83,13 +83,12 @@ impl Cells {
 }
 
 impl Due {
-    // The first n columns are due. By hand: `from_fn` tells of each place by its index, and between that and the list of eight that the definition is it
-    // would take a law.
+    // The first n columns are due.
     pub(crate) fn all(n: usize) -> Due
         ensures { result ≡ all_due n }
     {
         Due {
-            of: [0 < n, 1 < n, 2 < n, 3 < n, 4 < n, 5 < n, 6 < n, 7 < n],
+            of: std::array::from_fn(|column| column < n),
         }
     }
 

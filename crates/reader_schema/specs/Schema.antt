@@ -112,6 +112,13 @@ abbrev pub joined : {A : Type 0} → List (List A) → List A
 joined [] = []
 joined (xs ∷ xss) = xs ++ joined xss
 
+-- the words of a list
+unfoldable pub word_lists : List (List ℕ)
+word_lists = map (map word_number) lists
+
+unfoldable pub list_words : ℕ → List ℕ
+list_words list = get_or word_lists list []
+
 -- all words of all lists, one list after another
 unfoldable pub words : List ℕ
 words = map word_number (joined lists)

@@ -1,278 +1,347 @@
 // The schema of the job text, as data. A word of at most eight bytes is one number, its bytes base 256, as the text's words are read: so two words
-// compare by one comparison. As text each would need its own length, and no constant here can be worked out from text.
-ghost use Rattle.std.specs.Prelude.{◌≡◌, ℕ, get_or};
-ghost use Rattle.reader_schema.specs.declared.tables.Kind.TheVariants.{Number};
-ghost use Rattle.reader_schema.specs.Schema.{kind_by, first_of, word_count, column_kind, word_of, listed_place, name_of, limit_of};
+// compare by one comparison. It is written as that number and not as its text, since a constant calls no function that would work the number out.
+// Constants that are read for a place are lent slices: an array by value would be made anew wherever it is read (docs/PERFORMANCE.md).
+ghost use Rattle.std.specs.Prelude.{◌≡◌, ◌+◌, ◌<◌, ℕ, get_or, map};
+ghost use Rattle.reader_schema.specs.declared.schema.Column.{Column};
+ghost use Rattle.reader_schema.specs.Tables.{table_count};
+ghost use Rattle.reader_schema.specs.Schema.{kind_by, list_words, word_count, column_kind, listed_place, name_of, limit_of};
 
 use crate::tables::Kind::{self, Bit, ExtentKind, GeomKind, Number, Side, Term, Whole};
-use crate::tables::{
-    CUBIC_TABLE, EXTENT_TABLE, GEOM_TABLE, HEIGHT_TABLE, LANE_TABLE, MARK_TABLE, SHAPE_TABLE,
-    STRIP_TABLE,
-};
+use crate::tables::TABLE_COUNT;
 use records::layout::{
     MOST_BANKS, MOST_CUBICS, MOST_ELEVS, MOST_EXTENTS, MOST_GEOMS, MOST_HEIGHTS, MOST_LANES,
     MOST_MARKS, MOST_OFFSETS, MOST_PROFILES, MOST_SECTIONS, MOST_SHAPES, MOST_SHIFTS, STRIPS,
     WANT_STRIDE, WANTS_NEEDED,
 };
 
-// The name of a table, as a number, and the most lines of it.
+// A column: its name, as a number, and what it holds.
+#[derive(Clone, Copy)]
+struct Column {
+    title: u64,
+    holds: Kind,
+}
+
+// A table: its name, as a number, the most lines of it, and its columns.
 #[derive(Clone, Copy)]
 struct Table {
     name: u64,
     limit: u16,
+    columns: &'static [Column],
 }
 
-// The tables by number, in their order. Constants that are read for a place are lent slices: an array by value would be made anew wherever it is read,
-// which doubled the time of a job's reading (docs/PERFORMANCE.md).
+// ---- columns
+// length
+const LENGTH: Column = Column {
+    title: 0x6c656e677468,
+    holds: Number,
+};
+
+// s
+const S: Column = Column {
+    title: 0x73,
+    holds: Number,
+};
+
+// x
+const X: Column = Column {
+    title: 0x78,
+    holds: Number,
+};
+
+// y
+const Y: Column = Column {
+    title: 0x79,
+    holds: Number,
+};
+
+// hdg
+const HDG: Column = Column {
+    title: 0x686467,
+    holds: Number,
+};
+
+// kind
+const GEOM_KIND: Column = Column {
+    title: 0x6b696e64,
+    holds: GeomKind,
+};
+
+// k0
+const K0: Column = Column {
+    title: 0x6b30,
+    holds: Number,
+};
+
+// k1
+const K1: Column = Column {
+    title: 0x6b31,
+    holds: Number,
+};
+
+// start
+const START: Column = Column {
+    title: 0x7374617274,
+    holds: Number,
+};
+
+// a
+const A: Column = Column {
+    title: 0x61,
+    holds: Number,
+};
+
+// b
+const B: Column = Column {
+    title: 0x62,
+    holds: Number,
+};
+
+// c
+const C: Column = Column {
+    title: 0x63,
+    holds: Number,
+};
+
+// d
+const D: Column = Column {
+    title: 0x64,
+    holds: Number,
+};
+
+// section
+const SECTION: Column = Column {
+    title: 0x73656374696f6e,
+    holds: Whole,
+};
+
+// id
+const ID: Column = Column {
+    title: 0x6964,
+    holds: Whole,
+};
+
+// extent
+const EXTENT: Column = Column {
+    title: 0x657874656e74,
+    holds: ExtentKind,
+};
+
+// level
+const LEVEL: Column = Column {
+    title: 0x6c6576656c,
+    holds: Bit,
+};
+
+// inner
+const INNER: Column = Column {
+    title: 0x696e6e6572,
+    holds: Number,
+};
+
+// outer
+const OUTER: Column = Column {
+    title: 0x6f75746572,
+    holds: Number,
+};
+
+// profile
+const PROFILE: Column = Column {
+    title: 0x70726f66696c65,
+    holds: Whole,
+};
+
+// t
+const T: Column = Column {
+    title: 0x74,
+    holds: Number,
+};
+
+// side
+const SIDE: Column = Column {
+    title: 0x73696465,
+    holds: Side,
+};
+
+// place
+const PLACE: Column = Column {
+    title: 0x706c616365,
+    holds: Bit,
+};
+
+// relative
+const RELATIVE: Column = Column {
+    title: 0x72656c6174697665,
+    holds: Bit,
+};
+
+// term
+const TERM: Column = Column {
+    title: 0x7465726d,
+    holds: Term,
+};
+
+// end
+const END: Column = Column {
+    title: 0x656e64,
+    holds: Number,
+};
+
+// kind
+const MARK_KIND: Column = Column {
+    title: 0x6b696e64,
+    holds: Whole,
+};
+
+// A cubic along the road: the elevation, the bank, the offset, the shift.
+const ALONG: &[Column] = &[START, A, B, C, D];
+
+// The tables by number, in their order.
 const TABLES: &[Table] = &[
     // road
     Table {
         name: 0x726f6164,
         limit: 1,
+        columns: &[LENGTH],
     },
     // geom
     Table {
         name: 0x67656f6d,
         limit: MOST_GEOMS as u16,
+        columns: &[S, X, Y, HDG, LENGTH, GEOM_KIND, K0, K1],
     },
     // elev
     Table {
         name: 0x656c6576,
         limit: MOST_ELEVS as u16,
+        columns: ALONG,
     },
     // bank
     Table {
         name: 0x62616e6b,
         limit: MOST_BANKS as u16,
+        columns: ALONG,
     },
     // offset
     Table {
         name: 0x6f6666736574,
         limit: MOST_OFFSETS as u16,
+        columns: ALONG,
     },
     // tshift
     Table {
         name: 0x747368696674,
         limit: MOST_SHIFTS as u16,
+        columns: ALONG,
     },
     // section
     Table {
         name: 0x73656374696f6e,
         limit: MOST_SECTIONS as u16,
+        columns: &[START],
     },
     // lane
     Table {
         name: 0x6c616e65,
         limit: MOST_LANES as u16,
+        columns: &[SECTION, ID, EXTENT, LEVEL],
     },
     // extent
     Table {
         name: 0x657874656e74,
         limit: MOST_EXTENTS as u16,
+        columns: &[SECTION, ID, START, A, B, C, D],
     },
     // height
     Table {
         name: 0x686569676874,
         limit: MOST_HEIGHTS as u16,
+        columns: &[SECTION, ID, START, INNER, OUTER],
     },
     // profile
     Table {
         name: 0x70726f66696c65,
         limit: MOST_PROFILES as u16,
+        columns: &[S],
     },
     // shape
     Table {
         name: 0x7368617065,
         limit: MOST_SHAPES as u16,
+        columns: &[PROFILE, T, A, B, C, D],
     },
     // strip
     Table {
         name: 0x7374726970,
         limit: STRIPS as u16,
+        columns: &[SIDE, PLACE, RELATIVE],
     },
     // cubic
     Table {
         name: 0x6375626963,
         limit: MOST_CUBICS as u16,
+        columns: &[SIDE, PLACE, TERM, START, A, B, C, D],
     },
     // mark
     Table {
         name: 0x6d61726b,
         limit: MOST_MARKS as u16,
+        columns: &[SECTION, ID, START, END, MARK_KIND],
     },
     // want
     Table {
         name: 0x77616e74,
         limit: (WANTS_NEEDED / WANT_STRIDE) as u16,
+        columns: &[S, T],
     },
 ];
 
-// The words of all lists, one list after another: the columns of each table, then the keyword columns.
-const WORDS: &[u64] = &[
-    // road
-    0x6c656e677468, // length
-    // geom
-    0x73, // s
-    0x78, // x
-    0x79, // y
-    0x686467, // hdg
-    0x6c656e677468, // length
-    0x6b696e64, // kind
-    0x6b30, // k0
-    0x6b31, // k1
-    // elev
-    0x7374617274, // start
-    0x61, // a
-    0x62, // b
-    0x63, // c
-    0x64, // d
-    // bank
-    0x7374617274, // start
-    0x61, // a
-    0x62, // b
-    0x63, // c
-    0x64, // d
-    // offset
-    0x7374617274, // start
-    0x61, // a
-    0x62, // b
-    0x63, // c
-    0x64, // d
-    // tshift
-    0x7374617274, // start
-    0x61, // a
-    0x62, // b
-    0x63, // c
-    0x64, // d
-    // section
-    0x7374617274, // start
-    // lane
-    0x73656374696f6e, // section
-    0x6964, // id
-    0x657874656e74, // extent
-    0x6c6576656c, // level
-    // extent
-    0x73656374696f6e, // section
-    0x6964, // id
-    0x7374617274, // start
-    0x61, // a
-    0x62, // b
-    0x63, // c
-    0x64, // d
-    // height
-    0x73656374696f6e, // section
-    0x6964, // id
-    0x7374617274, // start
-    0x696e6e6572, // inner
-    0x6f75746572, // outer
-    // profile
-    0x73, // s
-    // shape
-    0x70726f66696c65, // profile
-    0x74, // t
-    0x61, // a
-    0x62, // b
-    0x63, // c
-    0x64, // d
-    // strip
-    0x73696465, // side
-    0x706c616365, // place
-    0x72656c6174697665, // relative
-    // cubic
-    0x73696465, // side
-    0x706c616365, // place
-    0x7465726d, // term
-    0x7374617274, // start
-    0x61, // a
-    0x62, // b
-    0x63, // c
-    0x64, // d
-    // mark
-    0x73656374696f6e, // section
-    0x6964, // id
-    0x7374617274, // start
-    0x656e64, // end
-    0x6b696e64, // kind
-    // want
-    0x73, // s
-    0x74, // t
-    // kind
-    0x6c696e65, // line
-    0x617263, // arc
-    0x73706972616c, // spiral
-    // extent
-    0x7769647468, // width
-    0x626f72646572, // border
-    // bit
-    0x30, // 0
-    0x31, // 1
-    // side
-    0x6c656674, // left
-    0x7269676874, // right
-    // term
-    0x7769647468, // width
-    0x30, // 0
-    0x31, // 1
-    0x32, // 2
-    0x33, // 3
+// Past the last table.
+const NO_TABLE: Table = Table {
+    name: 0,
+    limit: 0,
+    columns: &[],
+};
+
+// ---- the words of keyword columns
+const LINE: u64 = 0x6c696e65; // line
+
+const ARC: u64 = 0x617263; // arc
+
+const SPIRAL: u64 = 0x73706972616c; // spiral
+
+const WIDTH: u64 = 0x7769647468; // width
+
+const BORDER: u64 = 0x626f72646572; // border
+
+const ZERO: u64 = 0x30; // 0
+
+const ONE: u64 = 0x31; // 1
+
+const TWO: u64 = 0x32; // 2
+
+const THREE: u64 = 0x33; // 3
+
+const LEFT: u64 = 0x6c656674; // left
+
+const RIGHT: u64 = 0x7269676874; // right
+
+// The keyword lists, in the order of their numbers: a geometry's kind, an extent's, a bit, a side, a term.
+const KEYWORDS: &[&[u64]] = &[
+    &[LINE, ARC, SPIRAL],
+    &[WIDTH, BORDER],
+    &[ZERO, ONE],
+    &[LEFT, RIGHT],
+    &[WIDTH, ZERO, ONE, TWO, THREE],
 ];
 
-// Where a list starts among the words, and how many words it has. One array for tables and keywords: a list is its number in both.
-#[derive(Clone, Copy)]
-struct List {
-    from: u8,
-    len: u8,
-}
-
-const LISTS: &[List] = &[
-    List { from: 0, len: 1 }, // road
-    List { from: 1, len: 8 }, // geom
-    List { from: 9, len: 5 }, // elev
-    List { from: 14, len: 5 }, // bank
-    List { from: 19, len: 5 }, // offset
-    List { from: 24, len: 5 }, // tshift
-    List { from: 29, len: 1 }, // section
-    List { from: 30, len: 4 }, // lane
-    List { from: 34, len: 7 }, // extent
-    List { from: 41, len: 5 }, // height
-    List { from: 46, len: 1 }, // profile
-    List { from: 47, len: 6 }, // shape
-    List { from: 53, len: 3 }, // strip
-    List { from: 56, len: 8 }, // cubic
-    List { from: 64, len: 5 }, // mark
-    List { from: 69, len: 2 }, // want
-    List { from: 71, len: 3 }, // kind
-    List { from: 74, len: 2 }, // extent
-    List { from: 76, len: 2 }, // level, place, relative
-    List { from: 78, len: 2 }, // side
-    List { from: 80, len: 5 }, // term
-];
-
-// What the columns of a table hold, up to the last one that is no number. The other tables hold numbers alone.
-const GEOM_COLUMNS: &[Kind] = &[Number, Number, Number, Number, Number, GeomKind];
-
-const LANE_COLUMNS: &[Kind] = &[Whole, Whole, ExtentKind, Bit];
-
-// Extents and heights alike: a section, a lane's id, and numbers.
-const UNDER_LANE_COLUMNS: &[Kind] = &[Whole, Whole];
-
-const SHAPE_COLUMNS: &[Kind] = &[Whole];
-
-const STRIP_COLUMNS: &[Kind] = &[Side, Bit, Bit];
-
-const CUBIC_COLUMNS: &[Kind] = &[Side, Bit, Term];
-
-const MARK_COLUMNS: &[Kind] = &[Whole, Whole, Number, Number, Whole];
-
-// A table; past the last one it has the name 0 and no lines. No Option: the reader asks of the tables in their order alone, so that each question would
-// open one that never is none.
+// A table; past the last one it has the name 0, no lines and no columns. No Option: the reader asks of the tables in their order alone, so that each
+// question would open one that never is none.
 fn table_of(table: usize) -> Table
-    ensures { (result.name ≡ name_of table) × (result.limit ≡ limit_of table) }
+    ensures named { (result.name ≡ name_of table) × (result.limit ≡ limit_of table) }
+    ensures titles { table < table_count → map (λ (c : Column). c.title) result.columns.now ≡ list_words table }
+    ensures kinds { (i : ℕ) → get_or (map (λ (c : Column). kind_by c.holds) result.columns.now) i 0 ≡ column_kind table i }
 {
-    TABLES
-        .get(table)
-        .copied()
-        .unwrap_or(Table { name: 0, limit: 0 })
+    TABLES.get(table).copied().unwrap_or(NO_TABLE)
 }
 
 // The name of a table as a number; 0, which no word is, past the last table.
@@ -289,56 +358,58 @@ pub fn limit_of(table: usize) -> u16
     table_of(table).limit
 }
 
-// Word i of all lists; 0 past the last, where no list reaches. Of an Option, each word of a list that is tried would be opened, or the word sought wrapped.
-fn word_of(i: usize) -> u64
-    ensures { result ≡ word_of i }
+// What a column of a table holds: past the last column, or the last table, an f64.
+pub fn kind_of(table: usize, column: usize) -> Kind
+    ensures { kind_by result ≡ column_kind table column }
 {
-    WORDS.get(i).copied().unwrap_or(0)
+    let columns = table_of(table).columns;
+    columns.get(column).map_or(Number, |column| column.holds)
 }
 
-// Where a list of words starts, and how many words it has. Past the last list it has none, which is all that an Option could say.
-fn list_of(list: usize) -> List
-    ensures { (result.from ≡ first_of list) × (result.len ≡ word_count list) }
+// The words of a keyword list, counted from the first such list; none past the last.
+fn keywords_of(list: usize) -> &'static [u64]
+    ensures { result.now ≡ list_words (table_count + list) }
 {
-    LISTS.get(list).copied().unwrap_or(List { from: 0, len: 0 })
+    KEYWORDS.get(list).copied().unwrap_or(&[])
 }
 
 // How many words a list has: for a table's number, how many columns. 0 past the last list.
 pub fn count_of(list: usize) -> u8
     ensures { result ≡ word_count list }
 {
-    list_of(list).len
-}
-
-// What the columns of a table hold; past the end of the list each holds an f64.
-// Extents and heights have an arm each: of `EXTENT_TABLE | HEIGHT_TABLE` no name tells the proof which number it is.
-fn kinds_of(table: usize) -> &'static [Kind]
-    ensures { (i : ℕ) → kind_by (get_or result.now i Number) ≡ column_kind table i }
-{
-    match table {
-        GEOM_TABLE => GEOM_COLUMNS,
-        LANE_TABLE => LANE_COLUMNS,
-        EXTENT_TABLE => UNDER_LANE_COLUMNS,
-        HEIGHT_TABLE => UNDER_LANE_COLUMNS,
-        SHAPE_TABLE => SHAPE_COLUMNS,
-        STRIP_TABLE => STRIP_COLUMNS,
-        CUBIC_TABLE => CUBIC_COLUMNS,
-        MARK_TABLE => MARK_COLUMNS,
-        _ => &[],
+    if list < TABLE_COUNT {
+        table_of(list).columns.len() as u8
+    } else {
+        keywords_of(list - TABLE_COUNT).len() as u8
     }
 }
 
-// What a column of a table holds: past the last column, or the last table, an f64.
-pub fn kind_of(table: usize, column: usize) -> Kind
-    ensures { kind_by result ≡ column_kind table column }
+// The place of a name among the columns of a table.
+fn column_named(table: usize, name: u64) -> Option<u8>
+    requires { table < table_count }
+    ensures { result ≡ listed_place table name }
 {
-    kinds_of(table).get(column).copied().unwrap_or(Number)
+    let columns = table_of(table).columns;
+    let column = columns.iter().position(|column| column.title == name)?;
+    Some(column as u8)
 }
 
-// The place of a word in a list.
+// The place of a word in a keyword list, counted from the first such list.
+fn keyword_place(list: usize, word: u64) -> Option<u8>
+    ensures { result ≡ listed_place (table_count + list) word }
+{
+    let words = keywords_of(list);
+    let place = words.iter().position(|listed| *listed == word)?;
+    Some(place as u8)
+}
+
+// The place of a word in a list: for a table's number, of a column by its name.
 pub fn place_of(list: usize, word: u64) -> Option<u8>
     ensures { result ≡ listed_place list word }
 {
-    let List { from, len } = list_of(list);
-    (0..len).find(|&i| word_of(from as usize + i as usize) == word)
+    if list < TABLE_COUNT {
+        column_named(list, word)
+    } else {
+        keyword_place(list - TABLE_COUNT, word)
+    }
 }

@@ -3,6 +3,7 @@
 // and the reader counts through the tables in their order.
 ghost use Rattle.std.specs.Prelude.{◌≡◌};
 ghost use Rattle.reader_schema.specs.Schema.{kind_by};
+ghost use Rattle.reader_schema.specs.Kinds.{IsNumbered};
 
 pub const ROAD_TABLE: usize = 0;
 
@@ -72,9 +73,32 @@ pub const WHOLES: usize = 1;
 // The number of a kind: the list of its words, `NUMBERS` or `WHOLES` where it has none. Those two are also the lists of two tables' column
 // names: no column holds such a name, so as a kind's number each has one meaning.
 impl From<Kind> for usize {
-    fn from(kind: Kind) -> usize
-        ensures { result ≡ kind_by kind }
-    {
+    ghost from_gives = { λ kind number. number ≡ kind_by kind };
+
+    fn from(kind: Kind) -> usize {
         kind as usize
+    }
+}
+
+// A number that no kind has.
+#[derive(Clone, Copy, Debug, PartialEq, Eq)]
+pub struct NoKind(pub usize);
+
+impl TryFrom<usize> for Kind {
+    type Error = NoKind;
+
+    ghost try_from_gives = { IsNumbered };
+
+    fn try_from(number: usize) -> Result<Kind, NoKind> {
+        match number {
+            NUMBERS => Ok(Kind::Number),
+            WHOLES => Ok(Kind::Whole),
+            GEOM_KINDS => Ok(Kind::GeomKind),
+            EXTENT_KINDS => Ok(Kind::ExtentKind),
+            BITS => Ok(Kind::Bit),
+            SIDES => Ok(Kind::Side),
+            TERMS => Ok(Kind::Term),
+            _ => Err(NoKind(number)),
+        }
     }
 }
