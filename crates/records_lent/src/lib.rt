@@ -5,5 +5,5 @@
 mod access;
 mod records;
 
-pub use access::{number, number_in, part, word};
+pub use access::{number, number_in, part, raw_word, word};
 pub use records::{Record, Records};
