@@ -12,6 +12,11 @@ use Rattle.reader_store.specs.Parents.{ranked_among, side_word, lane_turn, lane_
 use Rattle.reader_store.specs.Keep.{added, in_order, under_words, under_progress, strips_kept, strip_progress, mark_put, own_words, ruled_words, ruled_progress, kept_words, kept_progress}
 use Rattle.reader_store.specs.declared.progress.Progress.{Progress}
 
+-- what the examples compute with
+keeping : Unit {0}
+unfolding word_lines word_columns code_of one_more cells_kept codes_kept rule_of ranges_of ranked_among side_word lane_turn lane_among lane_index mark_lane mark_index term_of index_of range_of parent_of added in_order under_words under_progress strips_kept strip_progress mark_put own_words ruled_words ruled_progress kept_words kept_progress
+keeping = tt
+
 -- a line's first three cells: side, place, and relative or term
 abbrev line : ℕ → ℕ → ℕ → Cells
 line a b c = record { of = a ∷ b ∷ c ∷ 0 ∷ 0 ∷ 0 ∷ 0 ∷ 0 ∷ [] }
@@ -38,19 +43,19 @@ follows x y = (kept_progress 13 1 y (kept_progress 13 0 x track2 words2) (kept_w
 
 -- 1 there, 2 there and relative; left inner stands at 1303, right outer at 1336
 pub presence : (get_or words2 1303 0 ∷ get_or words2 1336 0 ∷ []) ≡ (2 ∷ 1 ∷ [])
-unfolding word_lines word_columns code_of one_more cells_kept codes_kept rule_of ranges_of ranked_among side_word lane_turn lane_among lane_index mark_lane mark_index term_of index_of range_of parent_of added in_order under_words under_progress strips_kept strip_progress mark_put own_words ruled_words ruled_progress kept_words kept_progress
+unfolding keeping
 presence = refl
 
 -- right outer before left inner; width before term 0 of one strip; not the other way round; no cubic of a strip that has no line
 pub order :
     (follows (line 1 1 0) (line 0 0 0) ∷ follows (line 1 1 0) (line 1 1 1) ∷ follows (line 0 0 0) (line 1 1 0) ∷ follows (line 1 1 1) (line 1 1 0) ∷ follows (line 1 1 0) (line 0 1 0) ∷ [])
     ≡ (true ∷ true ∷ false ∷ false ∷ false ∷ [])
-unfolding word_lines word_columns code_of one_more cells_kept codes_kept rule_of ranges_of ranked_among side_word lane_turn lane_among lane_index mark_lane mark_index term_of index_of range_of parent_of added in_order under_words under_progress strips_kept strip_progress mark_put own_words ruled_words ruled_progress kept_words kept_progress
+unfolding keeping
 order = refl
 
 -- a pair of side and place comes once
 pub twice : (kept_progress 12 1 (line 1 1 1) track1 words1).sound ≡ false
-unfolding word_lines word_columns code_of one_more cells_kept codes_kept rule_of ranges_of ranked_among side_word lane_turn lane_among lane_index mark_lane mark_index term_of index_of range_of parent_of added in_order under_words under_progress strips_kept strip_progress mark_put own_words ruled_words ruled_progress kept_words kept_progress
+unfolding keeping
 twice = refl
 
 -- a line of the table mark: section, id and kind, as whole numbers are held
@@ -74,7 +79,7 @@ words4 = kept_words 14 1 (mark 10001 9999 9998) track3 words3
 pub marks :
     (get_or words4 1347 0 ∷ get_or words4 1348 0 ∷ get_or words4 1349 0 ∷ get_or words4 1350 0 ∷ get_or words4 1379 0 ∷ get_or words4 1380 0 ∷ get_or words4 1381 0 ∷ get_or words4 1382 0 ∷ [])
     ≡ (0 ∷ 1 ∷ 1 ∷ 1 ∷ 2 ∷ 7 ∷ 0 ∷ 0 ∷ [])
-unfolding word_lines word_columns code_of one_more cells_kept codes_kept rule_of ranges_of ranked_among side_word lane_turn lane_among lane_index mark_lane mark_index term_of index_of range_of parent_of added in_order under_words under_progress strips_kept strip_progress mark_put own_words ruled_words ruled_progress kept_words kept_progress
+unfolding keeping
 marks = refl
 
 -- a later mark may be in the same section or the next, on a lane of it; not in the one before, on the id 0, or on a lane or in a section that is not there
@@ -88,5 +93,5 @@ pub mark-order :
     ∷ (kept_progress 14 1 (mark 10002 10001 10007) track3 words3).sound
     ∷ [])
     ≡ (true ∷ true ∷ false ∷ false ∷ false ∷ false ∷ false ∷ [])
-unfolding word_lines word_columns code_of one_more cells_kept codes_kept rule_of ranges_of ranked_among side_word lane_turn lane_among lane_index mark_lane mark_index term_of index_of range_of parent_of added in_order under_words under_progress strips_kept strip_progress mark_put own_words ruled_words ruled_progress kept_words kept_progress
+unfolding keeping
 mark-order = refl

@@ -1,8 +1,8 @@
 // The cells of line k of a table, each put where its column is kept.
-ghost use Rattle.std.specs.Prelude.{◌≡◌, ◌+◌, ◌<◌, ℕ};
-ghost use Rattle.reader_store.specs.Layout.{cells_kept, numbers_kept, codes_kept, wants_kept};
+ghost use Rattle.std.specs.Prelude.{◌≡◌, ℕ};
+ghost use Rattle.reader_store.specs.Layout.{line_of, cells_kept, numbers_kept, codes_kept, wants_kept};
 
-use crate::layout::{Lines, number_columns, number_lines, word_columns, word_lines};
+use crate::layout::{KeptColumns, Lines, codes_of, numbers_of};
 use crate::memory::code;
 use reader_lines::{Cells, put};
 use reader_schema::tables::WANT_TABLE;
@@ -16,41 +16,59 @@ pub struct TableLine {
     pub cells: Cells,
 }
 
-// Keeps the cells of columns from the place `first` on, each as what `kept_as` makes of it.
-fn put_cells<T: Copy, F: Fn(u64) -> T>(
-    list: &mut [T],
-    first: usize,
-    columns: &[u8],
-    cells: Cells,
-    kept_as: F,
-)
-    requires start { first < 1000000000000000 }
-    requires called { F.IsAlwaysCallable kept_as }
-    ensures { (f : ℕ → T) → ((x : ℕ) (y : T) → F.post kept_as x y → y ≡ f x) → list.new ≡ cells_kept f cells columns.now first list.old }
+// What a cell is kept as: a number of an f64's pattern, a word of a code.
+trait Kept: Copy {
+    ghost of_cell: { ℕ → Self };
+
+    fn of_cell(cell: u64) -> Self
+        ensures { result ≡ of_cell cell };
+}
+
+impl Kept for f64 {
+    ghost use Rattle.std.specs.Float.{binary64};
+    ghost use Rattle.std.specs.Float.Ieee.{of_bits};
+
+    ghost of_cell = { of_bits binary64 };
+
+    fn of_cell(cell: u64) -> f64 {
+        reader_hex::of_bits(cell)
+    }
+}
+
+impl Kept for u16 {
+    ghost use Rattle.reader_store.specs.Layout.{code_of};
+
+    ghost of_cell = { code_of };
+
+    fn of_cell(cell: u64) -> u16 {
+        code(cell)
+    }
+}
+
+// Keeps the cells of columns one after another.
+fn put_cells<T: Kept>(list: &mut [T], kept: KeptColumns, line: TableLine)
+    ensures { list.new ≡ cells_kept T.of_cell line.cells kept.columns.now (line_of kept.lines line.k) list.old }
 {
-    for (i, column) in columns.iter().enumerate() {
-        put(list, first + i, kept_as(cells.at(*column as usize)));
+    let first = kept.lines.line(line.k as u32);
+    for (i, column) in kept.columns.iter().enumerate() {
+        put(list, first + i, T::of_cell(line.cells.at(*column as usize)));
     }
 }
 
 // Keeps the f64 cells.
+#[tactic(auto, unfolding(crate::specs::Layout::numbers_kept))]
 pub(crate) fn put_numbers(numbers: &mut [f64], line: TableLine)
     ensures { numbers.new ≡ numbers_kept line.table line.k line.cells numbers.old }
 {
-    let first = number_lines(line.table).line(line.k as u32);
-    let columns = number_columns(line.table);
-    put_cells(numbers, first, columns, line.cells, |cell| {
-        reader_hex::of_bits(cell)
-    });
+    put_cells(numbers, numbers_of(line.table), line);
 }
 
 // Keeps the codes.
+#[tactic(auto, unfolding(crate::specs::Layout::codes_kept))]
 pub(crate) fn put_codes(words: &mut [u16], line: TableLine)
     ensures { words.new ≡ codes_kept line.table line.k line.cells words.old }
 {
-    let first = word_lines(line.table).line(line.k as u32);
-    let columns = word_columns(line.table);
-    put_cells(words, first, columns, line.cells, code);
+    put_cells(words, codes_of(line.table), line);
 }
 
 // Keeps a want: the patterns of s and t as they were read, a NaN's too.

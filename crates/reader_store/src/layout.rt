@@ -1,6 +1,5 @@
 // The layout of a lent road's memory by table: its places and strides are those of crate records. A function answers each question; a struct for each table
-// would name six things, most of them none. Where a table has no numbers, or no words, no column holds one, and nothing is kept wherever its lines are said to
-// stand: an Option of where they stand would say a second time what the columns say.
+// would name four things, of most tables two of them none.
 ghost use Rattle.std.specs.Prelude.{◌≡◌, ◌<◌};
 ghost use Rattle.reader_store.specs.Layout.{spaced, line_of, number_lines, word_lines, number_columns, word_columns, count_place, rule_of, ranges_of};
 
@@ -11,20 +10,29 @@ use reader_schema::tables::{
 };
 use records::HeightDef;
 use records::layout::{
-    BANK_BASE, BANK_COUNT_AT, CUBIC_BASE, ELEV_BASE, ELEV_COUNT_AT, EXTENT_BASE, GEOM_BASE,
-    GEOM_COUNT_AT, GEOM_STRIDE, HEIGHT_BASE, KIND_WORDS, LANE_STRIDE, LANE_WORDS, LENGTH_PLACE,
-    OFFSET_BASE, OFFSET_COUNT_AT, PROFILE_BASE, PROFILE_COUNT_AT, PROFILE_STRIDE, PROFILE_WORDS,
-    SECTION_BASE, SECTION_COUNT_AT, SECTION_MARK_STRIDE, SECTION_MARK_WORDS, SHAPE_BASE, SPAN_BASE,
-    SPAN_STRIDE, STRIP_WORDS, TSHIFT_BASE, TSHIFT_COUNT_AT,
+    BANK_BASE, BANK_COUNT_AT, COLUMN_WORDS, CUBIC_BASE, ELEV_BASE, ELEV_COUNT_AT, EXTENT_BASE,
+    EXTENT_WORDS, GEOM_BASE, GEOM_COUNT_AT, GEOM_STRIDE, HEIGHT_BASE, HEIGHT_WORDS, KIND_WORDS,
+    LANE_STRIDE, LANE_WORDS, LENGTH_PLACE, OFFSET_BASE, OFFSET_COUNT_AT, PROFILE_BASE,
+    PROFILE_COUNT_AT, PROFILE_STRIDE, PROFILE_WORDS, SECTION_BASE, SECTION_COUNT_AT,
+    SECTION_MARK_STRIDE, SECTION_MARK_WORDS, SHAPE_BASE, SPAN_BASE, SPAN_STRIDE, TSHIFT_BASE,
+    TSHIFT_COUNT_AT,
 };
 use records_cubic::Cubic;
 use records_lent::Record;
 
-// Where lines stand in a slice: the first, and how far each is from the one before.
+// Where lines stand in a slice: the first, and how far each is from the one before. By their type both are small, so that each place leaves room for what
+// stands beside it, as `line` says.
 #[derive(Clone, Copy, Debug, PartialEq, Eq)]
 pub(crate) struct Lines {
     pub first: u16,
     pub stride: u16,
+}
+
+// Where the cells of a line are kept: where the lines stand, and the columns, in the order of a line's places.
+#[derive(Clone, Copy, Debug)]
+pub(crate) struct KeptColumns {
+    pub lines: Lines,
+    pub columns: &'static [u8],
 }
 
 impl Lines {
@@ -37,6 +45,17 @@ impl Lines {
         Lines {
             first: first as u16,
             stride: stride as u16,
+        }
+    }
+
+    // Such lines, which hold the cells of these columns one after another.
+    fn holding(self, columns: &'static [u8]) -> KeptColumns
+        ensures lines { result.lines ≡ self }
+        ensures columns { result.columns.now ≡ columns.now }
+    {
+        KeptColumns {
+            lines: self,
+            columns,
         }
     }
 
@@ -70,6 +89,23 @@ const GEOM_CODES: &[u8] = &[5];
 
 const LANE_CODES: &[u8] = &[2, 3];
 
+// The columns that are read one by one: those that name a line's parent, then a strip's own and a mark's.
+pub(crate) const SECTION_COLUMN: usize = 0;
+
+pub(crate) const ID_COLUMN: usize = 1;
+
+pub(crate) const PROFILE_COLUMN: usize = 0;
+
+pub(crate) const SIDE_COLUMN: usize = 0;
+
+pub(crate) const PLACE_COLUMN: usize = 1;
+
+pub(crate) const TERM_COLUMN: usize = 2;
+
+pub(crate) const RELATIVE_COLUMN: usize = 2;
+
+pub(crate) const MARK_KIND_COLUMN: usize = 4;
+
 // Whose children the lines of a table are, where a parent has a range of them: a lane's extents, its heights, a profile's shapes, a strip's cubics, a section's marks.
 #[derive(Clone, Copy, Debug, PartialEq, Eq)]
 pub enum Family {
@@ -95,83 +131,51 @@ impl Family {
         ensures { result ≡ ranges_of self }
     {
         match self {
-            Family::Extent => Lines::spaced(LANE_WORDS + 2, LANE_STRIDE),
-            Family::Height => Lines::spaced(LANE_WORDS + 4, LANE_STRIDE),
+            Family::Extent => Lines::spaced(EXTENT_WORDS, LANE_STRIDE),
+            Family::Height => Lines::spaced(HEIGHT_WORDS, LANE_STRIDE),
             Family::Shape => Lines::spaced(PROFILE_WORDS, PROFILE_STRIDE),
-            Family::Cubic => Lines::spaced(STRIP_WORDS + 1, 1),
+            Family::Cubic => Lines::spaced(COLUMN_WORDS, 1),
             Family::Mark => Lines::spaced(SECTION_MARK_WORDS, SECTION_MARK_STRIDE),
         }
     }
 }
 
-// Where a table's numbers stand.
-#[tactic(auto, unfolding(crate::specs::Layout::number_lines))]
-pub(crate) fn number_lines(table: usize) -> Lines
-    ensures { result ≡ number_lines table }
+// The numbers of a table: where its lines stand, and which columns hold one. No column of a lane, a strip or a want does, and nothing is kept wherever such
+// lines are said to stand; an Option would say that a second time.
+#[tactic(auto, unfolding(crate::specs::Layout::number_lines, crate::specs::Layout::number_columns))]
+pub(crate) fn numbers_of(table: usize) -> KeptColumns
+    ensures lines { result.lines ≡ number_lines table }
+    ensures columns { result.columns.now ≡ number_columns table }
 {
     match table {
-        ROAD_TABLE => Lines::spaced(LENGTH_PLACE, 1),
-        GEOM_TABLE => Lines::spaced(GEOM_BASE, GEOM_STRIDE),
-        ELEV_TABLE => Lines::spaced(ELEV_BASE, Cubic::STRIDE),
-        BANK_TABLE => Lines::spaced(BANK_BASE, Cubic::STRIDE),
-        OFFSET_TABLE => Lines::spaced(OFFSET_BASE, Cubic::STRIDE),
-        TSHIFT_TABLE => Lines::spaced(TSHIFT_BASE, Cubic::STRIDE),
-        SECTION_TABLE => Lines::spaced(SECTION_BASE, 1),
-        EXTENT_TABLE => Lines::spaced(EXTENT_BASE, Cubic::STRIDE),
-        HEIGHT_TABLE => Lines::spaced(HEIGHT_BASE, HeightDef::STRIDE),
-        PROFILE_TABLE => Lines::spaced(PROFILE_BASE, 1),
-        SHAPE_TABLE => Lines::spaced(SHAPE_BASE, Cubic::STRIDE),
-        CUBIC_TABLE => Lines::spaced(CUBIC_BASE, Cubic::STRIDE),
-        MARK_TABLE => Lines::spaced(SPAN_BASE, SPAN_STRIDE),
-        _ => Lines::spaced(0, 0),
+        ROAD_TABLE => Lines::spaced(LENGTH_PLACE, 1).holding(ONE_NUMBER),
+        GEOM_TABLE => Lines::spaced(GEOM_BASE, GEOM_STRIDE).holding(GEOM_NUMBERS),
+        ELEV_TABLE => Lines::spaced(ELEV_BASE, Cubic::STRIDE).holding(ALONG_NUMBERS),
+        BANK_TABLE => Lines::spaced(BANK_BASE, Cubic::STRIDE).holding(ALONG_NUMBERS),
+        OFFSET_TABLE => Lines::spaced(OFFSET_BASE, Cubic::STRIDE).holding(ALONG_NUMBERS),
+        TSHIFT_TABLE => Lines::spaced(TSHIFT_BASE, Cubic::STRIDE).holding(ALONG_NUMBERS),
+        SECTION_TABLE => Lines::spaced(SECTION_BASE, 1).holding(ONE_NUMBER),
+        EXTENT_TABLE => Lines::spaced(EXTENT_BASE, Cubic::STRIDE).holding(EXTENT_NUMBERS),
+        HEIGHT_TABLE => Lines::spaced(HEIGHT_BASE, HeightDef::STRIDE).holding(HEIGHT_NUMBERS),
+        PROFILE_TABLE => Lines::spaced(PROFILE_BASE, 1).holding(ONE_NUMBER),
+        SHAPE_TABLE => Lines::spaced(SHAPE_BASE, Cubic::STRIDE).holding(SHAPE_NUMBERS),
+        CUBIC_TABLE => Lines::spaced(CUBIC_BASE, Cubic::STRIDE).holding(CUBIC_NUMBERS),
+        MARK_TABLE => Lines::spaced(SPAN_BASE, SPAN_STRIDE).holding(MARK_NUMBERS),
+        _ => Lines::spaced(0, 0).holding(&[]),
     }
 }
 
-// Where a table's words stand. A geometry has a word, its kind; a lane's words are those of the layout; the words of the other tables have rules of their own.
-#[tactic(auto, unfolding(crate::specs::Layout::word_lines))]
-pub(crate) fn word_lines(table: usize) -> Lines
-    ensures { result ≡ word_lines table }
+// The words of a table that its columns hold: a geometry's kind, and of a lane the first words of its record; the words of the other tables have rules of
+// their own.
+#[tactic(auto, unfolding(crate::specs::Layout::word_lines, crate::specs::Layout::word_columns))]
+pub(crate) fn codes_of(table: usize) -> KeptColumns
+    ensures lines { result.lines ≡ word_lines table }
+    ensures columns { result.columns.now ≡ word_columns table }
 {
     match table {
-        GEOM_TABLE => Lines::spaced(KIND_WORDS, 1),
-        LANE_TABLE => Lines::spaced(LANE_WORDS, LANE_STRIDE),
-        _ => Lines::spaced(0, 0),
-    }
-}
-
-// The columns of a table that hold numbers, in the order of a line's places. Tables that answer alike have an arm each: of two numbers joined by `|` no name
-// tells the proof which it is.
-#[tactic(auto, unfolding(crate::specs::Layout::number_columns))]
-pub(crate) fn number_columns(table: usize) -> &'static [u8]
-    ensures { result.now ≡ number_columns table }
-{
-    match table {
-        ROAD_TABLE => ONE_NUMBER,
-        GEOM_TABLE => GEOM_NUMBERS,
-        ELEV_TABLE => ALONG_NUMBERS,
-        BANK_TABLE => ALONG_NUMBERS,
-        OFFSET_TABLE => ALONG_NUMBERS,
-        TSHIFT_TABLE => ALONG_NUMBERS,
-        SECTION_TABLE => ONE_NUMBER,
-        EXTENT_TABLE => EXTENT_NUMBERS,
-        HEIGHT_TABLE => HEIGHT_NUMBERS,
-        PROFILE_TABLE => ONE_NUMBER,
-        SHAPE_TABLE => SHAPE_NUMBERS,
-        CUBIC_TABLE => CUBIC_NUMBERS,
-        MARK_TABLE => MARK_NUMBERS,
-        _ => &[],
-    }
-}
-
-// The columns of a table that hold words, in the order of a line's places.
-#[tactic(auto, unfolding(crate::specs::Layout::word_columns))]
-pub(crate) fn word_columns(table: usize) -> &'static [u8]
-    ensures { result.now ≡ word_columns table }
-{
-    match table {
-        GEOM_TABLE => GEOM_CODES,
-        LANE_TABLE => LANE_CODES,
-        _ => &[],
+        GEOM_TABLE => Lines::spaced(KIND_WORDS, 1).holding(GEOM_CODES),
+        LANE_TABLE => Lines::spaced(LANE_WORDS, LANE_STRIDE).holding(LANE_CODES),
+        _ => Lines::spaced(0, 0).holding(&[]),
     }
 }
 

@@ -1,24 +1,31 @@
 // A line kept: its cells at their places, and the line under its parent.
-ghost use Rattle.std.specs.Prelude.{◌≡◌};
+ghost use Rattle.std.specs.Prelude.{◌≡◌, ◌+◌};
 ghost use Rattle.reader_store.specs.Layout.{numbers_kept, wants_kept, count_kept, rule_of};
-ghost use Rattle.reader_store.specs.Progress.{ended_progress};
+ghost use Rattle.reader_store.specs.Progress.{bit_in, ended_progress};
 ghost use Rattle.reader_store.specs.Keep.{added, under_progress, under_words, strip_progress, strips_kept, mark_kind, mark_put, own_words, ruled_progress, ruled_words, kept_progress, kept_words};
 
 use crate::columns::{TableLine, put_codes, put_numbers, put_wants};
-use crate::layout::{Family, Lines, Rule, count_place, rule_of};
-use crate::memory::{code, one_more, put_at, word};
+use crate::layout::{
+    Family, Lines, MARK_KIND_COLUMN, PLACE_COLUMN, RELATIVE_COLUMN, Rule, SIDE_COLUMN, count_place,
+    rule_of,
+};
+use crate::memory::{code, one_more, put_at};
 use crate::parents::{Counted, lane_turn, mark_lane, parent_of, ranked_at};
 use crate::progress::{Progress, strip_of};
 use reader_cells::WHOLE_BIAS;
 use reader_lines::put;
-use records::layout::{MARK_STRIDE, MARK_WORDS, STRIP_STRIDE, STRIP_WORDS};
+use records::layout::{
+    ABSOLUTE_CODE, MARK_KIND_WORDS, MARK_STRIDE, MARK_WORDS, RELATIVE_CODE, STRIP_STRIDE,
+    STRIP_WORDS,
+};
+use records_lent::raw_word;
 
 // Counts line k under its parent.
 #[tactic(auto, unfolding(crate::specs::Keep::added))]
 fn add(words: &mut [u16], k: u16, parent: Counted)
     ensures { words.new ≡ added words.old k parent }
 {
-    let n = one_more(word(words, parent.count));
+    let n = one_more(raw_word(words, parent.count));
     put_at(words, parent.first, k);
     put(words, parent.count, n);
 }
@@ -41,19 +48,29 @@ fn keep_under(words: &mut [u16], k: u16, parent: Option<Counted>, progress: Prog
     }
 }
 
+// The code of a strip that is there.
+fn presence(relative: u64) -> u16
+    ensures { result ≡ bit_in relative + 1 }
+{
+    if relative % 2 == 0 {
+        ABSOLUTE_CODE as u16
+    } else {
+        RELATIVE_CODE as u16
+    }
+}
+
 // Keeps a strip at its fixed place and remembers its line, if it was not there yet.
 #[tactic(auto, unfolding(crate::specs::Keep::strip_progress, crate::specs::Keep::strips_kept))]
 fn keep_strip(words: &mut [u16], line: TableLine, progress: Progress) -> Progress
     ensures value { result ≡ strip_progress line.k line.cells progress }
     ensures words_after { words.new ≡ strips_kept words.old line.cells progress }
 {
-    let strip = strip_of(line.cells.at(0), line.cells.at(1));
+    let strip = strip_of(line.cells.at(SIDE_COLUMN), line.cells.at(PLACE_COLUMN));
     if progress.strips[strip].is_some() {
         return progress.unsound();
     }
-    let relative = (line.cells.at(2) % 2) as u16;
-    let presence = Lines::spaced(STRIP_WORDS, STRIP_STRIDE).line(strip as u32);
-    put(words, presence, relative + 1);
+    let place = Lines::spaced(STRIP_WORDS, STRIP_STRIDE).line(strip as u32);
+    put(words, place, presence(line.cells.at(RELATIVE_COLUMN)));
     let mut strips = progress.strips;
     strips[strip] = Some(line.k);
     Progress { strips, ..progress }
@@ -72,9 +89,11 @@ fn put_mark(words: &mut [u16], line: TableLine)
     ensures { words.new ≡ mark_put words.old line.k line.cells }
 {
     let lane = mark_lane(words, line.cells).unwrap_or(ranked_at(0));
-    let i = Lines::spaced(MARK_WORDS, MARK_STRIDE).line(line.k as u32);
-    put(words, i, code(lane.index as u64));
-    put(words, i + 1, mark_kind(line.cells.at(4)));
+    let k = line.k as u32;
+    let place = Lines::spaced(MARK_WORDS, MARK_STRIDE).line(k);
+    let kind = Lines::spaced(MARK_KIND_WORDS, MARK_STRIDE).line(k);
+    put(words, place, code(lane.index as u64));
+    put(words, kind, mark_kind(line.cells.at(MARK_KIND_COLUMN)));
 }
 
 // Keeps a mark's own words; other lines under a parent have none.

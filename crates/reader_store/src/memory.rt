@@ -1,15 +1,8 @@
-// Single elements of the road's memory, and numbers as its words. Past the end a read gives 0.
-ghost use Rattle.std.specs.Prelude.{◌≡◌, get_or};
+// Numbers as words of the road's memory.
+ghost use Rattle.std.specs.Prelude.{◌≡◌};
 ghost use Rattle.reader_store.specs.Layout.{code_of, one_more, put_at};
 
 use reader_lines::put;
-
-// Crate records_lent has a `word` that answers a place or a count as a usize; here a count is put back as a word, one more.
-pub(crate) fn word(words: &[u16], i: usize) -> u16
-    ensures { result ≡ get_or words.now i 0 }
-{
-    words.get(i).copied().unwrap_or(0)
-}
 
 // A code as a word. A number that no word holds becomes the greatest word, which is no code.
 #[tactic(auto, unfolding(crate::specs::Layout::code_of))]

@@ -3,25 +3,23 @@ ghost use Rattle.std.specs.Prelude.{◌≡◌, ◌+◌, ◌<◌, cond, leb, Some
 ghost use Rattle.reader_lines.specs.Columns.{cell_of};
 ghost use Rattle.reader_store.specs.Parents.{index_at, ranked_among, section_at, section_word, section_record, side_word, lane_turn, lane_among, lane_index, mark_lane, mark_index, term_of, index_of, range_of, parent_of};
 
-use crate::layout::{Family, Lines};
-use crate::memory::word;
+use crate::layout::{
+    Family, ID_COLUMN, Lines, PLACE_COLUMN, PROFILE_COLUMN, SECTION_COLUMN, SIDE_COLUMN,
+    TERM_COLUMN,
+};
 use crate::progress::{Strips, strip_of};
 use reader_cells::WHOLE_BIAS;
 use reader_lines::Cells;
 use records::layout::{
-    LEFT_WORDS, PROFILE_COUNT_AT, RIGHT_WORDS, SECTION_COUNT_AT, SECTION_STRIDE, SECTION_WORDS,
-    STRIP_COLUMNS, STRIP_STRIDE,
+    COLUMN_STRIDE, COLUMNS_A_STRIP, LEFT_WORDS, PROFILE_COUNT_AT, PROFILE_WORDS, RIGHT_WORDS,
+    SECTION_COUNT_AT, SECTION_STRIDE, SECTION_WORDS, SHAPE_COUNT_WORDS, STRIP_STRIDE,
 };
+use records_lent::raw_word;
 
 // The ids 1 and -1, the first of each side, as they are kept.
 const FIRST_LEFT: u64 = WHOLE_BIAS + 1;
 
 const FIRST_RIGHT: u64 = WHOLE_BIAS - 1;
-
-// A strip's columns: its width, then its terms. A cell that names one is its place among them.
-const COLUMNS_A_STRIP: u32 = STRIP_COLUMNS as u32;
-
-const WORDS_A_STRIP: u32 = STRIP_STRIDE as u32;
 
 // A parent: its rank in the order that children follow, and its index in memory.
 #[derive(Clone, Copy, Debug, PartialEq, Eq)]
@@ -68,7 +66,7 @@ fn ranked_among(number: u64, n: u16) -> Option<Ranked>
 fn section_of(words: &[u16], section: u64) -> Option<Ranked>
     ensures { result ≡ section_at words.now section }
 {
-    ranked_among(section, word(words, SECTION_COUNT_AT))
+    ranked_among(section, raw_word(words, SECTION_COUNT_AT))
 }
 
 // A section's record among the words: its first lane, how many left, how many right.
@@ -86,7 +84,7 @@ const RIGHT_WORD: usize = RIGHT_WORDS - SECTION_WORDS;
 
 // Where the record of section s begins.
 fn section_word(s: u32) -> usize
-    ensures { (result ≡ section_word s) × (result < 1000000000000000) }
+    ensures { result ≡ section_word s }
 {
     Lines::spaced(SECTION_WORDS, SECTION_STRIDE).line(s)
 }
@@ -97,9 +95,9 @@ fn section_record(words: &[u16], s: u32) -> SectionRecord
 {
     let at = section_word(s);
     SectionRecord {
-        first: word(words, at),
-        left: word(words, at + LEFT_WORD),
-        right: word(words, at + RIGHT_WORD),
+        first: raw_word(words, at),
+        left: raw_word(words, at + LEFT_WORD),
+        right: raw_word(words, at + RIGHT_WORD),
     }
 }
 
@@ -120,10 +118,10 @@ fn side_word(section: SectionRecord, id: u64) -> Option<usize>
 pub(crate) fn lane_turn(words: &[u16], cells: Cells) -> Option<Counted>
     ensures { result ≡ lane_turn words.now (cell_of cells 0) (cell_of cells 1) }
 {
-    let s = section_of(words, cells.at(0))?;
+    let s = section_of(words, cells.at(SECTION_COLUMN))?;
     let at = section_word(s.index);
     let record = section_record(words, s.index);
-    let side = side_word(record, cells.at(1))?;
+    let side = side_word(record, cells.at(ID_COLUMN))?;
     let fresh = (record.left == 0) & (record.right == 0);
     Some(Counted {
         rank: s.rank,
@@ -150,8 +148,8 @@ fn lane_by(section: SectionRecord, id: u64) -> Option<Ranked>
 fn lane_of(words: &[u16], cells: Cells) -> Option<Ranked>
     ensures { result ≡ lane_index words.now (cell_of cells 0) (cell_of cells 1) }
 {
-    let s = section_of(words, cells.at(0))?;
-    lane_by(section_record(words, s.index), cells.at(1))
+    let s = section_of(words, cells.at(SECTION_COLUMN))?;
+    lane_by(section_record(words, s.index), cells.at(ID_COLUMN))
 }
 
 // The place of a mark's lane in its section, counted from 0, left ones first. Where the section is not there section 0 stands in for it.
@@ -159,12 +157,12 @@ fn lane_of(words: &[u16], cells: Cells) -> Option<Ranked>
 pub(crate) fn mark_lane(words: &[u16], cells: Cells) -> Option<Ranked>
     ensures { result ≡ mark_lane words.now (cell_of cells 0) (cell_of cells 1) }
 {
-    let s = section_of(words, cells.at(0)).unwrap_or(ranked_at(0));
+    let s = section_of(words, cells.at(SECTION_COLUMN)).unwrap_or(ranked_at(0));
     let record = SectionRecord {
         first: 0,
         ..section_record(words, s.index)
     };
-    lane_by(record, cells.at(1))
+    lane_by(record, cells.at(ID_COLUMN))
 }
 
 // The section that a mark names, if it has the mark's lane.
@@ -172,22 +170,22 @@ pub(crate) fn mark_lane(words: &[u16], cells: Cells) -> Option<Ranked>
 fn mark_index(words: &[u16], cells: Cells) -> Option<Ranked>
     ensures { result ≡ mark_index words.now (cell_of cells 0) (cell_of cells 1) }
 {
-    let s = section_of(words, cells.at(0))?;
+    let s = section_of(words, cells.at(SECTION_COLUMN))?;
     mark_lane(words, cells)?;
     Some(s)
 }
 
-// The term of a strip. Its rank goes by the strip's line, its index by the strip's fixed place.
+// A column of a strip: its width, or one of its terms. A cell that names one is its place among them. Its rank goes by the strip's line, its index by the strip's fixed place.
 #[tactic(auto, unfolding(crate::specs::Parents::term_of))]
 fn term_of(strips: Strips, side: u64, place: u64, term: u64) -> Option<Ranked>
     ensures { result ≡ term_of strips side place term }
 {
     let strip = strip_of(side, place);
     let line = strips[strip]?;
-    let t = (term % STRIP_COLUMNS as u64) as u32;
+    let column = (term % COLUMNS_A_STRIP as u64) as u32;
     Some(Ranked {
-        rank: line as u32 * COLUMNS_A_STRIP + t,
-        index: strip as u32 * WORDS_A_STRIP + t * 2,
+        rank: line as u32 * COLUMNS_A_STRIP as u32 + column,
+        index: strip as u32 * STRIP_STRIDE as u32 + column * COLUMN_STRIDE as u32,
     })
 }
 
@@ -197,12 +195,20 @@ fn index_of(words: &[u16], family: Family, cells: Cells, strips: Strips) -> Opti
     ensures { result ≡ index_of words.now family cells strips }
 {
     match family {
-        Family::Cubic => term_of(strips, cells.at(0), cells.at(1), cells.at(2)),
-        Family::Shape => ranked_among(cells.at(0), word(words, PROFILE_COUNT_AT)),
+        Family::Cubic => term_of(
+            strips,
+            cells.at(SIDE_COLUMN),
+            cells.at(PLACE_COLUMN),
+            cells.at(TERM_COLUMN),
+        ),
+        Family::Shape => ranked_among(cells.at(PROFILE_COLUMN), raw_word(words, PROFILE_COUNT_AT)),
         Family::Mark => mark_index(words, cells),
         Family::Extent | Family::Height => lane_of(words, cells),
     }
 }
+
+// Which word of a range counts its lines: all families' ranges are made as a profile's.
+const COUNT_WORD: usize = SHAPE_COUNT_WORDS - PROFILE_WORDS;
 
 // Where a line is counted in the range (first, count) of its parent.
 #[tactic(auto, unfolding(crate::specs::Parents::range_of))]
@@ -210,8 +216,8 @@ fn range_of(words: &[u16], ranges: Lines, at: Ranked) -> Counted
     ensures { result ≡ range_of words.now ranges at }
 {
     let first = ranges.line(at.index);
-    let count = first + 1;
-    let fresh = word(words, count) == 0;
+    let count = first + COUNT_WORD;
+    let fresh = raw_word(words, count) == 0;
     Counted {
         rank: at.rank,
         first: fresh.then_some(first),
