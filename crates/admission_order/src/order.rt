@@ -3,17 +3,17 @@ ghost use Rattle.std.specs.Prelude.{◌≡◌, ◌&&◌, length, get_or};
 ghost use Rattle.std.specs.Float.Ieee.{eq, le};
 ghost use Rattle.float_laws.specs.Binary64.{◌⊖◌, zero64};
 ghost use Rattle.records_lent.specs.Lists.{all_below};
-ghost use Rattle.records.specs.Roads.{height_def_at, geom_at, section_of, no_lane, profile_at, strip_at};
+ghost use Rattle.records.specs.Roads.{height_def_at, geom_at, section_of, no_lane, profile_at, strip_at, present};
 ghost use Rattle.admission_order.specs.Order.{least_gap, never_fall, rise_strictly, apart, cubics_in_order, lane_in_order, section_in_order, strip_in_order, ordered};
 
 use crate::marks::all_marks_in_order;
-use records::layout::{STRIP_COLUMNS, STRIPS};
+use records::layout::{COLUMNS_A_STRIP, STRIPS};
 use records::{Heights, LentRoad};
 use records_cubic::Cubics;
 use records_geometry::geom;
 use records_lanes::{LentLane, LentSide};
 use records_sections::{section_count, section_start};
-use records_shapes::{profile_count, profile_start, shapes, strip_column};
+use records_shapes::{LentStrip, profile_count, profile_start, shapes, strip};
 
 // Profiles, and heights of a lane, are at least so far apart.
 const LEAST_GAP: f64 = 0.001;
@@ -96,16 +96,18 @@ fn shapes_in_order(road: &LentRoad) -> bool
     (0..profile_count(road)).all(|i| cubics_in_order(&shapes(road, i)))
 }
 
-fn strip_in_order(road: &LentRoad, i: usize) -> bool
-    ensures { result ≡ strip_in_order (strip_at road.now i) }
+#[tactic(auto, unfolding(crate::specs::Order::strip_in_order))]
+fn strip_in_order(strip: &LentStrip) -> bool
+    ensures { result ≡ strip_in_order (present strip.now) }
 {
-    (0..STRIP_COLUMNS).all(|column| cubics_in_order(&strip_column(road, i, column)))
+    (0..COLUMNS_A_STRIP).all(|column| cubics_in_order(&strip.column(column)))
 }
 
+// A strip that is not there has no cubics.
 fn strips_in_order(road: &LentRoad) -> bool
     ensures { result ≡ all_below (λ i. strip_in_order (strip_at road.now i)) 4 }
 {
-    (0..STRIPS).all(|i| strip_in_order(road, i))
+    (0..STRIPS).all(|i| strip(road, i).is_none_or(|strip| strip_in_order(&strip)))
 }
 
 fn first_at_zero(road: &LentRoad) -> bool
