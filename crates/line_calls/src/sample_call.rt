@@ -14,12 +14,11 @@ use records_geometry::geom;
 use refusals::Refusal;
 
 // One sample, in a part of four numbers.
-#[tactic(auto, unfolding(line_samples::specs::Samples::flat))]
 fn put(part: &mut [f64], p: Sample)
     requires { length part.old ≡ sample_stride }
     ensures { part.new ≡ flat (p ∷ []) }
 {
-    part.copy_from_slice(&[p.distance, p.x, p.y, p.heading]);
+    part.copy_from_slice(&<[f64; SAMPLE_STRIDE]>::from(p));
 }
 
 // The samples after p, as many as the part has room for. By index: once a loop over `chunks_mut` is over, a proof knows how long the slice is and not what it holds.

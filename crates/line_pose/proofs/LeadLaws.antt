@@ -1,88 +1,60 @@
 -- Eight leading samples at once.
-use Prim.Native.Nat.{ℕ, zero, suc, ◌+◌, ◌-◌, ◌*◌, ◌/◌, ◌<◌, ◌≤◌}
+use Prim.Native.Nat.{ℕ, zero, suc, ◌+◌, ◌-◌, ◌*◌, ◌<◌, ◌≤◌}
 use native.Mathlib.Omega.{arith}
+use native.Mathlib.Nat.{eq-or-lt_of_le}
 use mathlib.Core.Path.{◌≡◌, refl, sym, ◌∙◌, ap}
 use mathlib.Core.Bool.{Bool, true, false, ◌&&◌}
 use mathlib.Core.List.{List}
+use mathlib.Core.Logic.{⊎_elim}
 use lib.ListN.{get_or}
 use lib.Ieee.{Float, nan, le}
 use Rattle.std.specs.Prelude.{Option, Some, None}
+use Rattle.std.specs.List.{fold, range_with_len}
 use Rattle.std.specs.Option.{MatchOption, unwrap_or}
+use Rattle.std.proofs.lemmas.Bool.{and_parts}
 use Rattle.line_pose.specs.Poses.{leading}
-use Rattle.line_pose.proofs.PoseLaws.{lead-start, lead-next}
+use Rattle.line_pose.proofs.PoseLaws.{lead-run}
 
-both : (a b : Bool) → a && b ≡ true → (a ≡ true) × (b ≡ true)
-both true b h = (refl, h)
-both false b h = (h, cc)
+-- that all passed so far and the numbers of a range do
+pub all-passed : (p : ℕ → Bool) (b : Bool) (a n : ℕ) → fold (λ all j. all && p j) b (range_with_len a n) ≡ true → (b ≡ true) × ((j : ℕ) → a ≤ j → j < a + n → p j ≡ true)
+all-passed p b a zero h = (h, λ j l m. absurd (omega arith))
+all-passed p b a (suc n) h =
+    let r = all-passed p (b && p a) (a + 1) n h in
+    let s = and_parts b (p a) r.0 in
+    (s.0, λ j l m. ⊎_elim (λ e. ap p (sym e) ∙ s.1) (λ e. r.1 j (omega arith) (omega arith)) (eq-or-lt_of_le l))
 
-module _ (samples : List Float) (d : Float) (at : ℕ) where
-  -- the test of the sample at place j of the slice
-  abbrev tested : ℕ → Bool
-  tested j = le (get_or samples j nan) d
+module _ (samples : List Float) (d : Float) where
+  -- a group from the k-th on, all of which lead
+  pub group-leads : (k n : ℕ) → ((j : ℕ) → 0 ≤ j → j < 8 → le (get_or samples (k * 4 + j * 4) nan) d ≡ true) → leading samples k d (n + 8) ≡ 8 + leading samples (k + 8) d n
+  group-leads k n h =
+      let each : (i : ℕ) → k ≤ i → i < k + 8 → le (get_or samples (i * 4) nan) d ≡ true = λ i a b. let e : i * 4 ≡ k * 4 + (i - k) * 4 = omega arith in rw e (h (i - k) (omega arith) (omega arith)) in
+      let r = lead-run samples d (k + n + 8) k 8 (k + 8) refl (omega arith) each in
+      let p : k + n + 8 - k ≡ n + 8 = omega arith in
+      let q : k + n + 8 - (k + 8) ≡ n = omega arith in
+      let s : k + leading samples k d (n + 8) ≡ k + 8 + leading samples (k + 8) d n = ap (λ (m : ℕ). k + leading samples k d m) (sym p) ∙ r ∙ ap (λ (m : ℕ). k + 8 + leading samples (k + 8) d m) q in
+      omega arith
 
-  four : {a b c e : Bool} → a && b && c && e ≡ true → (a ≡ true) × (b ≡ true) × (c ≡ true) × (e ≡ true)
-  four {a} {b} {c} {e} h =
-      let p = both (a && b && c) e h in
-      let q = both (a && b) c p.0 in
-      let r = both a b q.0 in
-      (r.0, r.1, q.1, p.1)
-
+  -- each of the groups before the one that is found leads
   module _ (n : ℕ) where
-    left : ℕ → ℕ
-    left k = k + leading samples (at + k) d (n + 8 - k)
+    run : (e : ℕ) → e * 8 ≤ n → ((i : ℕ) → 0 ≤ i → i < e → (m : ℕ) → leading samples (i * 8) d (m + 8) ≡ 8 + leading samples (i * 8 + 8) d m)
+        → leading samples 0 d n ≡ e * 8 + leading samples (e * 8) d (n - e * 8)
+    run zero l h = let p : n - 0 ≡ n = omega arith in rw p (omega arith)
+    run (suc e) l h =
+        let before = run e (omega arith) (λ i a b. h i a (omega arith)) in
+        let p : n - e * 8 ≡ n - suc e * 8 + 8 = omega arith in
+        let q : e * 8 + 8 ≡ suc e * 8 = omega arith in
+        let s : leading samples (e * 8) d (n - e * 8) ≡ 8 + leading samples (suc e * 8) d (n - suc e * 8) = ap (λ (m : ℕ). leading samples (e * 8) d m) p ∙ h e (omega arith) (omega arith) (n - suc e * 8) ∙ ap (λ (i : ℕ). 8 + leading samples i d (n - suc e * 8)) q in
+        omega arith
 
-    next : (k j : ℕ) → k < 8 → (at + k) * 4 ≡ j → tested j ≡ true → left k ≡ left (k + 1)
-    unfolding left
-    next k j l e h = lead-next samples d at (n + 8) k (omega arith) (ap tested e ∙ h)
-
-    pub group-leads : (a b c e p q r s : Bool) → (a && b && c && e) && (p && q && r && s) ≡ true
-        → a ≡ tested (at * 4) → b ≡ tested (at * 4 + 4) → c ≡ tested (at * 4 + 8) → e ≡ tested (at * 4 + 12)
-        → p ≡ tested (at * 4 + 16) → q ≡ tested (at * 4 + 20) → r ≡ tested (at * 4 + 24) → s ≡ tested (at * 4 + 28)
-        → leading samples at d (n + 8) ≡ 8 + leading samples (at + 8) d n
-    unfolding left
-    group-leads a b c e p q r s h ea eb ec ee ep eq er es =
-        let halves = both _ _ h in
-        let low = four halves.0 in
-        let high = four halves.1 in
-        let w : n + 8 - 8 ≡ n = omega arith in
-        lead-start samples d at (n + 8)
-        ∙ next 0 (at * 4) (omega arith) (omega arith) (sym ea ∙ low.0)
-        ∙ next 1 (at * 4 + 4) (omega arith) (omega arith) (sym eb ∙ low.1)
-        ∙ next 2 (at * 4 + 8) (omega arith) (omega arith) (sym ec ∙ low.2)
-        ∙ next 3 (at * 4 + 12) (omega arith) (omega arith) (sym ee ∙ low.3)
-        ∙ next 4 (at * 4 + 16) (omega arith) (omega arith) (sym ep ∙ high.0)
-        ∙ next 5 (at * 4 + 20) (omega arith) (omega arith) (sym eq ∙ high.1)
-        ∙ next 6 (at * 4 + 24) (omega arith) (omega arith) (sym er ∙ high.2)
-        ∙ next 7 (at * 4 + 28) (omega arith) (omega arith) (sym es ∙ high.3)
-        ∙ ap (λ (m : ℕ). 8 + leading samples (at + 8) d m) w
-
--- one group more, where the loop has counted k of n
-pub lead-group : (samples : List Float) (d : Float) (first n k j : ℕ) → j ≡ k + 8 → j ≤ n
-    → ((m : ℕ) → leading samples (first + k) d (m + 8) ≡ 8 + leading samples (first + k + 8) d m)
-    → k + leading samples (first + k) d (n - k) ≡ j + leading samples (first + j) d (n - j)
-lead-group samples d first n k j p l h =
-    let e : n - k ≡ n - j + 8 = omega arith in
-    let f : first + k + 8 ≡ first + j = omega arith in
-    let g : k + leading samples (first + k) d (n - k) ≡ k + (8 + leading samples (first + j) d (n - j)) = ap (λ (m : ℕ). k + leading samples (first + k) d m) e ∙ ap (λ (m : ℕ). k + m) (h (n - j) ∙ ap (λ (i : ℕ). 8 + leading samples i d (n - j)) f) in
-    g ∙ omega arith
+    -- of m groups
+    pub groups_found : (m : ℕ) (r : Option ℕ) → m * 8 ≤ n
+        → MatchOption r ((i : ℕ) → 0 ≤ i → i < m → (k : ℕ) → leading samples (i * 8) d (k + 8) ≡ 8 + leading samples (i * 8 + 8) d k)
+        (λ e. (0 ≤ e) × (e < m) × Unit {0} × ((i : ℕ) → 0 ≤ i → i < e → (k : ℕ) → leading samples (i * 8) d (k + 8) ≡ 8 + leading samples (i * 8 + 8) d k))
+        → leading samples 0 d n ≡ unwrap_or r m * 8 + leading samples (unwrap_or r m * 8) d (n - unwrap_or r m * 8)
+    groups_found m None l h = run m l h
+    groups_found m (Some e) l h = run e (omega (arith, h.1)) h.3
 
 -- what is found in a range from 0 on, else its end, is at most its end
 pub found-within : (r : Option ℕ) (m : ℕ) → MatchOption r ((k : ℕ) → 0 ≤ k → k < m → Unit {0}) (λ i. (0 ≤ i) × (i < m) × Unit {0} × ((k : ℕ) → 0 ≤ k → k < i → Unit {0})) → unwrap_or r m ≤ m
 found-within None m h = omega arith
 found-within (Some i) m h = omega (arith, h.1)
-
--- each of the groups before the one that is found leads
-module _ (samples : List Float) (d : Float) (first n : ℕ) where
-  run : (e : ℕ) → e * 8 ≤ n → ((i : ℕ) → 0 ≤ i → i < e → (m : ℕ) → leading samples (first + i * 8) d (m + 8) ≡ 8 + leading samples (first + i * 8 + 8) d m)
-      → leading samples first d n ≡ e * 8 + leading samples (first + e * 8) d (n - e * 8)
-  run zero l h = lead-start samples d first n
-  run (suc e) l h =
-      run e (omega arith) (λ i a b. h i a (omega arith))
-      ∙ lead-group samples d first n (e * 8) (suc e * 8) (omega arith) l (h e (omega arith) (omega arith))
-
-  pub groups_found : (r : Option ℕ)
-      → MatchOption r ((i : ℕ) → 0 ≤ i → i < n / 8 → (m : ℕ) → leading samples (first + i * 8) d (m + 8) ≡ 8 + leading samples (first + i * 8 + 8) d m)
-      (λ e. (0 ≤ e) × (e < n / 8) × Unit {0} × ((i : ℕ) → 0 ≤ i → i < e → (m : ℕ) → leading samples (first + i * 8) d (m + 8) ≡ 8 + leading samples (first + i * 8 + 8) d m))
-      → leading samples first d n ≡ unwrap_or r (n / 8) * 8 + leading samples (first + unwrap_or r (n / 8) * 8) d (n - unwrap_or r (n / 8) * 8)
-  groups_found None h = run (n / 8) (omega arith) h
-  groups_found (Some e) h = run e (omega (arith, h.1)) h.3

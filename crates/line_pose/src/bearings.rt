@@ -1,4 +1,4 @@
-// A pose with the sine and the cosine of its heading, which a line and an arc have at hand and every caller wants next.
+// A pose with the sine and the cosine of its heading, which a line and an arc have at hand, and axes and points beside the pose want next.
 ghost use Rattle.std.specs.Prelude.{◌≡◌};
 ghost use Rattle.line_pose.specs.Bearings.{bearing_of};
 
@@ -13,9 +13,9 @@ pub struct Bearing {
 
 // For a pose whose heading's sine and cosine are not at hand.
 impl From<Pose> for Bearing {
-    fn from(pose: Pose) -> Bearing
-        ensures { result ≡ bearing_of pose }
-    {
+    ghost from_gives = { λ p at. at ≡ bearing_of p };
+
+    fn from(pose: Pose) -> Bearing {
         let turn = sin_cos(pose.heading);
         Bearing { pose, turn }
     }

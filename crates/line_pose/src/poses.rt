@@ -54,7 +54,7 @@ fn arc_or_line(g: GeomRec, k: f64, ds: f64) -> Bearing
 }
 
 // The pose of the i-th geometry at s, with the lent samples, and the sine and the cosine of its heading.
-#[tactic(auto, unfolding(crate::specs::Poses::pose_of))]
+#[tactic(auto, using(crate::proofs::PoseLaws::own_pose), unfolding(crate::specs::Poses::pose_of))]
 pub fn geom_bearing(lent: &SampledRoad, i: usize, s: f64) -> Bearing
     ensures { result ≡ bearing_of (pose_of lent.now.road lent.now.samples.now i s) }
 {
@@ -64,11 +64,8 @@ pub fn geom_bearing(lent: &SampledRoad, i: usize, s: f64) -> Bearing
         GeomShape::Line => line_bearing(g, ds),
         GeomShape::Arc(k) => arc_or_line(g, k, ds),
         GeomShape::Spiral(_, _) => {
-            let spiral = SpiralSamples {
-                samples: lent.samples,
-                first: samples_before(&lent.road, i),
-                count: sample_count(g),
-            };
+            let first = samples_before(&lent.road, i);
+            let spiral = SpiralSamples::new(lent.samples, first, sample_count(g));
             Bearing::from(spiral.pose(ds))
         }
     }

@@ -12,13 +12,15 @@ use borrow.Author.Tests.{le-leb, lt-leb}
 use lib.ListN.{length, get_or, length-append, get_or-append, get_or-eq_default}
 use lib.Seq.{get_or-append-add}
 use lib.Ieee.{Float, nan}
+use Rattle.std.specs.List.{sum_by, range_with_len}
+use Rattle.std.proofs.lemmas.List.Sums.{sum_by-cons}
 use Rattle.float_laws.specs.Binary64.{◌⊕◌, zero64}
 use Rattle.records.specs.declared.points.GeomRec.{GeomRec}
 use Rattle.records.specs.declared.points.GeomShape.{GeomShape}
 use Rattle.records.specs.declared.points.GeomShape.TheVariants.{Line, Arc, Spiral}
 use Rattle.records.specs.Roads.{Road, geom_at, no_geom}
 use Rattle.line_samples.specs.declared.points.Sample.{Sample}
-use Rattle.line_samples.specs.Samples.{goes_on, step_at, steps_from, most_steps, spiral_steps, count_by, sample_count, samples_before, samples_needed, first_sample, next_sample, later_samples, samples_by, geom_samples, samples_up_to, flat, samples_of, sample_at, most_samples}
+use Rattle.line_samples.specs.Samples.{goes_on, step_at, steps_from, most_steps, spiral_steps, count_by, sample_count, samples_before, samples_needed, first_sample, next_sample, later_samples, samples_by, geom_samples, samples_up_to, flat, samples_of, sample_at, most_samples, counted_end}
 
 -- ---- steps
 
@@ -134,11 +136,18 @@ module _ (road : Road) where
       (λ l. before-next i ∙ (rw (none-past i (le_of_suc-le-suc l), before-past i (le_of_suc-le-suc l)) (omega arith)))
       (eq-or-lt_of_le h)
 
-  -- a loop over the geometries: a turn, and its end at the lesser of i and the number of geometries
-  pub before_more : (i : ℕ) {sum n : ℕ} {g : GeomRec} → sum ≡ samples_before road i → g ≡ geom_at road i → n ≡ sample_count g → sum + n ≡ samples_before road (i + 1)
-  before_more i e f h = rw (e, h, f, add-one) (sym (before-next i))
+  -- a sum over the geometries from one on
+  summed : (i n : ℕ) → samples_before road i + sum_by (λ k. sample_count (geom_at road k)) (range_with_len i n) ≡ samples_before road (i + n)
+  summed i zero = let e : i + 0 ≡ i = omega arith in rw e (omega arith)
+  summed i (suc n) =
+      let counts : ℕ → ℕ = λ k. sample_count (geom_at road k) in
+      let p : i + suc n ≡ i + 1 + n = omega arith in
+      let q = before-next i in
+      let s = summed (i + 1) n in
+      let t : samples_before road (i + 1) ≡ samples_before road (suc i) = ap (samples_before road) (add-one i) in
+      rw (p, sum_by-cons counts i (range_with_len (i + 1) n)) (omega arith)
 
-  pub before-done : (i k : ℕ) → k ≡ min i (length road.geoms) → samples_before road k ≡ samples_before road i
+  before-done : (i k : ℕ) → k ≡ min i (length road.geoms) → samples_before road k ≡ samples_before road i
   before-done i k h = go (leb i (length road.geoms)) (leb→le i (length road.geoms)) (nleb→lt i (length road.geoms))
     where
       go : (b : Bool) → (T b → i ≤ length road.geoms) → (T (not b) → length road.geoms < i) → samples_before road k ≡ samples_before road i
@@ -149,16 +158,17 @@ module _ (road : Road) where
           let b : length road.geoms ≤ i = omega arith in
           before-past k a ∙ sym (before-past i b)
 
-  -- a loop that leaves with the sample that is one too many, or counts them all
-  pub fit-over : (k most : ℕ) {sum : ℕ} → k < length road.geoms → sum ≡ samples_before road (k + 1) → most < sum → false ≡ leb (samples_needed road) most
-  unfolding samples_needed
-  fit-over k most h e l =
-      let a : k + 1 ≤ length road.geoms = omega arith in
-      let m = before-mono (k + 1) (length road.geoms) a in
-      sym (lt-leb (samples_before road (length road.geoms)) most (omega arith))
+  -- up to the lesser of i and the number of geometries: all before the i-th, and not many
+  pub before-summed : (i k : ℕ) → k ≡ min i (length road.geoms) → sum_by (λ k. sample_count (geom_at road k)) (range_with_len 0 k) ≡ samples_before road i
+  before-summed i k h =
+      let n = before-none in
+      let t = summed 0 k in
+      let e : samples_before road (0 + k) ≡ samples_before road k = ap (samples_before road) (zero-add k) in
+      let s : sum_by (λ k. sample_count (geom_at road k)) (range_with_len 0 k) ≡ samples_before road k = omega arith in
+      s ∙ before-done i k h
 
-  pub fit_all : (k most : ℕ) {sum : ℕ} → length road.geoms ≤ k → sum ≡ samples_before road k → sum ≤ most → true ≡ leb (samples_needed road) most
-  fit_all k most h e l = let p = before-past k h in sym (le-leb (samples_needed road) most (omega arith))
+  pub before-few : (i : ℕ) → length road.geoms < 65536 → samples_before road i < counted_end
+  before-few i few = let d = before-done i (min i (length road.geoms)) refl in let l = before-le (min i (length road.geoms)) in omega arith
 
 -- ---- the samples
 

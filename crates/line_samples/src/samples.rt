@@ -26,7 +26,7 @@ pub const SAMPLES_NEEDED: usize = MOST_SAMPLES * SAMPLE_STRIDE;
 // One step more than the samples that a road may need, so as to see that it is over.
 const MOST_STEPS: usize = MOST_SAMPLES + 1;
 
-// The steps of a longer spiral are counted one by one: it is over in any case.
+// The steps of a longer spiral are counted one by one: no admitted road has one.
 const GREATEST_ESTIMATED: f64 = 10000.0;
 
 // The length of the step from u on.
@@ -36,7 +36,7 @@ fn step_at(length: f64, u: f64) -> f64
     (length - u).min(WHOLE_STEP)
 }
 
-// Steps of 0.25 that end below x, at most 2,000 and all but one or two of them: 4 x less 1 is an estimate, and the test makes sure of it.
+// Steps of 0.25 that surely end below x, at most 2,000: 4 x less 1 is an estimate, all of them or all but one, and the test makes sure of it.
 fn quarters_below(x: f64) -> usize
     ensures { QuartersBelow x result }
 {
@@ -85,11 +85,9 @@ pub fn samples_before(road: &LentRoad, i: usize) -> usize
     ensures value { result ≡ samples_before road.now i }
     ensures small { result < counted_end }
 {
-    let mut sum = 0;
-    for k in 0..i.min(road.geom_count()) {
-        sum += sample_count(geom(road, k));
-    }
-    sum
+    (0..i.min(road.geom_count()))
+        .map(|k| sample_count(geom(road, k)))
+        .sum()
 }
 
 // How many samples a road needs.
@@ -101,18 +99,11 @@ pub fn samples_needed(road: &LentRoad) -> usize
     samples_before(road, road.geom_count())
 }
 
-// Whether a road needs at most 2,000 samples. It stops counting at the first geometry that passes this.
+// Whether a road needs at most 2,000 samples.
 pub fn samples_fit(road: &LentRoad) -> bool
     ensures { result ≡ leb (samples_needed road.now) most_samples }
 {
-    let mut needed = 0;
-    for i in 0..road.geom_count() {
-        needed += sample_count(geom(road, i));
-        if MOST_SAMPLES < needed {
-            return false;
-        }
-    }
-    true
+    samples_needed(road) <= MOST_SAMPLES
 }
 
 impl Spiral {

@@ -14,10 +14,14 @@ use surface_station::{Axis, bearing_at, up_by};
 
 // The point at t of a pose, before it is stood off.
 fn plain_by(at: Bearing, bank: SinCos, elevation: f64, t: f64) -> SurfacePoint
-    ensures { result ≡ plain_by at.pose at.turn.sin at.turn.cos bank.sin bank.cos elevation t }
+    ensures { result ≡ plain_by at bank elevation t }
 {
     let Bearing { pose, turn } = at;
-    let PlanVector { x, y } = beside(pose.x, pose.y, turn, t * bank.cos);
+    let place = PlanVector {
+        x: pose.x,
+        y: pose.y,
+    };
+    let PlanVector { x, y } = beside(place, turn, t * bank.cos);
     SurfacePoint {
         x,
         y,

@@ -5,7 +5,8 @@ use Rattle.std.specs.Float.{binary64}
 use Rattle.std.specs.Float.Ieee.{neg}
 use Rattle.float_laws.specs.Binary64.{◌⊕◌, ◌⊖◌, ◌⊗◌, ◌⊘◌}
 use Rattle.arithmetic.specs.Root.{root_of}
-use Rattle.arithmetic_sine.specs.Sine.{sine_of, cosine_of}
+use Rattle.arithmetic_sine.specs.declared.sine.SinCos.{SinCos}
+use Rattle.arithmetic_sine.specs.Sine.{sine_of, cosine_of, sin_cos_of}
 use Rattle.records.specs.Active.{value_in, slope_in}
 use Rattle.records.specs.Roads.{Road}
 use Rattle.surface_station.specs.declared.axis.Axis.{Axis}
@@ -30,34 +31,31 @@ unfoldable pub unit_of : Axis → Axis
 unfolding root_of
 unit_of v = record { x = v.x ⊘ length_of v; y = v.y ⊘ length_of v; z = v.z ⊘ length_of v }
 
--- ---- from the sine and the cosine of the heading, the grade, the sine and the cosine of the bank
+-- ---- from the grade and two pairs of sine and cosine: turn, that of the heading, and bank
 
 -- along the reference line
-unfoldable pub along_by : Float → Float → Float → Axis
+unfoldable pub along_by : SinCos → Float → Axis
 unfolding unit_of
-along_by sin_turn cos_turn grade = unit_of (record { x = cos_turn; y = sin_turn; z = grade })
+along_by turn grade = unit_of (record { x = turn.cos; y = turn.sin; z = grade })
 
 -- across the road, tilted by the bank
-abbrev pub tilted_by : Float → Float → Float → Float → Axis
-tilted_by sin_turn cos_turn sin_bank cos_bank = record { x = neg sin_turn ⊗ cos_bank; y = cos_turn ⊗ cos_bank; z = sin_bank }
+abbrev pub tilted_by : SinCos → SinCos → Axis
+tilted_by turn bank = record { x = neg turn.sin ⊗ bank.cos; y = turn.cos ⊗ bank.cos; z = bank.sin }
 
 -- square to both
-unfoldable pub up_by : Float → Float → Float → Float → Float → Axis
+unfoldable pub up_by : SinCos → Float → SinCos → Axis
 unfolding unit_of cross_of along_by
-up_by sin_turn cos_turn grade sin_bank cos_bank = unit_of (cross_of (along_by sin_turn cos_turn grade) (tilted_by sin_turn cos_turn sin_bank cos_bank))
+up_by turn grade bank = unit_of (cross_of (along_by turn grade) (tilted_by turn bank))
 
 -- the second is `cross` of the third and the first, not normalised
-unfoldable pub axes_by : Float → Float → Float → Float → Float → Axes
+unfoldable pub axes_by : SinCos → Float → SinCos → Axes
 unfolding cross_of along_by up_by
-axes_by sin_turn cos_turn grade sin_bank cos_bank =
-    let along = along_by sin_turn cos_turn grade in
-    let up = up_by sin_turn cos_turn grade sin_bank cos_bank in
+axes_by turn grade bank =
+    let along = along_by turn grade in
+    let up = up_by turn grade bank in
     record { along = along; across = cross_of up along; up = up }
 
 -- ---- of a road at s, with the lent samples
 unfoldable pub axes_at : Road → List Float → Float → Axes
 unfolding axes_by pose_at sine_of cosine_of value_in slope_in
-axes_at road samples s =
-    let heading = (pose_at road samples s).heading in
-    let bank = value_in road.superelevations s in
-    axes_by (sine_of heading) (cosine_of heading) (slope_in road.elevations s) (sine_of bank) (cosine_of bank)
+axes_at road samples s = axes_by (sin_cos_of (pose_at road samples s).heading) (slope_in road.elevations s) (sin_cos_of (value_in road.superelevations s))

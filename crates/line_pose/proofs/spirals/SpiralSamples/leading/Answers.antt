@@ -1,5 +1,5 @@
 -- What is found is the first that does not lead.
-use Prim.Native.Nat.{◌+◌, ◌*◌}
+use Prim.Native.Nat.{◌*◌}
 use mathlib.Core.Path.{◌≡◌, sym, ◌∙◌}
 use mathlib.Core.Bool.{true, false}
 use lib.ListN.{get_or}
@@ -14,7 +14,7 @@ returns-clause-value c =
     let own = c.args.self.now in
     let d = c.args.d in
     let groups = c.leading_in_groups.ensures in
-    c.unwrap_or.ensures ∙ sym (groups.n_value ∙ lead_found own.samples.now d own.first own.count c.leading_in_groups.result c.find.result groups.small
-    (first_from_Range _ _ _ _ (λ k. le (get_or own.samples.now ((own.first + k) * 4) nan) d ≡ false) (λ k. le (get_or own.samples.now ((own.first + k) * 4) nan) d ≡ true) c.find.ensures.ran
+    c.unwrap_or.ensures ∙ sym (groups.n_value ∙ lead_found own.samples.now d own.count c.leading_in_groups.result c.find.result groups.small
+    (first_from_Range _ _ _ _ (λ k. le (get_or own.samples.now (k * 4) nan) d ≡ false) (λ k. le (get_or own.samples.now (k * 4) nan) d ≡ true) c.find.ensures.ran
     (λ x q k. search (rules, tests))
     (λ x q k. (search rules, search (rules, tests)))))

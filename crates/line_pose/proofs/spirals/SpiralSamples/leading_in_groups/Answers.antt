@@ -10,12 +10,12 @@ use Rattle.line_pose.proofs.spirals.SpiralSamples.leading_in_groups.Goals as goa
 pub overflow_mul-result : goal.overflow_mul-result
 overflow_mul-result c =
     let few = c.args.self.now.few in
-    omega (arith, few, c.unwrap_or.ensures, found-within c.find.result (c.args.self.now.count / 8) (first_from_Range _ _ _ _ (λ i. Unit {0}) (λ i. Unit {0}) c.find.ensures.ran (λ x q k. tt) (λ x q k. (search rules, tt))))
+    omega (arith, few, c.min-groups.ensures, c.unwrap_or.ensures, found-within c.find.result _ (first_from_Range _ _ _ _ (λ i. Unit {0}) (λ i. Unit {0}) c.find.ensures.ran (λ x q k. tt) (λ x q k. (search rules, tt))))
 
 pub returns-clause-n_value : goal.returns-clause-n_value
 returns-clause-n_value c =
     let own = c.args.self.now in
-    rw c.unwrap_or.ensures (groups_found own.samples.now c.args.d own.first own.count c.find.result
-    (first_from_Range _ _ _ _ (λ i. Unit {0}) (λ i. (m : ℕ) → leading own.samples.now (own.first + i * 8) c.args.d (m + 8) ≡ 8 + leading own.samples.now (own.first + i * 8 + 8) c.args.d m) c.find.ensures.ran
+    rw c.unwrap_or.ensures (groups_found own.samples.now c.args.d own.count _ c.find.result (omega (arith, c.min-groups.ensures))
+    (first_from_Range _ _ _ _ (λ i. Unit {0}) (λ i. (m : ℕ) → leading own.samples.now (i * 8) c.args.d (m + 8) ≡ 8 + leading own.samples.now (i * 8 + 8) c.args.d m) c.find.ensures.ran
     (λ x q k. tt)
     (λ x q k. (search rules, search (rules, tests)))))
