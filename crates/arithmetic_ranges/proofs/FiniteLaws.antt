@@ -1,4 +1,4 @@
--- A finite f64 is at most the largest in size, so the machine's test of a finite number is document 01's.
+-- A finite value is at most the largest of its format in size, so the machine's test of a finite f64 is document 01's.
 -- In units of the format's smallest value it is q × 2^j for a q below 2^53, and what of that kind lies below the overflow is at most (2^53 - 1) × 2^2045, the largest.
 use Prim.Native.Nat.{ℕ, zero, suc, ◌+◌, ◌-◌, ◌*◌, ◌/◌, ◌%◌, ◌^◌, ◌≤◌, ◌<◌}
 use native.Mathlib.Nat.{le_trans, le_of_eq, lt_of_le_of_lt, not-le_of_lt, mul-le-mul, mul-le-mul_right, mul_assoc, mul-one, zero-mul, zero-div, div-one}
@@ -10,6 +10,7 @@ use lib.Dec.{T, leb, ltb, eqb, leb→le, ltb→lt, nleb→lt}
 use lib.Pow.{pow_pos, pow_mono, pow-lt, pow-add, le_ones, shl-shr, shr_lt}
 use lib.Ieee.{Float, nan, inf, fin, Format, binary64, prec, low, emax, up, down, lt, le, neg, fits, of_bits}
 use lib.Ieee.Fits.{and_l, and_r}
+use lib.Ieee.Scale.{overflow}
 use Rattle.std.specs.Float.{float_is_finite}
 use lib.Ieee.Bits.{is_true}
 use Rattle.float_laws.specs.Binary64.{zero64}
@@ -65,16 +66,20 @@ grid_of f (fin s (suc m) e) r =
       units = u.1;
     }
 
+-- so the largest value of a format is at least every finite one in size
+pub within-top : (f : Format) (top : Float) (t : ℕ) → 2 ^ (prec f + t) ≡ overflow f → Real f top → (pl f top ≡ (2 ^ prec f - 1) * 2 ^ t) × (mi f top ≡ 0) → (x : Float) → Real f x → Within f x top
+within-top f top t o r p x v =
+    let g = grid_of f x v in
+    let h = most (prec f) t g.q g.j g.small (lt_of_le_of_lt (le_of_eq (sym g.units)) (subst (λ (n : ℕ). mag f x < n) (sym o) (under f x v))) in
+    record { value = v; bound = r; plus = p.1; le = le_trans (le_of_eq g.units) (le_trans h (le_of_eq (sym p.0))) }
+
 largest-parts : (pl binary64 largest ≡ (2 ^ 53 - 1) * 2 ^ 2045) × (mi binary64 largest ≡ 0)
 unfolding of_bits mag pl mi
 largest-parts = (refl, refl)
 
 within-largest : (x : Float) → Real binary64 x → Within binary64 x largest
 unfolding of_bits fits
-within-largest x r =
-    let g = grid_of binary64 x r in
-    let h = most 53 2045 g.q g.j g.small (lt_of_le_of_lt (le_of_eq (sym g.units)) (under binary64 x r)) in
-    record { value = r; bound = good-real binary64 largest tt; plus = largest-parts.1; le = le_trans (le_of_eq g.units) (le_trans h (le_of_eq (sym largest-parts.0))) }
+within-largest = within-top binary64 largest 2045 refl (good-real binary64 largest tt) largest-parts
 
 pub finite_is : (x : Float) → T (fits binary64 x) → float_is_finite x ≡ finite64 x
 unfolding float_is_finite of_bits lt le neg

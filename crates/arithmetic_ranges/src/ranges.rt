@@ -35,6 +35,7 @@ pub fn clamp(most: f64, x: f64) -> f64
     if most < up { most } else { up }
 }
 
+// By the library's `contains`; a function of its own, since what `contains` says of floats goes by `partial_cmp`, and each caller would prove anew that it is `in_range`, the definitions' word.
 pub fn in_range(lo: f64, hi: f64, x: f64) -> bool
     ensures { result ≡ in_range lo hi x }
 {

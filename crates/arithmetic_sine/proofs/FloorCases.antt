@@ -7,6 +7,9 @@ use mathlib.Core.Bool.{Bool, true, false, not, cond}
 use lib.Dec.{T, leb, leb→le, nleb→lt, lit≤}
 use lib.Ieee.{Float, nan, inf, fin, Format, binary64, low, hid, add, sub, neg, lt, le, eq, fits, is_nan, to_bits, of_bits}
 use Rattle.std.specs.Bool.{passes, fails}
+use Rattle.std.specs.Float.Ieee.{of_int}
+use Rattle.std.specs.Int.{from_bool}
+use lib.IntN.{pos}
 use Rattle.float_laws.proofs.Value.{mag, pl, mi, Real, mag_is, mi-le, lt→units, neg-real}
 use Rattle.float_laws.proofs.Interval.{nil, finite-between}
 use Rattle.float_laws.proofs.Size.{within-of_le}
@@ -63,6 +66,12 @@ real-no_nan f (fin s m e) r = tt
 unit-is : unit ≡ 2 ^ low binary64
 unfolding unit
 unit-is = refl
+
+-- a test as a float, as the code converts it
+pub over_is : (b : Bool) → of_int binary64 (pos (from_bool b)) ≡ cond b one nil
+unfolding of_int of_bits
+over_is true = refl
+over_is false = refl
 
 module _ (x : Float) (fit : T (fits binary64 x)) (a : T (le (neg below_reach) x)) (b : T (le x below_reach)) where
   real : Real binary64 x

@@ -1,4 +1,4 @@
-// The coefficients of the sine and the cosine: entry i is 1/n! for n = i + 2, rounded, negative where n mod 4 is 2 or 3.
+// The coefficients of the sine and the cosine: entry i is 1/n! for n = i + 2, rounded, negative where n mod 4 is 2 or 3. One table, since that is one rule, checked once over all entries; the sine and the cosine each take every second one.
 
 pub(crate) const QUOTIENTS: [f64; 15] = [
     -0.5,

@@ -20,9 +20,9 @@ pub struct Vector {
 impl Add<Vector> for Point {
     type Output = Point;
 
-    fn add(self, v: Vector) -> Point
-        ensures { result ≡ moved_by self v }
-    {
+    ghost add_gives = { λ a v b. b ≡ moved_by a v };
+
+    fn add(self, v: Vector) -> Point {
         Point {
             x: self.x + v.x,
             y: self.y + v.y,
@@ -34,9 +34,9 @@ impl Add<Vector> for Point {
 impl Add for Vector {
     type Output = Vector;
 
-    fn add(self, b: Vector) -> Vector
-        ensures { result ≡ sum_of self b }
-    {
+    ghost add_gives = { λ a b sum. sum ≡ sum_of a b };
+
+    fn add(self, b: Vector) -> Vector {
         Vector {
             x: self.x + b.x,
             y: self.y + b.y,
@@ -48,9 +48,9 @@ impl Add for Vector {
 impl Sub for Vector {
     type Output = Vector;
 
-    fn sub(self, b: Vector) -> Vector
-        ensures { result ≡ difference_of self b }
-    {
+    ghost sub_gives = { λ a b way. way ≡ difference_of a b };
+
+    fn sub(self, b: Vector) -> Vector {
         Vector {
             x: self.x - b.x,
             y: self.y - b.y,
@@ -62,9 +62,9 @@ impl Sub for Vector {
 impl Mul<f32> for Vector {
     type Output = Vector;
 
-    fn mul(self, k: f32) -> Vector
-        ensures { result ≡ scaled_by self k }
-    {
+    ghost mul_gives = { λ v k scaled. scaled ≡ scaled_by v k };
+
+    fn mul(self, k: f32) -> Vector {
         Vector {
             x: self.x * k,
             y: self.y * k,
@@ -105,7 +105,7 @@ impl Vector {
         self.x * b.x + self.y * b.y + self.z * b.z
     }
 
-    // The cross product, right-handed: of x and y it is z. Not one function with surface_station's `cross`, which differs in the width: the operators' bounds tell of no function, so it takes a trait of products and differences with an impl for each width and both structs taken apart, sixty lines for these ten (tried: it proves).
+    // The cross product, right-handed: of x and y it is z. Not one function with surface_station's `cross`, which differs in the width: the operators' bounds give a relation, `mul_gives`, and no function that a contract could name, so it takes a trait of products and differences with an impl for each width and both structs taken apart, sixty lines for these ten (tried: it proves).
     fn cross(self, b: Vector) -> Vector
         ensures { result ≡ cross_of self b }
     {
@@ -124,13 +124,13 @@ impl Vector {
         root32(self.dot(self))
     }
 
-    // The vector over its length, by one quotient; zero where the length is 0 or not finite. By two comparisons, as the definition says it: `is_finite` tests the size of a length that has no sign.
-    #[tactic(auto, unfolding(crate::specs::Vectors::unit_of))]
+    // The vector over its length, by one quotient; zero where the length is 0 or not finite.
+    #[tactic(auto, using(crate::proofs::LengthLaws::positive_is), unfolding(crate::specs::Vectors::unit_of))]
     pub fn unit(self) -> Vector
         ensures { result ≡ unit_of self }
     {
         let len = self.length();
-        if (0.0 < len) & (len <= f32::MAX) {
+        if (0.0 < len) & len.is_finite() {
             return self * (1.0 / len);
         }
         Vector::ZERO

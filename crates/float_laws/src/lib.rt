@@ -19,6 +19,9 @@
 //   Checker      `Ex`: straight-line code as data; `check`, `bisect` and `sweep` compute a bound on its value and so prove it
 //   Nearest      a quotient to the nearest whole number, by the tests of code on integers
 //   Pattern      the bit pattern of a rounded fraction
+//   Same         a value by its sign and its magnitude in units, and back
+//   Whole        whole numbers among the values: small sums are exact; x + c less c is x to the nearest whole number
+//   Zero         x less +0 is x itself, a zero's sign too
 //
 // Which to take:
 //   a bound that the program computes from sizes and tests                     Size (`Within`; `nn` and `fin-of_le` show that it is finite)
@@ -28,5 +31,6 @@
 //   a comparison of two results                                                Order, or `is_le` of Exact
 //   a loop that adds                                                           `sum-none` and `sum_step` of Order
 //   a mean of two values, or a piece of a polyline                             Interpolate
+//   a count in floats, or a float to the nearest whole number                  Whole
 //   a direction                                                                UnitVector; `norm-within` of Exact where only sizes matter
 #![tactic(auto)]

@@ -13,9 +13,9 @@ pub struct BorderHeights {
 impl From<HeightDef> for BorderHeights {
     ghost use Rattle.lanes.specs.Lateral.{height_held};
 
-    fn from(h: HeightDef) -> BorderHeights
-        ensures { result ≡ height_held h }
-    {
+    ghost from_gives = { λ h held. held ≡ height_held h };
+
+    fn from(h: HeightDef) -> BorderHeights {
         BorderHeights {
             inner: h.inner,
             outer: h.outer,

@@ -3,7 +3,7 @@ ghost use Rattle.std.specs.Prelude.{◌≡◌, ◌*◌, ◌/◌, cond, leb, leng
 ghost use Rattle.lanes_borders.specs.Borders.{borders_at, lanes_of, side_list};
 ghost use Rattle.lanes_border_list.specs.BorderList.{listed_by};
 
-use lanes_borders::SideAt;
+use lanes_borders::{SideAt, section_lanes};
 use records::LentRoad;
 
 // The numbers that a lane's borders take in a lent list: inner, outer, width. The C interface lends the list flat.
@@ -15,13 +15,11 @@ fn write_side(side: &SideAt, list: &mut [f64])
     ensures { list.new ≡ side_list (borders_at side.now.lanes side.now.sign side.now.base side.now.into) (length side.now.lanes) }
 {
     let mut inner = side.base;
-    // By places, and not by chunks_exact_mut: tried, and the proof did not close, since a loop's invariant has no name for what the chunks written
-    // so far hold.
+    // by index: once a loop over `chunks_exact_mut` is over, a proof knows how long the list is and not what it holds
     for k in 0..side.lanes.len() {
         let b = side.border(k, inner);
-        list[k * BORDERS_STRIDE] = b.inner;
-        list[k * BORDERS_STRIDE + 1] = b.outer;
-        list[k * BORDERS_STRIDE + 2] = b.width;
+        let at = k * BORDERS_STRIDE;
+        list[at..at + BORDERS_STRIDE].copy_from_slice(&[b.inner, b.outer, b.width]);
         inner = b.outer;
     }
 }
@@ -31,11 +29,11 @@ pub fn list_borders(road: &LentRoad, section: usize, s: f64, list: &mut [f64]) -
     ensures value { result ≡ cond (leb (lanes_of road.now section) (length list.old / 3)) (Some (lanes_of road.now section)) None }
     ensures list_after { list.new ≡ listed_by (leb (lanes_of road.now section) (length list.old / 3)) road.now section s list.old }
 {
-    let (left, right) = SideAt::both(road, section, s);
-    let lanes = left.lanes.len() + right.lanes.len();
+    let lanes = section_lanes(road, section);
     if list.len() / BORDERS_STRIDE < lanes {
         return None;
     }
+    let (left, right) = SideAt::both(road, section, s);
     let (written, _) = list.split_at_mut(lanes * BORDERS_STRIDE);
     let (lefts, rights) = written.split_at_mut(left.lanes.len() * BORDERS_STRIDE);
     write_side(&left, lefts);

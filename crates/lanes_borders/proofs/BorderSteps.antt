@@ -1,21 +1,20 @@
 -- The steps of a side's borders as the code takes them: the running outer border, and a side's numbers written into a list.
 use mathlib.Core.Path.{◌≡◌, refl, sym, ap, ◌∙◌}
 use mathlib.Core.Bool.{Bool, true, false}
-use mathlib.Core.List.{List, [], ◌∷◌, ◌++◌, append-nil}
+use mathlib.Core.List.{List, [], ◌∷◌, ◌++◌, append-nil, append_assoc}
 use mathlib.Core.Logic.{⊎_elim}
-use Prim.Native.Nat.{ℕ, zero, suc, ◌+◌, ◌*◌, ◌≤◌, ◌<◌}
+use Prim.Native.Nat.{ℕ, zero, suc, ◌+◌, ◌-◌, ◌*◌, ◌<◌}
 use native.Mathlib.Nat.{eq-or-lt_of_le, le_of_suc-le-suc}
 use native.Mathlib.Omega.{arith}
 use native.Mathlib.Numerals.{add-one}
-use lib.ListN.{length, get_or, drop, set, length-append, drop_of_length-le, get_or-append}
-use lib.Seq.{get_or-append-add}
+use lib.ListN.{length, get_or, take, drop, length-append, drop_of_length-le, get_or-append}
+use lib.Seq.{get_or-append-add, take_at, drop_at, drop-drop}
 use lib.Ieee.{Float}
 use Rattle.float_laws.specs.Binary64.{◌⊖◌}
-use Rattle.records_lent.proofs.StoreLaws.{three-stores}
 use Rattle.records.specs.Roads.{Road, Lane, no_lane, section_of}
 use Rattle.lanes_borders.specs.declared.borders.LaneBorders.{LaneBorders}
 use Rattle.lanes.specs.Sides.{sign_of}
-use Rattle.lanes_borders.specs.Borders.{outer_after, borders_from, borders_at, base_at, side_lanes, borders_of, side_list, border_list}
+use Rattle.lanes_borders.specs.Borders.{outer_after, borders_from, borders_at, base_at, side_lanes, lanes_of, borders_of, side_list, border_list}
 
 -- ---- the running outer border
 
@@ -51,19 +50,16 @@ module _ (b : ℕ → LaneBorders) (old : List Float) where
   unfolding side_list
   side-none = refl
 
-  -- one lane more: three numbers
+  -- one lane more: the three numbers of its part of the list
   pub side-turn :
-      (list : List Float) (k : ℕ) {x : LaneBorders} → x ≡ b k → (k + 1) * 3 ≤ length old → list ≡ side_list b k ++ drop (k * 3) old
-      → set (set (set list (k * 3) x.inner) (k * 3 + 1) x.outer) (k * 3 + 2) x.width ≡ side_list b (k + 1) ++ drop ((k + 1) * 3) old
-  side-turn list k {x} e h f =
+      (list : List Float) (k : ℕ) {x : LaneBorders} {ys : List Float} → x ≡ b k → ys ≡ three x → list ≡ side_list b k ++ drop (k * 3) old
+      → take (k * 3) list ++ (ys ++ drop (k * 3 + 3 - k * 3) (drop (k * 3) list)) ≡ side_list b (k + 1) ++ drop ((k + 1) * 3) old
+  side-turn list k e g f =
       let i = k * 3 in
       let p = side_list b k in
-      let n : i + 3 ≡ (k + 1) * 3 = omega arith in
-      ap (λ (l : List Float). set (set (set l i x.inner) (i + 1) x.outer) (i + 2) x.width) f
-      ∙ ap (λ (y : LaneBorders). set (set (set (p ++ drop i old) i y.inner) (i + 1) y.outer) (i + 2) y.width) e
-      ∙ three-stores p old i (b k).inner (b k).outer (b k).width (side-length b k) (omega arith)
-      ∙ ap (λ (m : ℕ). (p ++ three (b k)) ++ drop m old) n
-      ∙ ap (λ (r : List Float). r ++ drop ((k + 1) * 3) old) (sym (side-suc b k))
+      let n : i + (i + 3 - i) ≡ (k + 1) * 3 = omega arith in
+      let l = side-length b k in
+      rw (f, take_at p (drop i old) i l, drop_at p (drop i old) i l, g, e, drop-drop (i + 3 - i) i old, n, side-suc b k) (sym (append_assoc p (three (b k)) (drop ((k + 1) * 3) old)))
 
   pub side-all : (list : List Float) (k : ℕ) → length old ≡ k * 3 → list ≡ side_list b k ++ drop (k * 3) old → list ≡ side_list b k
   side-all list k e f = f ∙ ap (λ (r : List Float). side_list b k ++ r) (drop_of_length-le old (omega arith)) ∙ append-nil (side_list b k)
@@ -119,15 +115,15 @@ list_length road i s =
 
 -- the two sides written, and the rest of the old list
 pub borders_written_lem :
-    (road : Road) (i : ℕ) (s : Float) (old : List Float) {l₁ l₂ rest : List Float} {start base : Float} {m n : ℕ} → start ≡ (section_of road i).start → base ≡ base_at road s
-    → m ≡ length (side_lanes road i false) → n ≡ length (side_lanes road i true)
+    (road : Road) (i : ℕ) (s : Float) (old : List Float) {l₁ l₂ rest : List Float} {start base : Float} {n : ℕ} → start ≡ (section_of road i).start → base ≡ base_at road s
+    → n ≡ lanes_of road i
     → l₁ ≡ side_list (borders_at (side_lanes road i false) (sign_of false) base (s ⊖ start)) (length (side_lanes road i false))
     → l₂ ≡ side_list (borders_at (side_lanes road i true) (sign_of true) base (s ⊖ start)) (length (side_lanes road i true))
-    → rest ≡ drop ((m + n) * 3) old → (l₁ ++ l₂) ++ rest ≡ border_list road i s ++ drop (length (border_list road i s)) old
-borders_written_lem road i s old {l₁} {l₂} {rest} {start} {base} {m} {n} p q a b e f h =
+    → rest ≡ drop (n * 3) old → (l₁ ++ l₂) ++ rest ≡ border_list road i s ++ drop (length (border_list road i s)) old
+borders_written_lem road i s old {l₁} {l₂} {rest} {start} {base} {n} p q a e f h =
     let g : l₁ ++ l₂ ≡ border_list road i s = unfold border_list in rw (e, f, p, q) in
     let k = list_length road i s in
-    let j : (m + n) * 3 ≡ length (border_list road i s) = omega arith in
+    let j : n * 3 ≡ length (border_list road i s) = omega arith in
     ap (λ (r : List Float). r ++ rest) g ∙ ap (λ (r : List Float). border_list road i s ++ r) (h ∙ ap (λ (x : ℕ). drop x old) j)
 
 -- the first lane's inner border is the base

@@ -1,6 +1,5 @@
 // Where the lanes of a section lie across the road. A side is left or right of the center; its lanes count from the center outward.
-// lane, into, sign and inner stay four parameters of three functions, each the next one's step: inner is another at each lane, so one value of the four would be
-// built for each and taken apart at once. What stays the same along a side is `SideAt`.
+// What stays the same along a side is `SideAt`; its sign and its metres into the section are any f64, so a border is worked out for every f64.
 ghost use Rattle.std.specs.Prelude.{◌≡◌};
 ghost use Rattle.records.specs.Active.{active_in};
 ghost use Rattle.lanes_borders.specs.Borders.{border_width, width_of, borders_from, base_at, lanes_of, borders_of};
@@ -34,37 +33,39 @@ pub fn section_lanes(road: &LentRoad, section: usize) -> usize
     lane_count(road, section, false) + lane_count(road, section, true)
 }
 
-// A border lane's width at a distance into its section: from its inner border to the active record's t, 0 where none is active.
-fn border_width(lane: &LentLane, into: f64, sign: f64, inner: f64) -> f64
-    ensures { result ≡ border_width lane.now sign inner into (active_in lane.now.extents into) }
-{
-    match active_cubic(&lane.extents, into) {
-        Some(border) => sign * (border.eval(into) - inner),
-        None => 0.0,
+impl<'a> SideAt<'a> {
+    // A border lane's width: from its inner border to the active record's t, 0 where none is active.
+    fn border_width(&self, lane: &LentLane, inner: f64) -> f64
+        ensures { result ≡ border_width lane.now self.now.sign inner self.now.into (active_in lane.now.extents self.now.into) }
+    {
+        match active_cubic(&lane.extents, self.into) {
+            Some(border) => self.sign * (border.eval(self.into) - inner),
+            None => 0.0,
+        }
     }
-}
 
-// The width of a lane at a distance into its section: the one way to a width.
-pub fn lane_width(lane: &LentLane, into: f64, sign: f64, inner: f64) -> f64
-    ensures { result ≡ width_of lane.now sign inner into }
-{
-    let width = if lane.border {
-        border_width(lane, into, sign, inner)
-    } else {
-        value(&lane.extents, into)
-    };
-    width_or_zero(width)
-}
+    // The width of a lane from its inner border: the one way to a width.
+    pub fn width(&self, lane: &LentLane, inner: f64) -> f64
+        ensures { result ≡ width_of lane.now self.now.sign inner self.now.into }
+    {
+        let width = if lane.border {
+            self.border_width(lane, inner)
+        } else {
+            value(&lane.extents, self.into)
+        };
+        width_or_zero(width)
+    }
 
-// A lane's borders from its inner one, at a distance into its section: one step outward. sign is a number, since the function answers for every f64.
-pub fn border_from(lane: &LentLane, into: f64, sign: f64, inner: f64) -> LaneBorders
-    ensures { result ≡ borders_from lane.now sign inner into }
-{
-    let width = lane_width(lane, into, sign, inner);
-    LaneBorders {
-        inner,
-        outer: inner + sign * width,
-        width,
+    // A lane's borders from its inner one: one step outward.
+    pub fn borders(&self, lane: &LentLane, inner: f64) -> LaneBorders
+        ensures { result ≡ borders_from lane.now self.now.sign inner self.now.into }
+    {
+        let width = self.width(lane, inner);
+        LaneBorders {
+            inner,
+            outer: inner + self.sign * width,
+            width,
+        }
     }
 }
 

@@ -4,5 +4,5 @@
 mod borders;
 mod sides;
 
-pub use borders::{LaneBorders, base_at, border_from, lane_borders, lane_width, section_lanes};
+pub use borders::{LaneBorders, base_at, lane_borders, section_lanes};
 pub use sides::SideAt;

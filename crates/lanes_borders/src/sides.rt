@@ -4,7 +4,7 @@ ghost use Rattle.records.specs.Roads.{no_lane};
 ghost use Rattle.lanes_borders.specs.Borders.{outer_after, borders_from};
 ghost use Rattle.lanes_borders.specs.Sides.{side_at};
 
-use crate::borders::{LaneBorders, base_at, border_from};
+use crate::borders::{LaneBorders, base_at};
 use lanes::sign_of;
 use records::LentRoad;
 use records_lanes::LentSide;
@@ -51,7 +51,7 @@ impl<'a> SideAt<'a> {
     pub fn border(&self, k: usize, inner: f64) -> LaneBorders
         ensures { result ≡ borders_from (get_or self.now.lanes k no_lane) self.now.sign inner self.now.into }
     {
-        border_from(&self.lanes.get(k), self.into, self.sign, inner)
+        self.borders(&self.lanes.get(k), inner)
     }
 
     // The outer border of the first n lanes, the center where n is 0.

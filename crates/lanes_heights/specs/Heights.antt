@@ -6,11 +6,12 @@ use Rattle.float_laws.specs.Binary64.{◌⊕◌, ◌⊖◌, ◌⊗◌}
 use Rattle.records_lent.specs.Lists.{any_below}
 use Rattle.records.specs.Roads.{Road, Lane, no_lane, section_of}
 use Rattle.lanes_borders.specs.declared.borders.LaneBorders.{LaneBorders}
+use Rattle.lanes_borders.specs.declared.sides.SideAt.{SideAt}
 use Rattle.lanes.specs.declared.border_heights.BorderHeights.{BorderHeights}
 use Rattle.lanes_heights.specs.declared.across.Across.{Across}
 use Rattle.lanes.specs.Lateral.{height_of, height_toward}
 use Rattle.lanes.specs.Sides.{sign_of}
-use Rattle.lanes_borders.specs.Borders.{base_at, side_lanes, borders_of}
+use Rattle.lanes_borders.specs.Borders.{base_at, side_lanes, borders_from, borders_of}
 
 -- "Level holds from its lane outward": the k-th lane or one inside it is level
 unfoldable pub level_up_to : List Lane → ℕ → Bool
@@ -30,6 +31,11 @@ abbrev pub across_by : Road → Float → BorderHeights → LaneBorders → Floa
 across_by road s own b foot sign tangent level =
     let h = cond level (level_heights own foot sign b.width tangent) (tilted_heights road s own b sign) in
     record { inner_t = b.inner; outer_t = b.outer; inner_height = h.inner; outer_height = h.outer }
+
+-- the same of a side of a road at a station, from the lane's inner border
+abbrev pub across_from : Road → Float → SideAt → Float → Lane → Float → Float → Bool → Across
+across_from road s side tangent lane inner foot level =
+    across_by road s (height_of lane.heights side.into) (borders_from lane side.sign inner side.into) foot side.sign tangent level
 
 module _ (road : Road) (i : ℕ) (s : Float) (tangent : Float) (right : Bool) where
   -- `height_at` of the k-th lane

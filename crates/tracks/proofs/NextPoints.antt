@@ -1,30 +1,21 @@
--- The point after the i-th, and the tangent there, by the greatest number of a usize where there is none after i: past the end every point is one of NaNs.
+-- The point after the i-th, by the greatest number of a usize where there is none after i: past the end every point is one of NaNs.
 use Prim.Native.Nat.{ℕ, suc, ◌+◌, ◌-◌, ◌*◌, ◌^◌, ◌≤◌, ◌<◌, min}
 use native.Mathlib.Omega.{arith}
-use native.Mathlib.Numerals.{add-one}
 use mathlib.Core.Path.{◌≡◌, refl, sym, ap, ◌∙◌}
 use mathlib.Core.List.{List}
 use mathlib.Core.Bool.{Bool, true, false}
-use lib.Dec.{leb, ltb}
-use borrow.Author.Tests.{le-ltb, leb-true, leb-false}
+use lib.Dec.{leb}
+use borrow.Author.Tests.{leb-true, leb-false}
 use lib.ListN.{length, get_or, get_or-eq_default}
 use lib.Ieee.{Float, nan}
 use Rattle.records.specs.declared.points.Point.{Point}
-use Rattle.coordinates.specs.declared.vectors.Vector.{Vector}
 use Rattle.coordinates.specs.Points.{point_at}
-use Rattle.coordinates.specs.Vectors.{place, unit_of, sum_of, zero_vector, vector_between}
+use Rattle.coordinates.specs.Vectors.{place}
 use Rattle.tracks.specs.declared.segments.Segment.{Segment}
-use Rattle.tracks.specs.Lines.{count_of, segment_at}
-use Rattle.tracks.specs.Tangents.{tangent_of, direction_of}
-use Rattle.tracks.specs.Poses.{heading_at}
+use Rattle.tracks.specs.Lines.{segment_at}
 
 abbrev none : Point
 none = place nan nan nan
-
--- the tangent between two points that are none, the second past the last of n
-tangent-among : (p : ℕ → Point) (n k : ℕ) → p k ≡ none → p (suc k) ≡ none → ltb (suc k + 1) n ≡ false → tangent_of p n (suc k) ≡ unit_of (sum_of (direction_of none none) zero_vector)
-unfolding tangent_of
-tangent-among p n k e f g = rw (e, f, g)
 
 module _ (xs : List Float) (l : length xs < 2 ^ 63) where
   past : (i : ℕ) → length xs ≤ i → point_at xs i ≡ none
@@ -53,18 +44,3 @@ module _ (xs : List Float) (l : length xs < 2 ^ 63) where
 
   pub segment_is : (i : ℕ) {j : ℕ} {x y : Point} → j ≡ min (i + 1) (2 ^ 64 - 1) → x ≡ point_at xs i → y ≡ point_at xs j → ◌≡◌ {A = Segment} (record { from = x; to = y }) (segment_at (point_at xs) i)
   segment_is i e f g = rw (f, g, point-next i e)
-
-  tangent-past : (k : ℕ) → length xs ≤ k → tangent_of (point_at xs) (count_of xs) (suc k) ≡ unit_of (sum_of (direction_of none none) zero_vector)
-  tangent-past k h = tangent-among (point_at xs) (count_of xs) k (past k h) (past (suc k) (omega arith)) (le-ltb (suc k + 1) (count_of xs) (omega arith))
-
-  tangent-next : (i : ℕ) {j : ℕ} → j ≡ min (i + 1) (2 ^ 64 - 1) → tangent_of (point_at xs) (count_of xs) j ≡ tangent_of (point_at xs) (count_of xs) (i + 1)
-  tangent-next i {j} e = go (after i e)
-    where
-      go : After i j → tangent_of (point_at xs) (count_of xs) j ≡ tangent_of (point_at xs) (count_of xs) (i + 1)
-      go (next f) = ap (tangent_of (point_at xs) (count_of xs)) (f ∙ sym (add-one i))
-      go (far a b f) = ap (tangent_of (point_at xs) (count_of xs)) (sym f) ∙ tangent-past (j - 1) a ∙ sym (tangent-past i b) ∙ ap (tangent_of (point_at xs) (count_of xs)) (sym (add-one i))
-
-  pub heading_is : (i : ℕ) (t : Float) {j : ℕ} {x y v h : Vector} → j ≡ min (i + 1) (2 ^ 64 - 1) → x ≡ tangent_of (point_at xs) (count_of xs) i → y ≡ tangent_of (point_at xs) (count_of xs) j → v ≡ vector_between x y t → h ≡ unit_of v
-      → h ≡ heading_at (point_at xs) (count_of xs) i t
-  unfolding heading_at
-  heading_is i t e f g k h = rw (h, k, f, g, tangent-next i e)

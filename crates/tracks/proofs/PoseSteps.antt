@@ -115,10 +115,10 @@ joined : {x y : Point} {h k : Vector} → x ≡ y → h ≡ k → posed x h ≡ 
 joined e f = rw (e, f)
 
 module _ (p : ℕ → Point) (n : ℕ) (s : Float) where
-  pub spot_is : {len d from to t : Float} {i : ℕ} → len ≡ length_to p (n - 1) → d ≡ clamp_of zero32 len s → i ≡ segment_of p n d → from ≡ length_to p i → to ≡ length_to p (suc i) → t ≡ fraction_along from to d
+  pub spot_is : {d from to t : Float} {i : ℕ} → d ≡ clamp_of zero32 (length_to p (n - 1)) s → i ≡ segment_of p n d → from ≡ length_to p i → to ≡ length_to p (suc i) → t ≡ fraction_along from to d
       → ◌≡◌ {A = Spot} (record { segment = i; t = t }) (spot_of p n s)
   unfolding spot_of
-  spot_is hl hd hi hf ht h = rw (h, hf, ht, hi, hd, hl)
+  spot_is hd hi hf ht h = rw (h, hf, ht, hi, hd)
 
   pub pose_is : {at : Spot} {on : Segment} {x : Point} {h : Vector} → at ≡ spot_of p n s → on ≡ segment_at p at.segment → x ≡ place_between on.from on.to at.t → h ≡ heading_at p n at.segment at.t
       → posed x h ≡ track_pose_of p n s

@@ -1,13 +1,13 @@
 -- The tangents' numbers written into a list.
-use Prim.Native.Nat.{ℕ, zero, suc, ◌+◌, ◌*◌, ◌≤◌, ◌<◌}
+use Prim.Native.Nat.{ℕ, zero, suc, ◌+◌, ◌-◌, ◌*◌, ◌<◌}
 use native.Mathlib.Omega.{arith}
 use native.Mathlib.Numerals.{add-one}
-use mathlib.Core.Path.{◌≡◌, refl, ◌∙◌}
-use mathlib.Core.List.{List, [], ◌∷◌, ◌++◌}
+use mathlib.Core.Path.{◌≡◌, refl, sym, ap, ◌∙◌}
+use mathlib.Core.List.{List, [], ◌∷◌, ◌++◌, append_assoc}
 use borrow.Author.Tests.{lt-ltb}
-use lib.ListN.{length, drop, set, length-append}
+use lib.ListN.{length, take, drop, length-append}
+use lib.Seq.{take_at, drop_at, drop-drop}
 use lib.Ieee.{Float}
-use Rattle.records_lent.proofs.StoreLaws.{three-stores}
 use Rattle.records.specs.declared.points.Point.{Point}
 use Rattle.coordinates.specs.declared.vectors.Vector.{Vector}
 use Rattle.coordinates.specs.Vectors.{sum_of, unit_of}
@@ -31,10 +31,17 @@ module _ (p : ℕ → Point) (n : ℕ) where
   numbers-length zero = refl
   numbers-length (suc k) = length-append (tangent_numbers p n k) ((tangent_of p n k).x ∷ (tangent_of p n k).y ∷ (tangent_of p n k).z ∷ []) ∙ (let e = numbers-length k in omega arith)
 
-  -- one point's three numbers more
-  pub written_next : (old list : List Float) (k : ℕ) {t : Vector} → t ≡ tangent_of p n k → k * 3 + 3 ≤ length old → list ≡ tangent_numbers p n k ++ drop (k * 3) old
-      → set (set (set list (k * 3) t.x) (k * 3 + 1) t.y) (k * 3 + 2) t.z ≡ tangent_numbers p n (k + 1) ++ drop ((k + 1) * 3) old
+  numbers-suc : (k : ℕ) → tangent_numbers p n (k + 1) ≡ tangent_numbers p n k ++ ((tangent_of p n k).x ∷ (tangent_of p n k).y ∷ (tangent_of p n k).z ∷ [])
   unfolding tangent_numbers
-  written_next old list k {t} e h f =
-      let i : (k + 1) * 3 ≡ k * 3 + 3 = omega arith in
-      rw (i, add-one k, f, e) (three-stores (tangent_numbers p n k) old (k * 3) (tangent_of p n k).x (tangent_of p n k).y (tangent_of p n k).z (numbers-length k) h)
+  numbers-suc k = ap (tangent_numbers p n) (add-one k)
+
+  -- one point more: the three numbers of its part of the list
+  pub written_next : (old list : List Float) (k : ℕ) {t : Vector} {ys : List Float} → t ≡ tangent_of p n k → ys ≡ t.x ∷ t.y ∷ t.z ∷ [] → list ≡ tangent_numbers p n k ++ drop (k * 3) old
+      → take (k * 3) list ++ (ys ++ drop (k * 3 + 3 - k * 3) (drop (k * 3) list)) ≡ tangent_numbers p n (k + 1) ++ drop ((k + 1) * 3) old
+  written_next old list k e g f =
+      let i = k * 3 in
+      let q = tangent_numbers p n k in
+      let t = tangent_of p n k in
+      let m : i + (i + 3 - i) ≡ (k + 1) * 3 = omega arith in
+      let l = numbers-length k in
+      rw (f, take_at q (drop i old) i l, drop_at q (drop i old) i l, g, e, drop-drop (i + 3 - i) i old, m, numbers-suc k) (sym (append_assoc q (t.x ∷ t.y ∷ t.z ∷ []) (drop ((k + 1) * 3) old)))

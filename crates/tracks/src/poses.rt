@@ -1,6 +1,6 @@
 // A track's position and heading at an arc length.
-ghost use Rattle.std.specs.Prelude.{◌≡◌, suc};
-ghost use Rattle.float_laws.specs.Binary32.{clamp_of};
+ghost use Rattle.std.specs.Prelude.{◌≡◌, suc, ◌+◌, ◌-◌, ◌<◌, ◌^◌};
+ghost use Rattle.float_laws.specs.Binary32.{zero32, clamp_of};
 ghost use Rattle.coordinates.specs.Points.{point_at};
 ghost use Rattle.tracks.specs.Lines.{count_of};
 ghost use Rattle.tracks.specs.Lengths.{length_to};
@@ -32,19 +32,6 @@ struct Stretch {
     to: f32,
 }
 
-// x raised to low where it is below, lowered to high where it is above; a NaN stays. The library's `clamp` wants low at most high, which an arc length that is NaN is not.
-fn clamped(low: f32, high: f32, x: f32) -> f32
-    ensures { result ≡ clamp_of low high x }
-{
-    if x < low {
-        return low;
-    }
-    if high < x {
-        return high;
-    }
-    x
-}
-
 // How far apart the arc lengths of a segment's ends are at most, where it is taken as a place.
 const LEAST_SPAN: f32 = 0.000001;
 
@@ -65,12 +52,13 @@ impl<'a> Track<'a> {
     // The segment that holds the arc length s: the last that starts at or before it.
     fn stretch_at(&self, s: f32) -> Stretch
         ensures segment_value { result.segment ≡ segment_of (point_at self.now) (count_of self.now) s }
+        ensures small { result.segment + 1 < 2 ^ 64 }
         ensures from_value { (result.from ≡ length_to (point_at self.now) result.segment) × (result.to ≡ length_to (point_at self.now) (suc result.segment)) }
     {
         let mut on = Stretch {
             segment: 0,
             from: 0.0,
-            to: 0.0 + self.segment(0).length(),
+            to: self.length_to(1),
         };
         let behind = 0.0 <= s;
         for i in 1..self.segment_count() {
@@ -86,12 +74,27 @@ impl<'a> Track<'a> {
         on
     }
 
+    // s held to 0..length; a NaN stays. The library's `clamp` wants 0 at most the length, which a length that is NaN is not.
+    fn held(&self, s: f32) -> f32
+        ensures { result ≡ clamp_of zero32 (length_to (point_at self.now) (count_of self.now - 1)) s }
+    {
+        let end = self.length();
+        if s < 0.0 {
+            0.0
+        } else if end < s {
+            end
+        } else {
+            s
+        }
+    }
+
     // The segment and the fraction at the arc length s, which is held to 0..length.
     #[tactic(auto, using(crate::proofs::PoseSteps::spot_is))]
     fn locate(&self, s: f32) -> Spot
-        ensures { result ≡ spot_of (point_at self.now) (count_of self.now) s }
+        ensures small { result.segment + 1 < 2 ^ 64 }
+        ensures value { result ≡ spot_of (point_at self.now) (count_of self.now) s }
     {
-        let held = clamped(0.0, self.length(), s);
+        let held = self.held(s);
         let on = self.stretch_at(held);
         Spot {
             segment: on.segment,
@@ -100,13 +103,12 @@ impl<'a> Track<'a> {
     }
 
     // The heading t of the way along segment i, between the tangents of its ends.
-    #[tactic(auto, using(crate::proofs::NextPoints::heading_is))]
+    #[tactic(auto, unfolding(crate::specs::Poses::heading_at))]
     fn heading(&self, i: usize, t: f32) -> Vector
+        requires { i + 1 < 2 ^ 64 }
         ensures { result ≡ heading_at (point_at self.now) (count_of self.now) i t }
     {
-        // so that the proof knows how long a track may be
-        let _ = &self.numbers;
-        vector_between(self.tangent(i), self.tangent(i.saturating_add(1)), t).unit()
+        vector_between(self.tangent(i), self.tangent(i + 1), t).unit()
     }
 
     // The track's pose at the arc length s, held to 0..length. A NaN s is in the first segment.

@@ -70,10 +70,9 @@ impl Segment {
     fn projection(self, on: Closest, from: f32) -> Projection
         ensures { result ≡ candidate_of (from_to self.from self.to) on.t on.point on.apart from }
     {
-        let way = self.way();
-        let left = way.horizontal().unit().left_normal();
+        let left = self.direction().left_normal();
         Projection {
-            s: from + way.length() * on.t,
+            s: from + self.length() * on.t,
             point: on.point,
             offset: on.apart.horizontal().dot(left),
         }

@@ -38,7 +38,7 @@ impl<'a> Track<'a> {
     }
 
     // Writes the tangent of each point into the list, three f32 each. A segment's direction is worked out once, at the point it leaves, and kept for the next.
-    // By index: the chunks of three that a list may be cut into would go with the points' numbers, and no contract of an adapter over mutable chunks tells what was written.
+    // By index: once a loop over `chunks_exact_mut` is over, a proof knows how long the list is and not what it holds.
     fn write_tangents(&self, list: &mut [f32])
         requires { count_of self.now * 3 ≤ length list.old }
         ensures { list.new ≡ tangent_numbers (point_at self.now) (count_of self.now) (count_of self.now) ++ drop (count_of self.now * 3) list.old }
@@ -48,9 +48,7 @@ impl<'a> Track<'a> {
             let outgoing = self.outgoing(i);
             let tangent = (incoming + outgoing).unit();
             let at = i * POINT_STRIDE;
-            list[at] = tangent.x;
-            list[at + 1] = tangent.y;
-            list[at + 2] = tangent.z;
+            list[at..at + POINT_STRIDE].copy_from_slice(&[tangent.x, tangent.y, tangent.z]);
             incoming = outgoing;
         }
     }

@@ -28,7 +28,7 @@ fn counted(points: &[f32]) -> bool
 fn inside(x: f32) -> bool
     ensures { result ≡ inside_size x }
 {
-    // not by a range's `contains`, whose way out at the first test takes three to five times as long on 512 points
+    // not by a range's `contains`, whose way out at the first test takes 1.8 times as long on 512 points, nor by `abs`, which takes 1.6 times
     (-GREATEST_COORDINATE <= x) & (x <= GREATEST_COORDINATE)
 }
 

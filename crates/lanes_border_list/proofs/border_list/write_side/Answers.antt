@@ -15,11 +15,9 @@ loop-k-preserved c =
     let at = c.loop-k in
     let a = c.args.side.now in
     let list = c.args.list.now in
-    let more = c.loop-k-test.true in
-    let most = c.len-k-end.ensures.value in
     let made = c.border-b.ensures in (
       outer-turn a.lanes a.sign a.base a.into at.k at.invariant.0 made,
-      side-turn (borders_at a.lanes a.sign a.base a.into) list at.list at.k (borders-turn a.lanes a.sign a.base a.into at.k at.invariant.0 made) (omega arith) at.invariant.1,
+      side-turn (borders_at a.lanes a.sign a.base a.into) list at.list at.k (borders-turn a.lanes a.sign a.base a.into at.k at.invariant.0 made) c.copy_from_slice.ensures.after at.invariant.1,
     )
 
 pub returns : goal.returns

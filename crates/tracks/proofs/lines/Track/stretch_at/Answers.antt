@@ -12,7 +12,7 @@ pub loop-i-init : goal.loop-i-init
 loop-i-init c =
     let xs = c.args.self.now in
     let p = point_at xs in
-    (refl, walk_none p (count_of xs) c.args.s, length_none p, length_next p 0 (length_none p) c.segment.ensures c.length.ensures)
+    (refl, walk_none p (count_of xs) c.args.s, length_none p, c.length_to.ensures)
 
 pub returns-then-not-behind-on-clause-segment_value : goal.returns-then-not-behind-on-clause-segment_value
 returns-then-not-behind-on-clause-segment_value c =
@@ -28,7 +28,7 @@ loop-i-preserved c =
     let e = at.invariant.0 in
     let next = walk_next p (count_of xs) c.args.s at.on.segment at.invariant.1 at.invariant.3 (omega arith) c.if-not-behind-on.false in
     let from : at.on.to ≡ length_to p at.i = rw e at.invariant.3 in
-    (omega arith, rw e next, from, rw (← add-one at.i) (length_next p at.i from c.segment-in-loop-i.ensures c.length-in-loop-i.ensures))
+    (omega arith, rw e next, from, rw (← add-one at.i) (length_next p at.i from c.segment.ensures c.length.ensures))
 
 pub returns-clause-segment_value : goal.returns-clause-segment_value
 returns-clause-segment_value c =

@@ -2,11 +2,11 @@
 use mathlib.Core.Path.{◌≡◌}
 use mathlib.Core.List.{◌++◌}
 use Prim.Native.Nat.{◌<◌, ◌*◌}
-use lib.ListN.{length, drop}
+use lib.ListN.{drop}
 use Rattle.coordinates.specs.Points.{point_at}
 use Rattle.tracks.specs.Lines.{count_of}
 use Rattle.tracks.specs.Tangents.{incoming_of, tangent_numbers}
 use Rattle.tracks.proofs.lines.Track.write_tangents.Given as goal
 
 abbrev pub invariant-loop-i : goal.invariant-loop-i
-invariant-loop-i l = (length l.list ≡ length l.initial.list) × (l.list ≡ tangent_numbers (point_at l.self) (count_of l.self) l.i ++ drop (l.i * 3) l.initial.list) × (l.i < count_of l.self → l.incoming ≡ incoming_of (point_at l.self) l.i)
+invariant-loop-i l = (l.list ≡ tangent_numbers (point_at l.self) (count_of l.self) l.i ++ drop (l.i * 3) l.initial.list) × (l.i < count_of l.self → l.incoming ≡ incoming_of (point_at l.self) l.i)

@@ -2,7 +2,7 @@
 use mathlib.Core.Path.{sym, ◌∙◌}
 use Rattle.records.specs.Active.{active_in, last_start}
 use Rattle.records_active.proofs.ActiveLaws.{place-of_some, place-of_none}
-use Rattle.lanes_borders.proofs.borders.border_width.Goals as goal
+use Rattle.lanes_borders.proofs.sides.SideAt.border_width.Goals as goal
 
 pub returns-in-Some : goal.returns-in-Some
 unfolding active_in last_start

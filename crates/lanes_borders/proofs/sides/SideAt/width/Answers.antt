@@ -1,7 +1,7 @@
--- `lane_width`: by the kind of the lane.
+-- `width`: by the kind of the lane.
 use Rattle.lanes_borders.specs.Borders.{width_of}
-use Rattle.lanes_borders.proofs.borders.lane_width.Goals as goal
-use Rattle.lanes_borders.proofs.borders.lane_width.Goals.{then-lane, else-lane}
+use Rattle.lanes_borders.proofs.sides.SideAt.width.Goals as goal
+use Rattle.lanes_borders.proofs.sides.SideAt.width.Goals.{then-lane, else-lane}
 
 pub returns : goal.returns
 unfolding width_of
