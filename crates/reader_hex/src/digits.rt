@@ -4,6 +4,11 @@ ghost use Rattle.reader_hex.specs.Hex.{byte_at, digit_of, digits_at, sixteen_bef
 
 use crate::bytes::{NO_DIGIT, digit};
 
+// How many digits write the pattern of an f64, and of an f32.
+pub const DOUBLE_DIGITS: usize = 16;
+
+pub const SINGLE_DIGITS: usize = 8;
+
 // The values of N bytes as digits, good or not: with no way out between them, they are worked out together.
 // A loop: `word.map(digit)` is proved too, but then cells of sixteen digits are read in five times the time (53 kB in 205 µs, by the loop in 42).
 fn values_of<const N: usize>(word: &[u8; N]) -> [u8; N]

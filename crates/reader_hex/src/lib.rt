@@ -7,5 +7,5 @@ mod digits;
 mod patterns;
 
 pub use bytes::{byte_at, digit};
-pub use digits::{eight_at, sixteen_at, sixteen_before};
+pub use digits::{DOUBLE_DIGITS, SINGLE_DIGITS, eight_at, sixteen_at, sixteen_before};
 pub use patterns::{bits_of, bits_of_single, of_bits};
