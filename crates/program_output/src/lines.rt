@@ -1,18 +1,18 @@
 // The lines that the program writes.
 ghost use Rattle.std.specs.Prelude.{◌+◌, ◌≤◌, ◌≡◌, ◌++◌, length};
 ghost use Rattle.refusals.specs.Answer.{answered};
-ghost use Rattle.program_output.specs.declared.text.TheConstants.{OUTPUT_NEEDED, WANT_LENGTH};
+ghost use Rattle.program_output.specs.declared.text.TheConstants.{OUTPUT_NEEDED, POINT_LENGTH, WANT_LENGTH};
 ghost use Rattle.program_output.specs.Lines.{point_line, output_line};
 
-use crate::text::{DOUBLE_DIGITS, SINGLE_DIGITS, Text, push_number, push_word};
-use reader_hex::bits_of_single;
+use crate::text::{Text, push_number, push_word};
+use reader_hex::{DOUBLE_DIGITS, SINGLE_DIGITS, bits_of_single};
 use records::Point;
 use refusals::Refusal;
 use surface_points::SurfacePoint32;
 
 // x, y and z, eight digits each, and the line's end.
 fn push_point(text: &mut Text, p: Point)
-    requires { length text.old + 27 ≤ OUTPUT_NEEDED }
+    requires { length text.old + POINT_LENGTH ≤ OUTPUT_NEEDED }
     ensures { text.new ≡ text.old ++ point_line p }
 {
     push_word(text, bits_of_single(p.x), SINGLE_DIGITS, b' ');

@@ -13,7 +13,7 @@ use crate::answers::leave;
 use line_samples::Pose;
 use refusals::answer_number;
 
-// No `From`: both types are other crates', so the impl would be theirs and public.
+// No `From`: from this type into an array it may stand only in the type's own crate, public, and the one call would read `<[f64; 3]>::from` for `pose_list`.
 fn pose_list(p: Pose) -> [f64; 3]
     ensures { result ≡ pose_list p }
 {

@@ -13,7 +13,7 @@ use surface_locate::Position;
 use surface_points::SurfacePoint32;
 use surface_station::Axes;
 
-// No `From` here or below: both types are other crates', so the impl would be theirs and public.
+// No `From` here or below, as for `pose_list` (calls.rt). The lists of a point and of a pair leave fields out, so they are no conversions.
 fn station_list(p: RefPoint) -> [f64; 8]
     ensures { result ≡ station_list p }
 {

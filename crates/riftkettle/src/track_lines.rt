@@ -13,7 +13,7 @@ use records::Point;
 use refusals::answer_number;
 use tracks::{Projection, TrackPose};
 
-// No `From` here or below: both types are other crates', so the impl would be theirs and public.
+// No `From` here or below, as for `pose_list` (calls.rt).
 fn track_pose_list(p: TrackPose) -> [f32; 6]
     ensures { result ≡ track_pose_list p }
 {

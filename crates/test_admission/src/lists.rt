@@ -7,7 +7,7 @@ use reader_hex::of_bits;
 use records::layout::{NUMBERS_NEEDED, WORDS_NEEDED};
 use std::io;
 use std::io::Read;
-use test_support::{LINE_LENGTH, Line, line_of, put};
+use test_support::{Counts, LINE_LENGTH, Line, line_of, put};
 
 // What is lent may be a little more than a road needs.
 const WORDS_ROOM: usize = WORDS_NEEDED + 3;
@@ -36,8 +36,7 @@ struct Replay {
     road: Road,
     base: Road,
     lent: Lent,
-    cases: u64,
-    differ: u64,
+    counts: Counts,
     broken: u64,
 }
 
@@ -70,8 +69,7 @@ impl Replay {
             road: Road::EMPTY,
             base: Road::EMPTY,
             lent: Lent::ALL,
-            cases: 0,
-            differ: 0,
+            counts: Counts::default(),
             broken: 0,
         }
     }
@@ -92,9 +90,9 @@ impl Replay {
         let got = self.asked(call);
         self.road = self.base;
         self.lent = Lent::ALL;
-        self.cases = self.cases.wrapping_add(1);
-        if got != line.b {
-            self.differ = self.differ.wrapping_add(1);
+        let differs = got != line.b;
+        self.counts.count(differs);
+        if differs {
             show(rt, line, got)?;
         }
         Ok(())
@@ -141,6 +139,6 @@ pub(crate) fn run(rt: &(impl Input + Print + Alloc)) -> io::Result<()> {
     }
     println!(rt;
         "{} cases, {} differ, {} broken lines",
-        replay.cases, replay.differ, replay.broken
+        replay.counts.lines, replay.counts.differ, replay.broken
     )
 }

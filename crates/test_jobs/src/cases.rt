@@ -8,6 +8,13 @@ use records::layout::{NUMBERS_NEEDED, WANTS_NEEDED, WORDS_NEEDED};
 use refusals::{Refusal, answer_number};
 use test_support::checksum;
 
+// The memory that is there, a little more than reading takes.
+const WORDS_ROOM: usize = WORDS_NEEDED + 9;
+
+const NUMBERS_ROOM: usize = NUMBERS_NEEDED + 51;
+
+const WANTS_ROOM: usize = WANTS_NEEDED + 8;
+
 // How many words, numbers and wants are lent.
 #[derive(Clone, Copy)]
 pub(crate) struct Lent {
@@ -71,8 +78,8 @@ fn case_in(
 pub(crate) fn case_of(text: &[u8], asked: Lent) -> Case
     ensures { result ≡ case_of text.now asked }
 {
-    let mut words = [0xabcd; 1900];
-    let mut numbers = [of_bits(0x4045_abcd_abcd_abcd); 8500];
-    let mut wants = [0xabcd_abcd_abcd_abcd; 40];
+    let mut words = [0xabcd; WORDS_ROOM];
+    let mut numbers = [of_bits(0x4045_abcd_abcd_abcd); NUMBERS_ROOM];
+    let mut wants = [0xabcd_abcd_abcd_abcd; WANTS_ROOM];
     case_in(text, &mut words, &mut numbers, &mut wants, asked)
 }

@@ -49,25 +49,26 @@ impl Replay {
         println!(rt; "{number} {} {} {:016x}", seen.answer, seen.wants, case.sum)
     }
 
-    // No enum of steps stands between a letter and what it does. The three that add to the text are matched again in `extend`, which takes
-    // the line as it is: another letter adds nothing there.
+    // A change; false where the letter is unknown. Each letter is matched once, here or where its call is, so no enum of changes stands between it and
+    // what it does.
+    fn change(&mut self, line: Line) -> bool {
+        match line.letter {
+            b'b' => self.keep(),
+            b'l' => {
+                self.lent.words = line.a as usize;
+                self.lent.numbers = line.b as usize;
+            }
+            _ => return extend(&mut self.text, line, self.base.as_slice()),
+        }
+        true
+    }
+
     fn apply(&mut self, rt: &impl Print, line: Option<Line>) -> io::Result<()> {
-        match line {
-            Some(
-                line @ Line {
-                    letter: b't' | b'x' | b'c',
-                    ..
-                },
-            ) => {
-                extend(&mut self.text, line, self.base.as_slice());
-            }
-            Some(Line { letter: b'b', .. }) => self.keep(),
-            Some(Line { letter: b'l', a, b }) => {
-                self.lent.words = a as usize;
-                self.lent.numbers = b as usize;
-            }
-            Some(Line { letter: b'r', a, b }) => self.run(rt, b, a as usize)?,
-            _ => self.broken = self.broken.wrapping_add(1),
+        if let Some(Line { letter: b'r', a, b }) = line {
+            return self.run(rt, b, a as usize);
+        }
+        if !line.is_some_and(|line| self.change(line)) {
+            self.broken = self.broken.wrapping_add(1);
         }
         Ok(())
     }

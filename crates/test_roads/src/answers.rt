@@ -1,7 +1,7 @@
-// What the crates answer of a road, as a row of four numbers: the answer's own, then zeros. Calls that write into the lent slice.
+// What a line asks of a road: a question, whose answer is a row of four numbers, its own and then zeros, or a fill, which writes into the lent slice.
 //
-// Calls take the two lent slices and no road: whether one lies there is what they test.
-ghost use Rattle.std.specs.Prelude.{◌≡◌, length};
+// A road is lent as two slices. Three questions make a road of them; a lane's name and the fills are calls, which test whether one lies there.
+ghost use Rattle.std.specs.Prelude.{◌≡◌, ◌≤◌, length};
 ghost use Rattle.lanes_calls.specs.LaneCalls.{lane_named_call};
 ghost use Rattle.test_support.specs.Answers.{count_word};
 ghost use Rattle.test_roads.specs.Case.{pose_numbers, lane_across, across_numbers, toward_numbers, name_number, question_of, answer_numbers, lent_number, fill_of, filled_of, filled_list};
@@ -49,7 +49,7 @@ fn toward_numbers(road: &LentRoad, s: f64, t: f64) -> [f64; 4]
     [left, right, 0.0, 0.0]
 }
 
-// The id of the lane at t, 0 for none. A match: with `map_or` the proof would need a law of its own on the cases (test_tracks has tried it).
+// The id of the lane at t, 0 for none, NaN for a refusal. A match of the three cases: one `map_or` inside another would say the same in their place.
 fn name(words: &[u16], numbers: &[f64], s: f64, t: f64) -> f64
     ensures { result ≡ name_number (lane_named_call words.now numbers.now s t) }
 {
@@ -84,8 +84,10 @@ impl Question {
         }
     }
 
-    // How many numbers of its row are its answer.
-    pub(crate) fn count(self) -> usize {
+    // How many numbers of its row are its answer: a row is an array, of the length of the longest.
+    pub(crate) fn count(self) -> usize
+        ensures { result ≤ 4 }
+    {
         match self {
             Question::LinePose => 3,
             Question::LaneAcross => 4,

@@ -1,7 +1,7 @@
 // What the calls of the surface layer answer, as a row of numbers: 0 and the answer's own, or the number of the refusal. Zeros fill the row.
 //
 // Calls take the two lent slices and no road: whether one lies there is what they test.
-ghost use Rattle.std.specs.Prelude.{◌≡◌};
+ghost use Rattle.std.specs.Prelude.{◌≡◌, ◌≤◌};
 ghost use Rattle.refusals.specs.Answer.{answered};
 ghost use Rattle.test_roads.specs.CallNumbers.{row_of, station_numbers, axes_numbers, point_numbers, position_numbers, id_number, call_of, call_numbers};
 
@@ -108,7 +108,9 @@ impl Call {
     }
 
     // How many numbers of its row are its answer.
-    pub(crate) fn count(self) -> usize {
+    pub(crate) fn count(self) -> usize
+        ensures { result ≤ 10 }
+    {
         match self {
             Call::Station => 9,
             Call::Axes => 10,

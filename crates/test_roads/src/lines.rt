@@ -26,9 +26,8 @@ fn show_number(rt: &impl Print, x: f64) -> io::Result<()> {
     print!(rt; "{:016x} ", pattern(x))
 }
 
-// The first numbers of a row.
-fn show_row(rt: &impl Print, row: &[f64], count: usize) -> io::Result<()> {
-    for x in row.iter().take(count) {
+fn show_row(rt: &impl Print, row: &[f64]) -> io::Result<()> {
+    for x in row {
         show_number(rt, *x)?;
     }
     println!(rt; "")
@@ -47,7 +46,7 @@ impl Replay {
 
     fn show_answer(&self, rt: &impl Print, question: Question, line: Line) -> io::Result<()> {
         let row = question.row(line, &self.words, &self.numbers, &self.lent);
-        show_row(rt, &row, question.count())
+        show_row(rt, &row[..question.count()])
     }
 
     // The slice's numbers from a place on, as many as the line asks for; no `show_row`, since past the slice's end they are NaNs.
@@ -68,7 +67,7 @@ impl Replay {
     fn show_call(&self, rt: &impl Print, call: Call, line: Line) -> io::Result<()> {
         let samples = records_lent::part(&self.lent, 0, self.samples);
         let row = call.row(line, self.with, &self.words, &self.numbers, samples);
-        show_row(rt, &row, call.count())
+        show_row(rt, &row[..call.count()])
     }
 
     // A change; none where the letter, a place or a value is unknown. No enum of changes stands between a letter and what it does: each is matched once.

@@ -1,5 +1,5 @@
 -- The pieces of a text that is put together as lines say. Read `piece_of` first.
-use Rattle.std.specs.Prelude.{ℕ, ◌-◌, cond, List, [], ◌++◌, take, drop, ◌==◌}
+use Rattle.std.specs.Prelude.{ℕ, ◌-◌, Bool, ◌||◌, cond, List, [], ◌++◌, take, drop, ◌==◌}
 use Rattle.std.specs.Int.{w64, to_be_bytes}
 use Rattle.test_support.specs.declared.lines.Line.{Line}
 
@@ -17,3 +17,7 @@ unfoldable pub piece_of : Line → List ℕ → List ℕ
 piece_of line base =
     cond (line.letter == 116) (word_bytes line.a ++ word_bytes line.b)
     (cond (line.letter == 120) (drop (8 - line.a) (word_bytes line.b)) (cond (line.letter == 99) (part_of base line.a line.b) []))
+
+-- whether a letter is one of the three
+abbrev pub is_named : ℕ → Bool
+is_named letter = letter == 116 || letter == 120 || letter == 99

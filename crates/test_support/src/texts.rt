@@ -1,8 +1,8 @@
 // A text that is put together as lines say.
-ghost use Rattle.std.specs.Prelude.{◌≡◌, ◌++◌};
+ghost use Rattle.std.specs.Prelude.{◌≡◌, [], ◌++◌, is_some, MatchOption};
 ghost use Rattle.fixed_text.specs.Texts.{appended};
 ghost use Rattle.test_support.specs.declared.texts.TheConstants.{TEXT_ROOM};
-ghost use Rattle.test_support.specs.Texts.{part_of, word_bytes, piece_of};
+ghost use Rattle.test_support.specs.Texts.{part_of, word_bytes, piece_of, is_named};
 
 use crate::lines::Line;
 
@@ -30,24 +30,29 @@ fn part(bytes: &[u8], first: u64, last: u64) -> &[u8]
 }
 
 // What a line appends: t the sixteen bytes of its numbers, x so many low bytes of the second as the first says, c the bytes of another
-// text from the first up to the second. Any other letter appends nothing. An enum of the three would be made of the letter by a match of its
-// own, only to be matched here.
+// text from the first up to the second. None where the letter is another. The letters are matched here and nowhere else, so no enum of them
+// stands between a letter and its piece.
 #[tactic(auto, unfolding(crate::specs::Texts::piece_of))]
-fn piece_of<'a>(line: Line, own: &'a [u8], base: &'a [u8]) -> &'a [u8]
+fn piece_of<'a>(line: Line, own: &'a [u8], base: &'a [u8]) -> Option<&'a [u8]>
     requires { own.now ≡ word_bytes line.a ++ word_bytes line.b }
-    ensures { result.now ≡ piece_of line base.now }
+    ensures known { is_some result ≡ is_named line.letter }
+    ensures value { MatchOption result (piece_of line base.now ≡ []) (λ piece. piece.now ≡ piece_of line base.now) }
 {
     match line.letter {
-        b't' => own,
-        b'x' => &own[16 - line.a.min(8) as usize..],
-        b'c' => part(base, line.a, line.b),
-        _ => &[],
+        b't' => Some(own),
+        b'x' => Some(&own[16 - line.a.min(8) as usize..]),
+        b'c' => Some(part(base, line.a, line.b)),
+        _ => None,
     }
 }
 
-// Appends what a line says, of itself and of another text.
-pub fn extend(text: &mut Text, line: Line, base: &[u8])
-    ensures { text.new ≡ appended TEXT_ROOM text.old (piece_of line base.now) }
+// Appends what a line says, of itself and of another text; false, and nothing is appended, where its letter is none of the three.
+pub fn extend(text: &mut Text, line: Line, base: &[u8]) -> bool
+    ensures known { result ≡ is_named line.letter }
+    ensures text_after { text.new ≡ appended TEXT_ROOM text.old (piece_of line base.now) }
 {
-    text.append(piece_of(line, &bytes_of(line), base));
+    let own = bytes_of(line);
+    let piece = piece_of(line, &own, base);
+    text.append(piece.unwrap_or(&[]));
+    piece.is_some()
 }

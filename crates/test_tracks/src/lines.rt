@@ -4,13 +4,10 @@
 use crate::calls::Asked;
 use crate::tally::Tally;
 use crate::words::{numbers, words};
-use program_input::read_full;
 use reader_hex::byte_at;
 use std::alloc::{AllocError, Global};
 use std::io;
-
-// What of the list is read, more than it has.
-const TEXT_SIZE: usize = 600000;
+use std::io::Read;
 
 #[derive(Drop)]
 struct Held {
@@ -46,14 +43,14 @@ fn step(
 }
 
 pub(crate) fn run(rt: &(impl Input + Print), alloc: Global) -> io::Result<Tally> {
-    let mut text = vec![in alloc; 0; TEXT_SIZE]?;
-    let n = read_full(&mut rt.reader(), &mut text);
+    let mut text = Vec::new(alloc);
+    rt.reader().read_to_end(&mut text)?;
     let mut held = Held {
         track: Vec::new(alloc),
         list: Vec::new(alloc),
     };
     let mut tally = Tally::default();
-    for line in text[..n].split_inclusive(|b| *b == b'\n') {
+    for line in text.split_inclusive(|b| *b == b'\n') {
         let line = line.strip_suffix(b"\n").unwrap_or(line);
         step(rt, alloc, line, &mut held, &mut tally)?;
     }

@@ -4,6 +4,6 @@ use Rattle.test_support.proofs.TextLaws.{low-bytes}
 use Rattle.test_support.specs.Texts.{piece_of}
 use Rattle.test_support.proofs.texts.piece_of.Goals as goal
 
-pub returns-in-120 : goal.returns-in-120
+pub returns-in-120-clause-value : goal.returns-in-120-clause-value
 unfolding piece_of
-returns-in-120 c = rw (c.in-120.is, c.requires) (low-bytes c.args.line.a c.args.line.b (16 - c.min.result) (omega (arith, c.min.ensures)))
+returns-in-120-clause-value c = rw (c.in-120.is, c.requires) (low-bytes c.args.line.a c.args.line.b (16 - c.min.result) (omega (arith, c.min.ensures)))
