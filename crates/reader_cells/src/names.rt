@@ -15,6 +15,8 @@ pub struct Span<T> {
 const WORD_MOST: usize = 8;
 
 // The word at a place: its bytes up to one that is at most a space, or the end, at most eight. What stands after it is the caller's to test.
+// The loop is that of a whole number's digits with another base, length and end. One function for both is no plainer: it would take a byte's value as a
+// closure, and require that each value is below the base, that no byte past the end has one and that the base to that length fits 64 bits.
 pub fn name_at(text: &[u8], at: usize) -> Span<u64>
     ensures { result ≡ name_span text.now at }
 {

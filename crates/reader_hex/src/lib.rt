@@ -1,5 +1,6 @@
 // Bytes of a text, the numbers that eight and sixteen hexadecimal digits in lower case stand for, and the patterns of an f64 and an f32.
-// A text and a place in it are two parameters, as the definitions take them: a struct of both would be taken apart for each byte and made anew for each step.
+// A text and a place in it are two parameters, as the definitions take them: of a struct each contract would read out both again, and each answer that is a
+// place would lend the text on.
 #![tactic(auto)]
 
 mod bytes;
