@@ -1,4 +1,5 @@
 pub mod TakingCases
 pub mod JobCases
+pub mod Computed
 pub mod Examples
 pub mod ExampleM1

@@ -7,11 +7,9 @@ use borrow.Author.Tests.{lt-ltb, le-ltb, eq-eqb, ne_eqb}
 use lib.ListN.{length}
 use lib.Ieee.{Float}
 use Rattle.std.specs.Prelude.{Option, Some, None, Result, Ok, Err}
-use Rattle.std.specs.Option.{ok_or}
 use Rattle.refusals.specs.Answer.{Answer, value, refused, answered}
 use Rattle.refusals.specs.Refusal.{number_of}
 use Rattle.refusals.specs.declared.refusals.Refusal.{Refusal}
-use Rattle.refusals.specs.declared.refusals.Refusal.TheVariants.{Form}
 use Rattle.reader_schema.specs.Schema.{name_of, limit_of}
 use Rattle.reader_cells.specs.Cells.{byte_at, name_span}
 use Rattle.reader_cells.specs.declared.names.Span.{Span}
@@ -40,30 +38,6 @@ agree_same r us xs ys e h = rw e h
 
 pub agree_err : (o : Outcome) (f : Refusal) {r : Result Taken Refusal} (us : List ℕ) (xs : List Float) (ys : List ℕ) → r ≡ Err f → Agrees o (Err f) us xs ys → Agrees o r us xs ys
 agree_err o f us xs ys e h = rw e h
-
--- what `ok_or` says of what was sought: none gives the refusal, else what was found
-missed : {A : Type 0} {f : Refusal} (found : Option A) → ok_or found Form ≡ Err f → (found ≡ None) × (f ≡ Form)
-missed None e = (refl, cc)
-missed (Some v) e = absurd (err-ok e)
-  where
-    err-ok : {A : Type 0} {v : A} {f : Refusal} → ◌≡◌ {A = Result A Refusal} (Ok v) (Err f) → ⊥
-    err-ok g = cc
-
-pub found-there : {A : Type 0} {v : A} (found : Option A) → ok_or found Form ≡ Ok v → found ≡ Some v
-found-there None e = absurd (ok-err e)
-  where
-    ok-err : {A : Type 0} {v : A} {f : Refusal} → ◌≡◌ {A = Result A Refusal} (Err f) (Ok v) → ⊥
-    ok-err g = cc
-found-there (Some w) e = some-same e
-  where
-    some-same : {A : Type 0} {w v : A} → ◌≡◌ {A = Result A Refusal} (Ok w) (Ok v) → Some w ≡ Some v
-    some-same g = cc
-
--- the way out of a form that is broken
-pub agree-missed :
-    {A : Type 0} {o : Outcome} {f : Refusal} {r : Result Taken Refusal} (found : Option A) (us : List ℕ) (xs : List Float) (ys : List ℕ)
-    → ok_or found Form ≡ Err f → r ≡ Err f → (found ≡ None → o ≡ stop 1) → Agrees o r us xs ys
-agree-missed found us xs ys e g h = let m = missed found e in rw (h m.0, g, m.1) refl
 
 pub no-refusal : {A : Type 0} {a : A} {m : ℕ} → ◌≡◌ {A = Answer A} (value a) (refused m) → ⊥
 no-refusal e = cc

@@ -21,8 +21,8 @@ pub struct Taken {
     pub progress: Progress,
 }
 
-// Takes the lines of a table up to an empty one. A line is tested for its form (1) before the table's limit (2). A `for` up to the limit would end the table
-// at two places, since the empty line may also follow the last line that is allowed.
+// Takes the lines of a table up to an empty one, which may also follow the last line that is allowed. A line past it is tested for its form (1) before it is
+// one too many (2).
 fn table_lines(
     text: &[u8],
     from: usize,
@@ -38,19 +38,17 @@ fn table_lines(
     let limit = reader_schema::limit_of(table);
     let mut progress = start;
     let mut at = from;
-    let mut k: u16 = 0;
-    loop {
+    for k in 0..=limit {
         if reader_hex::byte_at(text, at) == b'\n' {
-            let ended = reader_store::end_table(words, table, k, progress);
             return Ok(Taken {
                 next: at + 1,
                 lines: k,
-                progress: ended,
+                progress: reader_store::end_table(words, table, k, progress),
             });
         }
         let row = reader_lines::values_at(text, at, table, order).ok_or(Refusal::Form)?;
-        if limit <= k {
-            return Err(Refusal::Capacity);
+        if k == limit {
+            break;
         }
         let line = TableLine {
             table,
@@ -59,8 +57,8 @@ fn table_lines(
         };
         progress = reader_store::keep_line(words, numbers, wants, line, progress);
         at = row.next;
-        k += 1;
     }
+    Err(Refusal::Capacity)
 }
 
 // Takes a table, if its name stands here.

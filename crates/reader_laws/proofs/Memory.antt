@@ -9,8 +9,10 @@ use lib.Ieee.{Float}
 use lib.ListN.{length, take}
 use Rattle.float_laws.specs.Binary64.{f64, zero64}
 use Rattle.refusals.specs.Answer.{value}
-use Rattle.records.specs.Roads.{Road, road_of}
-use Rattle.admission_structure.specs.Structure.{structured}
+use Rattle.records_lent.specs.Lists.{tabulate, all_below}
+use Rattle.records_cubic.specs.Cubics.{cubics_of}
+use Rattle.records.specs.Roads.{Road, heights_of, geom_in, unused_in, lane_in, mark_in, section_in, profile_in, column_in, strip_in, road_of}
+use Rattle.admission_structure.specs.Structure.{counts_ok, kinds_ok, lane_ok, section_ok, profile_ok, column_ok, strip_ok, marks_ok, structured}
 use Rattle.admission_order.specs.Order.{ordered}
 use Rattle.admission.specs.Limits.{limited}
 use Rattle.line_samples.specs.Samples.{samples_needed}
@@ -35,6 +37,15 @@ numbers (v ∷ vs) ns = f64 v ∷ numbers vs ns
 abbrev pub noughts : ℕ → List Float → List Float
 noughts zero ns = ns
 noughts (suc n) ns = zero64 ∷ noughts n ns
+
+-- what the samples compute with, beside what reading and admission do: the road that memory stands for, and row 3's tests of it
+unfoldable pub standing : Unit {0}
+unfolding heights_of geom_in unused_in lane_in mark_in section_in profile_in column_in strip_in road_of cubics_of tabulate
+standing = tt
+
+unfoldable pub structuring : Unit {0}
+unfolding counts_ok kinds_ok lane_ok section_ok profile_ok column_ok strip_ok marks_ok structured all_below
+structuring = tt
 
 -- a text's tables, before admission
 abbrev pub taken : List String → Outcome
