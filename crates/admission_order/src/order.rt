@@ -30,7 +30,7 @@ fn cubics_in_order(cubics: &Cubics) -> bool
     ensures { result ≡ cubics_in_order cubics.now }
 {
     let starts = (0..cubics.len()).map(|i| cubics.get(i).start);
-    starts.is_sorted_by(|a, b| *a <= *b)
+    starts.is_sorted()
 }
 
 // The heights of a list are at least 0.001 apart.
@@ -45,7 +45,7 @@ fn geoms_in_order(road: &LentRoad) -> bool
     ensures { result ≡ never_fall (λ i. (geom_at road.now i).s) (length road.now.geoms) }
 {
     let stations = (0..road.geom_count()).map(|i| geom(road, i).s);
-    stations.is_sorted_by(|a, b| *a <= *b)
+    stations.is_sorted()
 }
 
 fn sections_rise(road: &LentRoad) -> bool
@@ -96,18 +96,26 @@ fn shapes_in_order(road: &LentRoad) -> bool
     (0..profile_count(road)).all(|i| cubics_in_order(&shapes(road, i)))
 }
 
-#[tactic(auto, unfolding(crate::specs::Order::strip_in_order))]
-fn strip_in_order(strip: &LentStrip) -> bool
+fn columns_in_order(strip: &LentStrip) -> bool
     ensures { result ≡ strip_in_order (present strip.now) }
 {
     (0..COLUMNS_A_STRIP).all(|column| cubics_in_order(&strip.column(column)))
 }
 
 // A strip that is not there has no cubics.
+fn strip_in_order(road: &LentRoad, i: usize) -> bool
+    ensures { result ≡ strip_in_order (strip_at road.now i) }
+{
+    match strip(road, i) {
+        Some(strip) => columns_in_order(&strip),
+        None => true,
+    }
+}
+
 fn strips_in_order(road: &LentRoad) -> bool
     ensures { result ≡ all_below (λ i. strip_in_order (strip_at road.now i)) 4 }
 {
-    (0..STRIPS).all(|i| strip(road, i).is_none_or(|strip| strip_in_order(&strip)))
+    (0..STRIPS).all(|i| strip_in_order(road, i))
 }
 
 fn first_at_zero(road: &LentRoad) -> bool

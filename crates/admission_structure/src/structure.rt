@@ -6,7 +6,16 @@ ghost use Rattle.records.specs.Layout.{section_count_at, profile_count_at, most_
 ghost use Rattle.admission_structure.specs.Structure.{range_ok, counts_ok, kinds_ok, lane_ok, section_ok, profile_ok, column_ok, strip_ok, structured};
 
 use crate::marks::all_marks_ok;
-use records::layout::{ABSENT_CODE, BANK_COUNT_AT, COLUMNS_A_STRIP, COLUMN_STRIDE, COLUMN_WORDS, ELEV_COUNT_AT, EXTENT_CODES, EXTENT_WORDS, GEOM_CODES, GEOM_COUNT_AT, HEIGHT_WORDS, KIND_WORDS, LANE_STRIDE, LANE_WORDS, LEFT_WORDS, LEVEL_CODES, LEVEL_WORDS, MOST_BANKS, MOST_CUBICS, MOST_CUBICS_A_TERM, MOST_ELEVS, MOST_EXTENTS, MOST_EXTENTS_A_LANE, MOST_GEOMS, MOST_HEIGHTS, MOST_HEIGHTS_A_LANE, MOST_LANES, MOST_LANES_A_SIDE, MOST_OFFSETS, MOST_PROFILES, MOST_SECTIONS, MOST_SHAPES, MOST_SHAPES_A_PROFILE, MOST_SHIFTS, NUMBERS_NEEDED, OFFSET_COUNT_AT, PROFILE_COUNT_AT, PROFILE_STRIDE, PROFILE_WORDS, RIGHT_WORDS, SECTION_COUNT_AT, SECTION_STRIDE, SECTION_WORDS, STRIPS, STRIP_CODES, STRIP_STRIDE, STRIP_WORDS, TSHIFT_COUNT_AT, WORDS_NEEDED};
+use records::layout::{
+    ABSENT_CODE, BANK_COUNT_AT, COLUMN_STRIDE, COLUMN_WORDS, COLUMNS_A_STRIP, ELEV_COUNT_AT,
+    EXTENT_CODES, EXTENT_WORDS, GEOM_CODES, GEOM_COUNT_AT, HEIGHT_WORDS, KIND_WORDS, LANE_STRIDE,
+    LANE_WORDS, LEFT_WORDS, LEVEL_CODES, LEVEL_WORDS, MOST_BANKS, MOST_CUBICS, MOST_CUBICS_A_TERM,
+    MOST_ELEVS, MOST_EXTENTS, MOST_EXTENTS_A_LANE, MOST_GEOMS, MOST_HEIGHTS, MOST_HEIGHTS_A_LANE,
+    MOST_LANES, MOST_LANES_A_SIDE, MOST_OFFSETS, MOST_PROFILES, MOST_SECTIONS, MOST_SHAPES,
+    MOST_SHAPES_A_PROFILE, MOST_SHIFTS, NUMBERS_NEEDED, OFFSET_COUNT_AT, PROFILE_COUNT_AT,
+    PROFILE_STRIDE, PROFILE_WORDS, RIGHT_WORDS, SECTION_COUNT_AT, SECTION_STRIDE, SECTION_WORDS,
+    STRIP_CODES, STRIP_STRIDE, STRIP_WORDS, STRIPS, TSHIFT_COUNT_AT, WORDS_NEEDED,
+};
 use records_lent::word;
 
 // A count, as the u16 that is lent: the number of a line below it is a u16 too, and no place of such a line is past a usize, so a function of a line asks
@@ -55,8 +64,20 @@ fn lane_ok(words: &[u16], j: usize) -> bool
     let line = j * LANE_STRIDE;
     let extent = word(words, LANE_WORDS + line) < EXTENT_CODES;
     let level = word(words, LEVEL_WORDS + line) < LEVEL_CODES;
-    let extents = range_ok(words, EXTENT_WORDS + line, 0, MOST_EXTENTS_A_LANE, MOST_EXTENTS);
-    let heights = range_ok(words, HEIGHT_WORDS + line, 0, MOST_HEIGHTS_A_LANE, MOST_HEIGHTS);
+    let extents = range_ok(
+        words,
+        EXTENT_WORDS + line,
+        0,
+        MOST_EXTENTS_A_LANE,
+        MOST_EXTENTS,
+    );
+    let heights = range_ok(
+        words,
+        HEIGHT_WORDS + line,
+        0,
+        MOST_HEIGHTS_A_LANE,
+        MOST_HEIGHTS,
+    );
     extent & level & extents & heights
 }
 
