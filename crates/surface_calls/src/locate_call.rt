@@ -1,5 +1,5 @@
 // A place on the road, or a refusal.
-// Slices are lent and no `SampledRoad`: they are one only once `sampled` has answered it.
+// Slices are lent and no `SampledRoad`: they are one only once `sampled` has answered it. So are x and y, which the C interface has as two numbers.
 ghost use Rattle.std.specs.Prelude.{◌≡◌};
 ghost use Rattle.refusals.specs.Answer.{answered};
 ghost use Rattle.surface_calls.specs.LocateCall.{on_map, locate_call};
@@ -13,10 +13,10 @@ use surface_points::PlanVector;
 const GREATEST_TARGET: f64 = 2000000.0;
 
 // Row 9: a target in ±2,000,000.
-fn on_map(x: f64, y: f64) -> bool
-    ensures { result ≡ on_map x y }
+fn on_map(target: PlanVector) -> bool
+    ensures { result ≡ on_map target.x target.y }
 {
-    sized(GREATEST_TARGET, x) & sized(GREATEST_TARGET, y)
+    sized(GREATEST_TARGET, target.x) & sized(GREATEST_TARGET, target.y)
 }
 
 // Where the point x, y lies on the road, from a guess of s, with the lent samples: s and t, the count of moves, and whether they converged; rows 3, 4, 5, 6, 7 and 9. On a straight road along x from the origin, target 3, 2 and guess 3: s 3, t 2, no move, converged.
@@ -35,8 +35,9 @@ pub fn locate(
     if !guess.is_finite() {
         return Err(Refusal::Station);
     }
-    if !on_map(x, y) {
+    let target = PlanVector { x, y };
+    if !on_map(target) {
         return Err(Refusal::Target);
     }
-    Ok(locate_from(&lent, PlanVector { x, y }, guess))
+    Ok(locate_from(&lent, target, guess))
 }

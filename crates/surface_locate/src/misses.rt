@@ -10,11 +10,30 @@ use crate::points::Place;
 use line_samples::SampledRoad;
 use surface_points::{Footing, PlanVector, footing_at, plan_on};
 
-// A miss, and a move, below which it stops.
+// A miss below it makes no move, and a move below it is the last.
 pub(crate) const TOLERANCE: f64 = 1e-9;
 
-// A miss below which it has met the target.
-const MEETING: f64 = 0.0000009;
+// A bound on the size of a vector, between the roots of two numbers.
+#[derive(Clone, Copy)]
+struct Bound {
+    low: f64,
+    high: f64,
+    bound: f64,
+    ghost between: { brackets low high bound ≡ true },
+}
+
+const SMALL: Bound = Bound {
+    low: 9.999e-19,
+    high: 1.0001e-18,
+    bound: TOLERANCE,
+};
+
+// A miss below it meets the target, where the place lies on the road.
+const MEETING: Bound = Bound {
+    low: 8.0999e-13,
+    high: 8.1001e-13,
+    bound: 0.0000009,
+};
 
 // What a search goes by: the road with its lent samples, and the point that it looks for. Clauses take the three out of it: the definitions and their laws have them as a module's parameters, each named once there.
 #[derive(Clone, Copy)]
@@ -40,34 +59,33 @@ impl<'a> Search<'a> {
     }
 }
 
-// Whether the size of r is under a bound. Its root is worked out only where the sum of the squares lies between the two brackets of the bound's square.
+// Whether the size of r is under a bound. Its root is worked out only where the sum of the squares lies between the bound's two numbers.
 #[tactic(auto, unfolding(arithmetic::specs::Root::hypot_of))]
-fn under(r: PlanVector, low: f64, high: f64, bound: f64) -> bool
-    requires { brackets low high bound ≡ true }
-    ensures { result ≡ lt (size_of r) bound }
+fn under(r: PlanVector, most: Bound) -> bool
+    ensures { result ≡ lt (size_of r) most.bound }
 {
     let sum = r.x * r.x + r.y * r.y;
-    if high <= sum {
+    if most.high <= sum {
         return false;
     }
-    if sum <= low {
+    if sum <= most.low {
         return true;
     }
-    arithmetic::root(sum) < bound
+    arithmetic::root(sum) < most.bound
 }
 
 // Whether a miss is so small that it ends the moves.
 pub(crate) fn small(r: PlanVector) -> bool
     ensures { result ≡ lt (size_of r) tolerance }
 {
-    under(r, 9.999e-19, 1.0001e-18, TOLERANCE)
+    under(r, SMALL)
 }
 
 // Whether a miss is so small that it meets the target.
 pub(crate) fn near(r: PlanVector) -> bool
     ensures { result ≡ lt (size_of r) meeting }
 {
-    under(r, 8.0999e-13, 8.1001e-13, MEETING)
+    under(r, MEETING)
 }
 
 // How fast the miss changes from r to a, h metres on.

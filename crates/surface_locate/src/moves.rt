@@ -63,7 +63,7 @@ impl<'a> Search<'a> {
         ensures { result ≡ move_at self.now.lent.now.road self.now.lent.now.samples.now self.now.target (place here.s t) }
     {
         let length = self.lent.road.length();
-        let at = Place { s: here.s, t };
+        let at = Place::on(here, t);
         let h = ahead(length, at.s);
         let on = Place { s: at.s + h, t };
         let along = rate(self.miss(on), r, h);

@@ -36,7 +36,7 @@ impl<'a> Search<'a> {
         let mut t = from_t;
         for moves in 0..MOST_MOVES {
             let r = self.miss_on(here, t);
-            let at = Place { s: here.s, t };
+            let at = Place::on(here, t);
             if small(r) {
                 return arrived(at, moves, r);
             }
@@ -53,7 +53,7 @@ impl<'a> Search<'a> {
                 }
             }
         }
-        arrived(Place { s: here.s, t }, MOST_MOVES, self.miss_on(here, t))
+        arrived(Place::on(here, t), MOST_MOVES, self.miss_on(here, t))
     }
 }
 

@@ -5,6 +5,6 @@ use Rattle.arithmetic.specs.Root.{root_of}
 use Rattle.arithmetic_distance.specs.Brackets.{brackets}
 use Rattle.surface_locate.proofs.misses.near.Goals as goal
 
-pub under-requires : goal.under-requires
+pub invariant_of-under : goal.invariant_of-under
 unfolding of_bits fits le lt root_of brackets
-under-requires c = refl
+invariant_of-under c = record { between = refl }

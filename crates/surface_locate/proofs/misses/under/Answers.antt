@@ -7,18 +7,18 @@ use Rattle.arithmetic.specs.Root.{hypot_of}
 use Rattle.arithmetic_distance.proofs.BracketLaws.{root-above, root_below}
 use Rattle.surface_locate.proofs.misses.under.Goals as goal
 
-pub returns-then-high-sum : goal.returns-then-high-sum
+pub returns-then-most-sum : goal.returns-then-most-sum
 unfolding hypot_of
-returns-then-high-sum c =
+returns-then-most-sum c =
     let a = c.args in
     let fx : T (fits binary64 a.r.x) = search rules in
     let fy : T (fits binary64 a.r.y) = search rules in
-    sym (root-above a.r.x a.r.y a.low a.high a.bound fx fy c.requires (subst T (sym c.if-high-sum.true) tt))
+    sym (root-above a.r.x a.r.y a.most.low a.most.high a.most.bound fx fy a.most.between (subst T (sym c.if-most-sum.true) tt))
 
-pub returns-then-sum-low : goal.returns-then-sum-low
+pub returns-then-sum-most : goal.returns-then-sum-most
 unfolding hypot_of
-returns-then-sum-low c =
+returns-then-sum-most c =
     let a = c.args in
     let fx : T (fits binary64 a.r.x) = search rules in
     let fy : T (fits binary64 a.r.y) = search rules in
-    sym (root_below a.r.x a.r.y a.low a.high a.bound fx fy c.requires (subst T (sym c.if-sum-low.true) tt))
+    sym (root_below a.r.x a.r.y a.most.low a.most.high a.most.bound fx fy a.most.between (subst T (sym c.if-sum-most.true) tt))
