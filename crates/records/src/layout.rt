@@ -1,6 +1,6 @@
 // Where a lent road's tables stand, by the names of specs/Layout.antt; docs/MEMORY.md is the same table for whoever lends a road.
 // A table has a first place and a stride, the places that a line takes: those of a cubic and of a height are their types' `STRIDE`. What the words of a
-// line are is said beside its table. They are read by their number in it, since one function reads a line whole and names each as it does.
+// line are is said beside its table, and each has the name of where it stands in the first line.
 
 // ---- numbers: the road's length, then the tables
 pub const LENGTH_PLACE: usize = 0;
@@ -64,15 +64,33 @@ pub const SECTION_STRIDE: usize = 3;
 // a lane: extent code, level code, first extent, extents, first height, heights
 pub const LANE_WORDS: usize = 119;
 
+pub const LEVEL_WORDS: usize = LANE_WORDS + 1;
+
+pub const EXTENT_WORDS: usize = LANE_WORDS + 2;
+
+pub const EXTENT_COUNT_WORDS: usize = LANE_WORDS + 3;
+
+pub const HEIGHT_WORDS: usize = LANE_WORDS + 4;
+
+pub const HEIGHT_COUNT_WORDS: usize = LANE_WORDS + 5;
+
 pub const LANE_STRIDE: usize = 6;
 
 // a profile: first shape, shapes
 pub const PROFILE_WORDS: usize = 1271;
 
+pub const SHAPE_COUNT_WORDS: usize = PROFILE_WORDS + 1;
+
 pub const PROFILE_STRIDE: usize = 2;
 
 // a strip: presence code, then first and count of its width's cubics and of its four terms'
 pub const STRIP_WORDS: usize = 1303;
+
+pub const COLUMN_WORDS: usize = STRIP_WORDS + 1;
+
+pub const COLUMN_COUNT_WORDS: usize = STRIP_WORDS + 2;
+
+pub const COLUMN_STRIDE: usize = 2;
 
 pub const STRIP_STRIDE: usize = 11;
 
@@ -82,7 +100,7 @@ pub const STRIPS: usize = 4;
 pub const STRIP_TERMS: usize = 4;
 
 // the width, then the terms
-pub const STRIP_COLUMNS: usize = STRIP_TERMS + 1;
+pub const COLUMNS_A_STRIP: usize = STRIP_TERMS + 1;
 
 // a section's marks: first mark, marks
 pub const SECTION_MARK_WORDS: usize = 1347;
@@ -94,6 +112,8 @@ pub const SECTION_MARK_STRIDE: usize = 2;
 // a mark: the place of its lane among those of its section, its kind
 pub const MARK_WORDS: usize = 1379;
 
+pub const MARK_KIND_WORDS: usize = MARK_WORDS + 1;
+
 pub const MARK_STRIDE: usize = 2;
 
 pub const WORDS_NEEDED: usize = 1891;
@@ -101,28 +121,32 @@ pub const WORDS_NEEDED: usize = 1891;
 // ---- codes: what a word stands for, counted from 0; after a list's codes how many it has
 
 // a geometry's kind: line, arc, spiral
+pub const LINE_CODE: usize = 0;
+
 pub const ARC_CODE: usize = 1;
 
 pub const SPIRAL_CODE: usize = 2;
 
-pub const GEOM_KINDS: usize = 3;
+pub const GEOM_CODES: usize = 3;
 
 // a lane's extents: width, border
 pub const BORDER_CODE: usize = 1;
 
-pub const EXTENT_KINDS: usize = 2;
+pub const EXTENT_CODES: usize = 2;
 
 // a lane's level: 0, 1
 pub const LEVEL_CODE: usize = 1;
 
-pub const LEVELS: usize = 2;
+pub const LEVEL_CODES: usize = 2;
 
 // a strip: absent, absolute, relative
 pub const ABSENT_CODE: usize = 0;
 
+pub const ABSOLUTE_CODE: usize = 1;
+
 pub const RELATIVE_CODE: usize = 2;
 
-pub const STRIP_KINDS: usize = 3;
+pub const STRIP_CODES: usize = 3;
 
 // ---- wants: s and t of each
 pub const WANT_STRIDE: usize = 2;
