@@ -3,17 +3,17 @@ ghost use Rattle.std.specs.Prelude.{◌≡◌, ◌&&◌, length, get_or};
 ghost use Rattle.std.specs.Float.Ieee.{eq, le};
 ghost use Rattle.float_laws.specs.Binary64.{◌⊖◌, zero64};
 ghost use Rattle.records_lent.specs.Lists.{all_below};
-ghost use Rattle.records.specs.Roads.{height_def_at, geom_at, section_of, no_lane, profile_at, strip_at};
+ghost use Rattle.records.specs.Roads.{height_def_at, geom_at, section_of, no_lane, profile_at, strip_at, present};
 ghost use Rattle.admission_order.specs.Order.{least_gap, never_fall, rise_strictly, apart, cubics_in_order, lane_in_order, section_in_order, strip_in_order, ordered};
 
 use crate::marks::all_marks_in_order;
-use records::layout::{STRIP_COLUMNS, STRIPS};
+use records::layout::{COLUMNS_A_STRIP, STRIPS};
 use records::{Heights, LentRoad};
 use records_cubic::Cubics;
 use records_geometry::geom;
 use records_lanes::{LentLane, LentSide};
 use records_sections::{section_count, section_start};
-use records_shapes::{profile_count, profile_start, shapes, strip_column};
+use records_shapes::{LentStrip, profile_count, profile_start, shapes, strip};
 
 // Profiles, and heights of a lane, are at least so far apart.
 const LEAST_GAP: f64 = 0.001;
@@ -30,7 +30,7 @@ fn cubics_in_order(cubics: &Cubics) -> bool
     ensures { result ≡ cubics_in_order cubics.now }
 {
     let starts = (0..cubics.len()).map(|i| cubics.get(i).start);
-    starts.is_sorted_by(|a, b| *a <= *b)
+    starts.is_sorted()
 }
 
 // The heights of a list are at least 0.001 apart.
@@ -45,7 +45,7 @@ fn geoms_in_order(road: &LentRoad) -> bool
     ensures { result ≡ never_fall (λ i. (geom_at road.now i).s) (length road.now.geoms) }
 {
     let stations = (0..road.geom_count()).map(|i| geom(road, i).s);
-    stations.is_sorted_by(|a, b| *a <= *b)
+    stations.is_sorted()
 }
 
 fn sections_rise(road: &LentRoad) -> bool
@@ -96,10 +96,20 @@ fn shapes_in_order(road: &LentRoad) -> bool
     (0..profile_count(road)).all(|i| cubics_in_order(&shapes(road, i)))
 }
 
+fn columns_in_order(strip: &LentStrip) -> bool
+    ensures { result ≡ strip_in_order (present strip.now) }
+{
+    (0..COLUMNS_A_STRIP).all(|column| cubics_in_order(&strip.column(column)))
+}
+
+// A strip that is not there has no cubics.
 fn strip_in_order(road: &LentRoad, i: usize) -> bool
     ensures { result ≡ strip_in_order (strip_at road.now i) }
 {
-    (0..STRIP_COLUMNS).all(|column| cubics_in_order(&strip_column(road, i, column)))
+    match strip(road, i) {
+        Some(strip) => columns_in_order(&strip),
+        None => true,
+    }
 }
 
 fn strips_in_order(road: &LentRoad) -> bool

@@ -7,21 +7,23 @@ ghost use Rattle.admission_structure.specs.Structure.{range_ok, counts_ok, kinds
 
 use crate::marks::all_marks_ok;
 use records::layout::{
-    ABSENT_CODE, BANK_COUNT_AT, ELEV_COUNT_AT, EXTENT_KINDS, GEOM_COUNT_AT, GEOM_KINDS, KIND_WORDS,
-    LANE_STRIDE, LANE_WORDS, LEFT_WORDS, LEVELS, MOST_BANKS, MOST_CUBICS, MOST_CUBICS_A_TERM,
+    ABSENT_CODE, BANK_COUNT_AT, COLUMN_STRIDE, COLUMN_WORDS, COLUMNS_A_STRIP, ELEV_COUNT_AT,
+    EXTENT_CODES, EXTENT_WORDS, GEOM_CODES, GEOM_COUNT_AT, HEIGHT_WORDS, KIND_WORDS, LANE_STRIDE,
+    LANE_WORDS, LEFT_WORDS, LEVEL_CODES, LEVEL_WORDS, MOST_BANKS, MOST_CUBICS, MOST_CUBICS_A_TERM,
     MOST_ELEVS, MOST_EXTENTS, MOST_EXTENTS_A_LANE, MOST_GEOMS, MOST_HEIGHTS, MOST_HEIGHTS_A_LANE,
     MOST_LANES, MOST_LANES_A_SIDE, MOST_OFFSETS, MOST_PROFILES, MOST_SECTIONS, MOST_SHAPES,
     MOST_SHAPES_A_PROFILE, MOST_SHIFTS, NUMBERS_NEEDED, OFFSET_COUNT_AT, PROFILE_COUNT_AT,
     PROFILE_STRIDE, PROFILE_WORDS, RIGHT_WORDS, SECTION_COUNT_AT, SECTION_STRIDE, SECTION_WORDS,
-    STRIP_COLUMNS, STRIP_KINDS, STRIP_STRIDE, STRIP_WORDS, STRIPS, TSHIFT_COUNT_AT, WORDS_NEEDED,
+    STRIP_CODES, STRIP_STRIDE, STRIP_WORDS, STRIPS, TSHIFT_COUNT_AT, WORDS_NEEDED,
 };
 use records_lent::word;
 
-// The word at a place, 0 past the end, as it is lent: the number of a line below such a count is a u16 too, so a function of a line asks for no bound.
+// A count, as the u16 that is lent: the number of a line below it is a u16 too, and no place of such a line is past a usize, so a function of a line asks
+// for no bound.
 pub(crate) fn count(words: &[u16], at: usize) -> u16
     ensures { result ≡ get_or words.now at 0 }
 {
-    words.get(at).copied().unwrap_or(0)
+    word(words, at) as u16
 }
 
 // The range whose first line and count are the words from k on: least to most lines, inside a table of limit lines.
@@ -50,7 +52,7 @@ fn kinds_ok(words: &[u16]) -> bool
     ensures { result ≡ kinds_ok words.now }
 {
     let n = word(words, GEOM_COUNT_AT);
-    (0..n).all(|i| word(words, KIND_WORDS + i) < GEOM_KINDS)
+    (0..n).all(|i| word(words, KIND_WORDS + i) < GEOM_CODES)
 }
 
 // The j-th lane's codes and ranges.
@@ -59,11 +61,24 @@ fn lane_ok(words: &[u16], j: usize) -> bool
     requires { j < most_lanes }
     ensures { result ≡ lane_ok words.now j }
 {
-    let k = LANE_WORDS + j * LANE_STRIDE;
-    let codes = (word(words, k) < EXTENT_KINDS) & (word(words, k + 1) < LEVELS);
-    let extents = range_ok(words, k + 2, 0, MOST_EXTENTS_A_LANE, MOST_EXTENTS);
-    let heights = range_ok(words, k + 4, 0, MOST_HEIGHTS_A_LANE, MOST_HEIGHTS);
-    codes & extents & heights
+    let line = j * LANE_STRIDE;
+    let extent = word(words, LANE_WORDS + line) < EXTENT_CODES;
+    let level = word(words, LEVEL_WORDS + line) < LEVEL_CODES;
+    let extents = range_ok(
+        words,
+        EXTENT_WORDS + line,
+        0,
+        MOST_EXTENTS_A_LANE,
+        MOST_EXTENTS,
+    );
+    let heights = range_ok(
+        words,
+        HEIGHT_WORDS + line,
+        0,
+        MOST_HEIGHTS_A_LANE,
+        MOST_HEIGHTS,
+    );
+    extent & level & extents & heights
 }
 
 fn lanes_ok(words: &[u16], first: usize, n: usize) -> bool
@@ -111,35 +126,33 @@ fn profiles_ok(words: &[u16]) -> bool
 }
 
 #[tactic(auto, unfolding(crate::specs::Structure::column_ok))]
-fn column_ok(words: &[u16], i: usize, column: usize) -> bool
-    requires { (i < 4) × (column < 5) }
+fn column_ok(words: &[u16], i: u16, column: u16) -> bool
     ensures { result ≡ column_ok words.now i column }
 {
-    let k = STRIP_WORDS + i * STRIP_STRIDE + 1 + column * 2;
+    let line = usize::from(i) * STRIP_STRIDE;
+    let k = COLUMN_WORDS + line + usize::from(column) * COLUMN_STRIDE;
     range_ok(words, k, 0, MOST_CUBICS_A_TERM, MOST_CUBICS)
 }
 
-fn columns_ok(words: &[u16], i: usize) -> bool
-    requires { i < 4 }
+fn columns_ok(words: &[u16], i: u16) -> bool
     ensures { result ≡ all_below (column_ok words.now i) 5 }
 {
-    (0..STRIP_COLUMNS).all(|column| column_ok(words, i, column))
+    (0..COLUMNS_A_STRIP as u16).all(|column| column_ok(words, i, column))
 }
 
 // A strip's code, then its columns; those of a strip that is not there are not read.
 #[tactic(auto, unfolding(crate::specs::Structure::strip_ok))]
-fn strip_ok(words: &[u16], i: usize) -> bool
-    requires { i < 4 }
+fn strip_ok(words: &[u16], i: u16) -> bool
     ensures { result ≡ strip_ok words.now i }
 {
-    let code = word(words, STRIP_WORDS + i * STRIP_STRIDE);
-    (code < STRIP_KINDS) && ((code == ABSENT_CODE) || columns_ok(words, i))
+    let code = word(words, STRIP_WORDS + usize::from(i) * STRIP_STRIDE);
+    (code < STRIP_CODES) && ((code == ABSENT_CODE) || columns_ok(words, i))
 }
 
 fn strips_ok(words: &[u16]) -> bool
     ensures { result ≡ all_below (strip_ok words.now) 4 }
 {
-    (0..STRIPS).all(|i| strip_ok(words, i))
+    (0..STRIPS as u16).all(|i| strip_ok(words, i))
 }
 
 // Whether the lent slices hold a road at all: long enough, counts within their limits, codes listed, ranges inside their tables.

@@ -5,9 +5,10 @@ ghost use Rattle.std.specs.Prelude.{◌≡◌};
 ghost use Rattle.lanes.specs.Lateral.{height_toward, has_cross_section, flat_across};
 
 use crate::profiles::shape_at;
-use crate::strips::{cross_height, is_present};
+use crate::strips::cross_height;
 use records::LentRoad;
-use records_shapes::profile_count;
+use records::layout::STRIPS;
+use records_shapes::{profile_count, strip};
 
 // The road's height at s and t; on a cross section's ridge that of the side toward points to, 1.0 for the left.
 pub fn height_toward(road: &LentRoad, s: f64, t: f64, toward: f64) -> f64
@@ -20,7 +21,7 @@ pub fn height_toward(road: &LentRoad, s: f64, t: f64, toward: f64) -> f64
 fn has_cross_section(road: &LentRoad) -> bool
     ensures { result ≡ has_cross_section road.now }
 {
-    (0 < road.tshifts().len()) | (0..4).any(|i| is_present(road, i))
+    (0 < road.tshifts().len()) | (0..STRIPS).any(|i| strip(road, i).is_some())
 }
 
 // Whether the road is flat across: neither a profile nor a cross section.

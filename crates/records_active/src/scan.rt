@@ -35,15 +35,23 @@ impl Starting for HeightDef {
     }
 }
 
+// Of count starts, each answered by its place, the last that is at most s + 1e-9.
+pub(crate) fn last_started<F: Fn(usize) -> f64>(count: usize, s: f64, start: F) -> Option<usize>
+    requires { F.IsAlwaysCallable start }
+    ensures { (starts : ℕ → Float) → ((i : ℕ) (x : Float) → F.post start i x → x ≡ starts i) → result ≡ last_start starts (active_up_to s) count }
+{
+    (0..count).rfind(|i| start(*i) <= s + ACTIVE_MARGIN)
+}
+
 // The active record of a list.
 pub fn active<T: Starting>(records: &Records<T>, s: f64) -> Option<usize>
     ensures { result ≡ last_start (λ (i : ℕ). T.start (get_or records.now i T.none)) (active_up_to s) (length records.now) }
 {
-    (0..records.len()).rfind(|i| records.get(*i).start() <= s + ACTIVE_MARGIN)
+    last_started(records.len(), s, |i| records.get(i).start())
 }
 
-// The active cubic of a list, by value. Not by `map`: the prover infers nothing of a closure that calls `get`, and its clause in words would be the longer
-// form.
+// The active cubic of a list, by value. Not by `map`: what the proof learns of a call of `|i| cubics.get(i)` is a unit, with its clause inferred or
+// written.
 pub fn active_cubic(cubics: &Cubics, s: f64) -> Option<Cubic>
     ensures { result ≡ option_map (cubic_at cubics.now) (active_in cubics.now s) }
 {

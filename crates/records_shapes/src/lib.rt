@@ -2,5 +2,7 @@
 #![tactic(auto)]
 
 mod profiles;
+mod strips;
 
-pub use profiles::{profile_count, profile_start, shapes, strip, strip_column};
+pub use profiles::{profile_count, profile_start, shapes};
+pub use strips::{LentStrip, strip};

@@ -1,9 +1,12 @@
-use Rattle.std.proofs.Common.{rules}
-use Rattle.records_lent.proofs.RangeLaws.{all_range}
-use Rattle.records.specs.Roads.{column_of, strip_at}
-use Rattle.admission_order.specs.Order.{cubics_in_order, strip_in_order}
+-- `strip_in_order`: by its columns, none where it is not there.
+use mathlib.Core.Path.{refl}
+use Rattle.records_lent.specs.Lists.{all_below}
+use Rattle.admission_order.specs.Order.{strip_in_order, cubics_in_order, never_fall}
 use Rattle.admission_order.proofs.order.strip_in_order.Goals as goal
 
-pub returns : goal.returns
-unfolding strip_in_order
-returns c = all_range (λ column. cubics_in_order (column_of (strip_at c.args.road.now c.args.i) column)) _ c.all.ensures.ran (λ x b q k. search rules)
+pub returns-in-Some : goal.returns-in-Some
+returns-in-Some c = rw (← c.strip.ensures, c.in-Some.is) c.columns_in_order.ensures
+
+pub returns-in-None : goal.returns-in-None
+unfolding strip_in_order cubics_in_order never_fall all_below
+returns-in-None c = rw (← c.strip.ensures, c.in-None.is) refl

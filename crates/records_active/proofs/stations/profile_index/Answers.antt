@@ -1,7 +1,7 @@
--- `profile_index`: the scan reads the starts where they stand.
-use mathlib.Core.Path.{◌∙◌}
-use Rattle.records.proofs.RoadLaws.{profile_count_read, profile-by}
+-- `profile_index`: the last that stands at or before the limit.
+use Rattle.std.proofs.Common.{rules}
+use Rattle.records.specs.Roads.{profile_at}
 use Rattle.records_active.proofs.stations.profile_index.Goals as goal
 
 pub returns : goal.returns
-returns c = rw (← c.road.view_is) (c.last_started.ensures ∙ profile-by c.road.inside.words.now c.road.inside.numbers.now c.args.s (profile_count_read _ _ c.profile_count-n.ensures.value c.road.view_is))
+returns c = rw (← c.profile_count-n.ensures.value) (c.last_started.ensures (λ i. (profile_at c.args.road.now i).s) (λ i x k. search rules))

@@ -1,42 +1,27 @@
--- `past_width`: by the kind of the outer strip, which counts past the width alone.
-use mathlib.Core.Path.{◌≡◌, sym, ◌∙◌}
-use Prim.Native.Nat.{ℕ}
-use native.Mathlib.Omega.{arith}
-use Rattle.records.specs.Roads.{strip_at}
-use Rattle.lanes.specs.Sides.{sign_of, outer_of}
-use Rattle.lanes.proofs.LateralLaws.{past-none, past-absolute, past-relative, past-inner}
+-- `past_width`: past the inner strip's width, by what the outer one stands on.
+use mathlib.Core.Path.{◌≡◌, ap}
+use mathlib.Core.Bool.{Bool, true, cond}
+use lib.Ieee.{Float, binary64, of_bits, add, sub, mul, lt}
+use Rattle.records.specs.Roads.{StripDef, present}
+use Rattle.lanes.specs.Lateral.{strip_height, past_width}
 use Rattle.lanes_shape.proofs.strips.CrossSide.past_width.Goals as goal
-use Rattle.lanes_shape.proofs.strips.CrossSide.past_width.Goals.{then-w-sign, else-w-sign}
+use Rattle.lanes_shape.proofs.strips.CrossSide.past_width.Goals.{then-outer, else-outer}
 
-pub returns-in-Absent : goal.returns-in-Absent
-returns-in-Absent c =
-    let a = c.args.self.now in
-    let outer = strip_at a.road.now (outer_of a.right) in
-    λ d e.
-    let inner = c.strip_height.ensures d (rw c.inner_of-inner.ensures e) in
-    elim c.if-w-sign.branch [
-      | then-w-sign w ↦ past-none d a.s c.args.t (sign_of a.right) c.args.w outer (rw (← c.outer_of-outer.ensures) (sym w.strip-kind.ensures ∙ sym w.kind-is ∙ c.in-Absent.is)) inner
-      | else-w-sign w ↦ past-inner d a.s c.args.t (sign_of a.right) c.args.w outer (rw (← c.sign_of-sign.ensures) w.if-w-sign.false) inner
-    ]
+past :
+    (inner outer : StripDef) (s t sign w : Float) (relative : Bool) {base x : Float} → lt w (mul binary64 sign t) ≡ true → relative ≡ outer.relative
+    → base ≡ cond relative (strip_height inner s (mul binary64 sign w)) (of_bits binary64 0) → x ≡ strip_height outer s (sub binary64 t (mul binary64 sign w))
+    → add binary64 base x ≡ past_width inner (present outer) s t sign w
+past inner outer s t sign w relative h e eb ex = rw (eb, ex, e, h)
 
-pub returns-in-Absolute : goal.returns-in-Absolute
-returns-in-Absolute c =
-    let a = c.args.self.now in
-    let outer = strip_at a.road.now (outer_of a.right) in
-    λ d e.
-    elim c.if-w-sign.branch [
-      | then-w-sign w ↦
-          rw c.sign_of-sign.ensures at (past-absolute d a.s c.args.t c.sign_of-sign.result c.args.w outer (rw (← c.outer_of-outer.ensures) (sym w.strip-kind.ensures ∙ sym w.kind-is ∙ c.in-Absolute.is)) w.if-w-sign.true (λ o f. c.strip_height-in-Absolute.ensures o (rw c.outer_of-outer.ensures f)))
-      | else-w-sign w ↦ let no = sym w.kind-is ∙ c.in-Absolute.is in let z : ◌≡◌ {A = ℕ} 0 1 = cc in absurd (omega arith)
-    ]
-
-pub returns-in-Relative : goal.returns-in-Relative
-returns-in-Relative c =
-    let a = c.args.self.now in
-    let outer = strip_at a.road.now (outer_of a.right) in
-    λ d e.
-    elim c.if-w-sign.branch [
-      | then-w-sign w ↦
-          rw c.sign_of-sign.ensures at (past-relative d a.s c.args.t c.sign_of-sign.result c.args.w outer (rw (← c.outer_of-outer.ensures) (sym w.strip-kind.ensures ∙ sym w.kind-is ∙ c.in-Relative.is)) w.if-w-sign.true (c.strip_height-in-Relative.ensures d (rw c.inner_of-inner.ensures e)) (λ o f. c.strip_height-in-Relative-2.ensures o (rw c.outer_of-outer.ensures f)))
-      | else-w-sign w ↦ let no = sym w.kind-is ∙ c.in-Relative.is in let z : ◌≡◌ {A = ℕ} 0 1 = cc in absurd (omega arith)
-    ]
+pub returns-after-outer : goal.returns-after-outer
+returns-after-outer c =
+    let a = c.args in
+    let side = a.self.now in
+    let relative = ap (λ (d : StripDef). d.relative) c.outer.view_is in
+    rw (c.in-Some.is)
+    (past side.inner c.in-Some.outer side.s a.t side.sign a.w c.outer.inside.relative c.if-w-self.true relative
+    (elim c.if-outer.branch [
+      | then-outer w ↦ rw (w.if-outer.true, w.base-is, w.strip_height-base.ensures)
+      | else-outer w ↦ rw (w.if-outer.false, w.base-is)
+    ])
+    c.strip_height.ensures)

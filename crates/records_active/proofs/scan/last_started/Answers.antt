@@ -2,8 +2,8 @@
 use Rattle.std.proofs.Common.{rules}
 use Rattle.records_lent.proofs.RangeLaws.{last_range}
 use Rattle.records.specs.Active.{last_start}
-use Rattle.records_active.proofs.stations.last_started.Goals as goal
+use Rattle.records_active.proofs.scan.last_started.Goals as goal
 
 pub returns : goal.returns
 unfolding last_start
-returns c = last_range _ _ (λ x b q k. search rules) _ _ c.rfind.ensures.ran
+returns g c = λ starts says. last_range _ _ (λ x b q k. search (rules, says)) _ _ c.rfind.ensures.ran

@@ -1,0 +1,17 @@
+-- `column`: by the words of its line, or none.
+use native.Mathlib.Omega.{arith}
+use mathlib.Core.Path.{◌∙◌}
+use Rattle.records.specs.Roads.{column_in}
+use Rattle.records_shapes.proofs.StripLaws.{column-of_line, column-past_line, place}
+use Rattle.records_shapes.proofs.strips.LentStrip.column.Goals as goal
+
+pub returns-then-column-lt-COLUMNS_A_STRIP : goal.returns-then-column-lt-COLUMNS_A_STRIP
+unfolding column_in
+returns-then-column-lt-COLUMNS_A_STRIP c =
+    let r = c.self.inside in
+    rw (← c.self.view_is) (rw (place r.line c.args.column) at c.cubics_at.ensures ∙ column-of_line r.words.now r.numbers.now r.relative r.line c.args.column c.if-column-lt-COLUMNS_A_STRIP.true)
+
+pub returns-else-column-lt-COLUMNS_A_STRIP : goal.returns-else-column-lt-COLUMNS_A_STRIP
+returns-else-column-lt-COLUMNS_A_STRIP c =
+    let r = c.self.inside in
+    rw (← c.self.view_is) (c.no_cubics.ensures ∙ column-past_line r.words.now r.numbers.now r.relative r.line c.args.column (omega arith))
