@@ -7,7 +7,7 @@ ghost use Rattle.lanes_borders.specs.Sides.{side_at};
 use crate::borders::{LaneBorders, base_at};
 use lanes::sign_of;
 use records::LentRoad;
-use records_lanes::LentSide;
+use records_lanes::{LentSide, side_lanes};
 use records_sections::section_start;
 
 // A side of a section at a station: its lanes, how many metres into the section the station is, which way the lanes stack, and the t of the center,
@@ -25,7 +25,7 @@ impl<'a> SideAt<'a> {
         ensures { result ≡ side_at road.now section right s }
     {
         SideAt {
-            lanes: LentSide::new(road, section, right),
+            lanes: side_lanes(road, section, right),
             into: s - section_start(road, section),
             sign: sign_of(right),
             base: base_at(road, s),
@@ -39,7 +39,7 @@ impl<'a> SideAt<'a> {
     {
         let left = SideAt::new(road, section, false, s);
         let right = SideAt {
-            lanes: LentSide::new(road, section, true),
+            lanes: side_lanes(road, section, true),
             into: left.into,
             sign: sign_of(true),
             base: left.base,

@@ -2,29 +2,29 @@
 ghost use Rattle.std.specs.Prelude.{◌≡◌, ℕ, length, get_or};
 ghost use Rattle.records_lent.specs.Lists.{any_below};
 ghost use Rattle.records.specs.Roads.{no_lane};
+ghost use Rattle.lanes_borders.specs.Borders.{side_lanes};
 ghost use Rattle.lanes_heights.specs.Heights.{is_raised, section_raised};
 
 use records::LentRoad;
-use records_lanes::{LentLane, LentSide};
+use records_lanes::{LentLane, side_lanes};
 
 // Whether a lane has a height or is level.
 fn lane_raised(lane: &LentLane) -> bool
     ensures { result ≡ is_raised lane.now }
 {
-    (0 < lane.heights.len()) | lane.level
+    !lane.heights.is_empty() | lane.level
 }
 
 // Whether a lane of a side is raised.
-fn side_raised(side: &LentSide) -> bool
-    ensures { result ≡ any_below (λ (k : ℕ). is_raised (get_or side.now k no_lane)) (length side.now) }
+fn side_raised(road: &LentRoad, section: usize, right: bool) -> bool
+    ensures { result ≡ any_below (λ (k : ℕ). is_raised (get_or (side_lanes road.now section right) k no_lane)) (length (side_lanes road.now section right)) }
 {
-    (0..side.len()).any(|k| lane_raised(&side.get(k)))
+    side_lanes(road, section, right).any(|lane| lane_raised(&lane))
 }
 
 // Whether any lane of a section has a height or is level.
 pub fn section_raised(road: &LentRoad, section: usize) -> bool
     ensures { result ≡ section_raised road.now section }
 {
-    side_raised(&LentSide::new(road, section, false))
-        || side_raised(&LentSide::new(road, section, true))
+    side_raised(road, section, false) || side_raised(road, section, true)
 }
