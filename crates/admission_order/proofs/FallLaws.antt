@@ -1,5 +1,5 @@
 -- What `is_sorted` asks of two numbers: `<=`, by `partial_cmp`, so a NaN fails it.
-use mathlib.Core.Path.{◌≡◌, refl, sym, subst}
+use mathlib.Core.Path.{◌≡◌, refl}
 use mathlib.Core.Bool.{Bool, true, false, cond}
 use Rattle.std.specs.Prelude.{T}
 use mathlib.Core.Logic.{◌⊎◌, ⊎_elim}

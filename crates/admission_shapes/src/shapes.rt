@@ -9,8 +9,8 @@ use admission::{on_road, road_cubics_within};
 use admission_bounds::{cubics_within, greatest_bound};
 use arithmetic_ranges::LARGEST;
 use arithmetic_sine::horner;
-use records::layout::{STRIP_TERMS, STRIPS};
 use records::LentRoad;
+use records::layout::{STRIP_TERMS, STRIPS};
 use records_shapes::{LentStrip, profile_count, profile_start, shapes, strip};
 
 const GREATEST_SHAPE_START: f64 = 80.0;
@@ -62,7 +62,7 @@ fn terms_within(road: &LentRoad, strip: &LentStrip) -> bool
 
 // The width, the terms, and how high the terms reach together.
 #[tactic(auto, unfolding(admission::specs::Limits::strip_limited))]
-fn strip_limited(road: &LentRoad, strip: &LentStrip) -> bool
+fn columns_limited(road: &LentRoad, strip: &LentStrip) -> bool
     ensures { result ≡ strip_limited road.now (present strip.now) }
 {
     road_cubics_within(road, &strip.width(), GREATEST_STRIP_WIDTH)
@@ -71,8 +71,17 @@ fn strip_limited(road: &LentRoad, strip: &LentStrip) -> bool
 }
 
 // A strip that is not there has no cubics, and passes without their being looked for.
+fn strip_limited(road: &LentRoad, i: usize) -> bool
+    ensures { result ≡ strip_limited road.now (strip_at road.now i) }
+{
+    match strip(road, i) {
+        Some(strip) => columns_limited(road, &strip),
+        None => true,
+    }
+}
+
 pub fn strips_limited(road: &LentRoad) -> bool
     ensures { result ≡ all_below (λ (i : ℕ). strip_limited road.now (strip_at road.now i)) 4 }
 {
-    (0..STRIPS).all(|i| strip(road, i).is_none_or(|strip| strip_limited(road, &strip)))
+    (0..STRIPS).all(|i| strip_limited(road, i))
 }

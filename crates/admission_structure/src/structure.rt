@@ -62,23 +62,12 @@ fn lane_ok(words: &[u16], j: usize) -> bool
     ensures { result ≡ lane_ok words.now j }
 {
     let line = j * LANE_STRIDE;
-    let extent = word(words, LANE_WORDS + line) < EXTENT_CODES;
-    let level = word(words, LEVEL_WORDS + line) < LEVEL_CODES;
-    let extents = range_ok(
-        words,
-        EXTENT_WORDS + line,
-        0,
-        MOST_EXTENTS_A_LANE,
-        MOST_EXTENTS,
-    );
-    let heights = range_ok(
-        words,
-        HEIGHT_WORDS + line,
-        0,
-        MOST_HEIGHTS_A_LANE,
-        MOST_HEIGHTS,
-    );
-    extent & level & extents & heights
+    let extents = EXTENT_WORDS + line;
+    let heights = HEIGHT_WORDS + line;
+    (word(words, LANE_WORDS + line) < EXTENT_CODES)
+        & (word(words, LEVEL_WORDS + line) < LEVEL_CODES)
+        & range_ok(words, extents, 0, MOST_EXTENTS_A_LANE, MOST_EXTENTS)
+        & range_ok(words, heights, 0, MOST_HEIGHTS_A_LANE, MOST_HEIGHTS)
 }
 
 fn lanes_ok(words: &[u16], first: usize, n: usize) -> bool

@@ -1,7 +1,9 @@
 -- `column`: by the words of its line, or none.
+use Prim.Native.Nat.{ℕ, ◌+◌}
 use native.Mathlib.Omega.{arith}
-use mathlib.Core.Path.{◌∙◌}
-use Rattle.records.specs.Roads.{column_in}
+use mathlib.Core.Path.{◌∙◌, ap}
+use lib.ListN.{get_or}
+use Rattle.records.specs.Roads.{cubics_in, column_in}
 use Rattle.records_shapes.proofs.StripLaws.{column-of_line, column-past_line, place}
 use Rattle.records_shapes.proofs.strips.LentStrip.column.Goals as goal
 
@@ -9,7 +11,12 @@ pub returns-then-column-lt-COLUMNS_A_STRIP : goal.returns-then-column-lt-COLUMNS
 unfolding column_in
 returns-then-column-lt-COLUMNS_A_STRIP c =
     let r = c.self.inside in
-    rw (← c.self.view_is) (rw (place r.line c.args.column) at c.cubics_at.ensures ∙ column-of_line r.words.now r.numbers.now r.relative r.line c.args.column c.if-column-lt-COLUMNS_A_STRIP.true)
+    let words = r.words.now in
+    let numbers = r.numbers.now in
+    rw (← c.self.view_is)
+    (c.cubics_at.ensures
+    ∙ ap (λ (k : ℕ). cubics_in words numbers 7137 (get_or words k 0) (get_or words (k + 1) 0)) (place r.line c.args.column)
+    ∙ column-of_line words numbers r.relative r.line c.args.column c.if-column-lt-COLUMNS_A_STRIP.true)
 
 pub returns-else-column-lt-COLUMNS_A_STRIP : goal.returns-else-column-lt-COLUMNS_A_STRIP
 returns-else-column-lt-COLUMNS_A_STRIP c =
