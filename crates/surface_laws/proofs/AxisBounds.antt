@@ -21,7 +21,7 @@ use Rattle.float_laws.proofs.UnitVector.{squares3, component-most}
 use Rattle.arithmetic.specs.Root.{root_of}
 use Rattle.arithmetic.proofs.RootLaws.{root-between}
 use Rattle.arithmetic.proofs.UnitLaws.{unit-squares}
-use Rattle.arithmetic_sine.specs.Sine.{sine_range, one, sine_of, cosine_of}
+use Rattle.arithmetic_sine.specs.Sine.{sine_range, one, sine_of, cosine_of, sin_cos_of}
 use Rattle.arithmetic_sine.proofs.SineKernel.{point-68, point-7, point-76}
 use Rattle.arithmetic_laws.proofs.SineLaws.{Large, one-large, sine-within, cosine-within, small-sine-within, small-cosine-in}
 use Rattle.surface_station.specs.declared.axis.Axis.{Axis}
@@ -295,7 +295,7 @@ module _ (heading grade bank : Float) (wh : Within binary64 heading sine_range) 
   within-size x w = le_trans w.le one_size
 
   -- along the reference line
-  pub along-unit : Unit (along_by (sine_of heading) (cosine_of heading) grade)
+  pub along-unit : Unit (along_by (sin_cos_of heading) grade)
   unfolding along_by
   along-unit =
       let wc = cosine-within heading wh in
@@ -310,13 +310,13 @@ module _ (heading grade bank : Float) (wh : Within binary64 heading sine_range) 
   its-parts = parts (cosine_of heading) (sine_of heading) grade (cosine_of bank) (cosine-within heading wh) (sine-within heading wh) (one-large heading wh) wg (small-cosine-in bank wb)
 
   -- square to it and to the banked cross section
-  pub up-unit : Unit (up_by (sine_of heading) (cosine_of heading) grade (sine_of bank) (cosine_of bank))
+  pub up-unit : Unit (up_by (sin_cos_of heading) grade (sin_cos_of bank))
   unfolding up_by cross_of along_by unit_of first-term second-term eval
   up-unit =
       let f = binary64 in
       let ρ = cosine_of heading ∷ sine_of heading ∷ grade ∷ length_by (cosine_of heading) (sine_of heading) grade ∷ sine_of bank ∷ cosine_of bank ∷ [] in
       let inside : Inside f crude ρ = (in-of-within f (cosine_of heading) one (cosine-within heading wh), (in-of-within f (sine_of heading) one (sine-within heading wh), (in-of-within f grade one wg, (its-parts.length, (in-of-within f (sine_of bank) point-7 (small-sine-within bank wb), (small-cosine-in bank wb, tt)))))) in
-      let v = cross_of (along_by (sine_of heading) (cosine_of heading) grade) (tilted_by (sine_of heading) (cosine_of heading) (sine_of bank) (cosine_of bank)) in
+      let v = cross_of (along_by (sin_cos_of heading) grade) (tilted_by (sin_cos_of heading) (sin_cos_of bank)) in
       let ix = checked f crude ρ first-term (neg four) four (neg-real f four four-real) four-real first_passes inside in
       let iy = checked f crude ρ second-term (neg four) four (neg-real f four four-real) four-real second-passes inside in
       let iz = its-parts.third in
