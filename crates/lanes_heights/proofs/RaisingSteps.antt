@@ -1,13 +1,15 @@
 -- The steps of a side's heights as the code takes them: level from its lane outward and one lane across from where its inner neighbour ends.
 use mathlib.Core.Path.{◌≡◌, refl, ap, ◌∙◌, sym}
 use mathlib.Core.Bool.{Bool, false, ◌||◌}
-use mathlib.Core.List.{List}
+use mathlib.Core.List.{List, [], ◌∷◌}
 use Prim.Native.Nat.{ℕ, zero, suc, ◌+◌}
 use native.Mathlib.Numerals.{add-one}
-use lib.ListN.{get_or}
+use lib.ListN.{get_or, take}
 use lib.Ieee.{Float}
 use Rattle.float_laws.specs.Binary64.{◌⊖◌}
+use Rattle.std.specs.List.{list_any}
 use Rattle.records_lent.specs.Lists.{any_below}
+use Rattle.records_lent.proofs.RangeLaws.{any-front}
 use Rattle.records.specs.Roads.{Road, Lane, no_lane, section_of, lane_of}
 use Rattle.lanes.specs.Lateral.{height_toward}
 use Rattle.lanes_heights.specs.declared.across.Across.{Across}
@@ -16,6 +18,17 @@ use Rattle.lanes_borders.specs.Borders.{outer_after, borders_from, borders_at, b
 use Rattle.lanes_heights.specs.Heights.{level_up_to, across_by, own_heights, height_after, heights_at, across_at}
 
 -- ---- level
+
+-- some of the first n, those past the last counted as none
+pub any_first : {A : Type 0} (p : A → Bool) (d : A) → p d ≡ false → (n : ℕ) (xs : List A) → list_any p (take n xs) ≡ any_below (λ i. p (get_or xs i d)) n
+unfolding any_below
+any_first p d e zero xs = refl
+any_first {A} p d e (suc n) [] = sym (none (suc n))
+  where
+    none : (n : ℕ) → any_below (λ (i : ℕ). p (get_or {A = A} [] i d)) n ≡ false
+    none zero = refl
+    none (suc n) = rw (none n, e)
+any_first p d e (suc n) (x ∷ xs) = ap (λ b. p x || b) (any_first p d e n xs) ∙ sym (any-front (λ i. p (get_or (x ∷ xs) i d)) n)
 
 abbrev pub is_level : List Lane → ℕ → Bool
 is_level lanes k = (get_or lanes k no_lane).level

@@ -104,8 +104,8 @@ impl<'r, 'a> SideHeights<'r, 'a> {
 fn level_up_to(lanes: &LentSide, k: usize) -> bool
     ensures { result ≡ level_up_to lanes.now k }
 {
-    // not `0..=k`: its range type has no law for `any` here, as `0..k` has, and takes a flag along at each turn
-    (0..k).any(|j| lanes.get(j).level) | lanes.get(k).level
+    // the k-th apart: k + 1 may be no usize
+    lanes.iter().take(k).any(|lane| lane.level) | lanes.get(k).level
 }
 
 // A lane across the road at s. A level lane stands on its inner neighbour: where there is one, every lane inside counts.
