@@ -80,6 +80,7 @@ fn output_of(job: &[u8]) -> Text
 
 // The text that the program writes for a job text, put at the start of out, and its length. Nothing is written and the answer is 0 where out has
 // fewer bytes than the longest takes: no text is empty, so a caller tells the two apart, and the promise is the one that callers have.
+// No slice of out in place of the length: what out then holds would be said by an `ensures*`, which, tried, is not proved of a part that is handed out.
 pub fn answer(text: &[u8], out: &mut [u8]) -> usize
     ensures in_bounds { result ≤ length out.new }
     ensures value { result ≡ bytes_written text.now out.old }

@@ -13,7 +13,8 @@ use crate::answers::leave;
 use line_samples::Pose;
 use refusals::answer_number;
 
-// No `From`: from this type into an array it may stand only in the type's own crate, public, and the one call would read `<[f64; 3]>::from` for `pose_list`.
+// No `From`: into an array it may stand only in the type's own crate, line_samples, below the definition `pose_list`, and the call would read
+// `<[f64; 3]>::from` in place of this name.
 fn pose_list(p: Pose) -> [f64; 3]
     ensures { result ≡ pose_list p }
 {

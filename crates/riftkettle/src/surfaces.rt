@@ -13,7 +13,8 @@ use surface_locate::Position;
 use surface_points::SurfacePoint32;
 use surface_station::Axes;
 
-// No `From` here or below, as for `pose_list` (calls.rt). The lists of a point and of a pair leave fields out, so they are no conversions.
+// No `From` here or below: it may stand only in a type's own crate, and the order is the C interface's, of which these know nothing. The lists of a
+// point and of a pair leave fields out besides.
 fn station_list(p: RefPoint) -> [f64; 8]
     ensures { result ≡ station_list p }
 {

@@ -13,7 +13,7 @@ use records::Point;
 use refusals::answer_number;
 use tracks::{Projection, TrackPose};
 
-// No `From` here or below, as for `pose_list` (calls.rt).
+// No `From` here or below: it would be a public impl of tracks, and the calls would read `<[f32; 6]>::from` in place of these names.
 fn track_pose_list(p: TrackPose) -> [f32; 6]
     ensures { result ≡ track_pose_list p }
 {

@@ -19,6 +19,6 @@ pub extern "C" fn probe_pose(
 {
     let road = LentRoad::new(words, numbers);
     let p = line_pose::pose(&SampledRoad { road, samples }, geometry, s);
-    // riftkettle has this as a function, for the C interface and not public: one for both would be a new public one of line_pose
+    // riftkettle has this as a function of its own, and says at it why no `From` serves both
     *pose = [p.x, p.y, p.heading];
 }

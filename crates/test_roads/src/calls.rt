@@ -42,8 +42,7 @@ fn station_numbers(p: RefPoint) -> [f64; 9]
     ]
 }
 
-// riftkettle writes these out too, for the C interface and not public: one function of both would be a new public one of surface_station,
-// for nine fields in their order.
+// riftkettle writes the nine in this order too. There it is the C interface's, here the list's, and a `From` of surface_station could say neither.
 fn axes_numbers(a: Axes) -> [f64; 9]
     ensures { result ≡ axes_numbers a }
 {

@@ -65,8 +65,8 @@ pub(crate) fn tangents_number(answer: Result<usize, Refusal>) -> u32
     }
 }
 
-// riftkettle writes a pose and a projection out too, for the C interface and not public: a function of both would be a new public one of tracks, for
-// their fields in their order. Matches: by `map_or`, tried, the proof would need a law of its own on its two cases, where a match needs no answer.
+// riftkettle writes a pose and a projection out too: a `From` for both would be a public impl of tracks each, with a clause and edits of its own, in
+// place of the one line of fields that each has here. Matches: by `map_or`, tried, the proof would need a law of its own on its two cases, where a match needs no answer.
 pub(crate) fn pose_numbers(answer: Result<TrackPose, Refusal>) -> [f32; 6]
     ensures { result ≡ pose_numbers (answered answer) }
 {
