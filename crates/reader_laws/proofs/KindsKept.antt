@@ -4,6 +4,7 @@ use native.Mathlib.Omega.{arith}
 use native.Mathlib.Nat.{le_of_suc-le-suc, not-suc-le-zero, zero-add, add-zero}
 use mathlib.Core.Path.{◌≡◌, refl, sym, ◌∙◌, ap, subst}
 use mathlib.Core.Bool.{Bool, true, false, ◌||◌, cond}
+use Rattle.reader_store.proofs.Puts.{one_on}
 use mathlib.Core.List.{List, [], ◌∷◌}
 use lib.ListN.{length, get_or, set, length-set}
 use lib.Seq.{get_or-set_same, get_or-set_other}
@@ -52,11 +53,8 @@ kinds-same (r ∷ rs) k zero ws h l =
     ∙ kinds-other rs (k + 1) (7 + k) (set ws (7 + k) (code_of (cell_of r 5))) (omega arith)
     ∙ get_or-set_same ws (7 + k) (code_of (cell_of r 5)) 0 (omega arith)
 kinds-same (r ∷ rs) k (suc i) ws h l =
-    ap (λ (j : ℕ). get_or (kinds_put (k + 1) rs (set ws (7 + k) (code_of (cell_of r 5)))) (7 + j) 0) (next k i)
+    ap (λ (j : ℕ). get_or (kinds_put (k + 1) rs (set ws (7 + k) (code_of (cell_of r 5)))) (7 + j) 0) (one_on k i)
     ∙ kinds-same rs (k + 1) i (set ws (7 + k) (code_of (cell_of r 5))) (le_of_suc-le-suc h) (let e = length-set ws (7 + k) (code_of (cell_of r 5)) in omega arith)
-  where
-    next : (k i : ℕ) → k + suc i ≡ k + 1 + i
-    next k i = omega arith
 
 kind-line : (k : ℕ) (cells : Cells) (progress : Progress) (ws : List ℕ) → kept_words 1 k cells progress ws ≡ set ws (7 + k) (code_of (cell_of cells 5))
 unfolding kept_words ruled_words codes_kept cells_kept word_columns word_lines rule_of

@@ -2,6 +2,7 @@
 -- By computation, and by the laws on parts of a list.
 use Prim.Native.Nat.{ℕ, ◌+◌, ◌-◌, ◌*◌, ◌/◌, ◌<◌, ◌≤◌}
 use native.Mathlib.Omega.{arith}
+use native.Mathlib.Nat.{add-zero}
 use mathlib.Core.Path.{◌≡◌, refl, sym, ◌∙◌, ap}
 use mathlib.Core.List.{List, [], ◌∷◌}
 use lib.ListN.{length, get_or, drop, length-take}
@@ -110,9 +111,6 @@ kind-place i = omega arith
 
 one_more_lem : (base i : ℕ) → base + i ≡ base + i * 1 + 0
 one_more_lem base i = omega arith
-
-none-added : (i : ℕ) → i ≡ i + 0
-none-added i = omega arith
 
 added : (base i : ℕ) → base + i ≡ base + i + 0
 added base i = omega arith
@@ -252,7 +250,7 @@ module _ (ws : List ℕ) (ns : List Float) where
   pub mark-join : (j : ℕ)
       → mark_in ws ns j ≡ record { lane = get_or ws (mark_words + j * mark_stride) 0; kind = get_or ws (mark_words + j * mark_stride + 1) 0; start = number_of 14 j 2; end = number_of 14 j 3 }
   unfolding mark_in number_lines word_lines number_place number_columns
-  mark-join j = mark-same refl refl (ap (λ (p : ℕ). get_or ns p nan) (none-added (7937 + j * 2))) refl
+  mark-join j = mark-same refl refl (ap (λ (p : ℕ). get_or ns p nan) (sym (add-zero (7937 + j * 2)))) refl
 
   -- a profile: its s and its shapes
   pub profile-join : (i : ℕ) → profile_in ws ns i ≡ record { s = number_of 10 i 0; shapes = cubics_in ws ns (number_lines 11).first (first_of Shape i) (count_of Shape i) }
@@ -286,7 +284,7 @@ module _ (ws : List ℕ) (ns : List Float) where
     cubic-join h =
         let l : k < length part / 5 = rw (cubic-count part) at h in
         cubic_in_lem part k l
-        ∙ cubic-same (ap (λ (p : ℕ). get_or part p nan) (none-added (k * 5)) ∙ cell_at column 0 (omega arith) l five.start) (cell_at (column + 1) 1 (omega arith) l five.a) (cell_at (column + 2) 2 (omega arith) l five.b) (cell_at (column + 3) 3 (omega arith) l five.c) (cell_at (column + 4) 4 (omega arith) l five.d)
+        ∙ cubic-same (ap (λ (p : ℕ). get_or part p nan) (sym (add-zero (k * 5))) ∙ cell_at column 0 (omega arith) l five.start) (cell_at (column + 1) 1 (omega arith) l five.a) (cell_at (column + 2) 2 (omega arith) l five.b) (cell_at (column + 3) 3 (omega arith) l five.c) (cell_at (column + 4) 4 (omega arith) l five.d)
 
   -- height: start inner outer
   pub height-join : (first count k : ℕ) → k < length (heights_in ws ns first count)
@@ -297,6 +295,6 @@ module _ (ws : List ℕ) (ns : List Float) where
       let l : k < length part / 3 = rw (height-count part) at h in
       let m : length part ≤ count * 3 = length-span ns (4305 + first * 3) (count * 3) in
       height_in_lem part k l
-      ∙ height-same (ap (λ (p : ℕ). get_or part p nan) (none-added (k * 3)) ∙ span-at ns (4305 + first * 3) (count * 3) (k * 3 + 0) nan (omega arith) ∙ number_at 9 2 4305 3 first k 0 refl refl refl)
+      ∙ height-same (ap (λ (p : ℕ). get_or part p nan) (sym (add-zero (k * 3))) ∙ span-at ns (4305 + first * 3) (count * 3) (k * 3 + 0) nan (omega arith) ∙ number_at 9 2 4305 3 first k 0 refl refl refl)
       (span-at ns (4305 + first * 3) (count * 3) (k * 3 + 1) nan (omega arith) ∙ number_at 9 3 4305 3 first k 1 refl refl refl)
       (span-at ns (4305 + first * 3) (count * 3) (k * 3 + 2) nan (omega arith) ∙ number_at 9 4 4305 3 first k 2 refl refl refl)

@@ -10,7 +10,7 @@ use lib.Ieee.{Float, nan, binary64, of_bits}
 use Rattle.reader_lines.specs.Columns.{cell_of, no_cells}
 use Rattle.reader_lines.specs.declared.columns.Cells.{Cells}
 use Rattle.reader_store.specs.Layout.{number_lines, number_columns, numbers_kept}
-use Rattle.reader_store.proofs.Puts.{cells-length, cells_other, cell-same}
+use Rattle.reader_store.proofs.Puts.{one_on, cells-length, cells_other, cell-same}
 
 -- the place of number i of line k
 abbrev pub place_at : ℕ → ℕ → ℕ → ℕ
@@ -70,8 +70,5 @@ module _ (t : ℕ) where
         ∙ rows_other rs (k + 1) (place_at t k i) (numbers_kept t k r ns) (λ j d b e g. later k j d b)
         ∙ line_same k r i ns small (omega arith)
     rows_same (r ∷ rs) k (suc n) ns h l =
-        ap (λ (j : ℕ). get_or (rows_put t (k + 1) rs (numbers_kept t k r ns)) (place_at t j i) nan) (next k n)
+        ap (λ (j : ℕ). get_or (rows_put t (k + 1) rs (numbers_kept t k r ns)) (place_at t j i) nan) (one_on k n)
         ∙ rows_same rs (k + 1) n (numbers_kept t k r ns) (le_of_suc-le-suc h) (let e = line-length k r ns in omega arith)
-      where
-        next : (k i : ℕ) → k + suc i ≡ k + 1 + i
-        next k i = omega arith

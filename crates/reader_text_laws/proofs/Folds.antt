@@ -4,6 +4,7 @@ use Prim.Native.Nat.{ℕ, zero, suc, ◌+◌, ◌<◌, ◌≤◌}
 use native.Mathlib.Omega.{arith}
 use native.Mathlib.Nat.{le_of_suc-le-suc, not-suc-le-zero, zero-add, add-zero}
 use mathlib.Core.Path.{◌≡◌, refl, sym, ◌∙◌, ap, subst}
+use Rattle.reader_store.proofs.Puts.{one_on}
 use mathlib.Core.Bool.{Bool, true, false, ◌&&◌, cond}
 use mathlib.Core.List.{List, [], ◌∷◌}
 use lib.ListN.{length, get_or, length-set}
@@ -58,13 +59,10 @@ module _ (t : ℕ) (all : List Cells) (R : ℕ → List Cells → Progress → L
   unfolding track_after words_after
   fold-from [] k progress ws e same p = subst (λ (n : ℕ). R n [] progress ws) (sym (add-zero k) ∙ e) p
   fold-from (r ∷ rs) k progress ws e same p =
-      fold-from rs (k + 1) (kept_progress t k r progress ws) (kept_words t k r progress ws) (omega arith) (λ i. same (suc i) ∙ ap (λ (n : ℕ). get_or all n no_cells) (next k i))
+      fold-from rs (k + 1) (kept_progress t k r progress ws) (kept_words t k r progress ws) (omega arith) (λ i. same (suc i) ∙ ap (λ (n : ℕ). get_or all n no_cells) (one_on k i))
       (subst (λ (cells : Cells). R (k + 1) rs (kept_progress t k cells progress ws) (kept_words t k cells progress ws)) (sym here)
       (line k rs progress ws (omega arith) (subst (λ (cells : Cells). R k (cells ∷ rs) progress ws) here p)))
     where
-      next : (k i : ℕ) → k + suc i ≡ k + 1 + i
-      next k i = omega arith
-
       here : r ≡ get_or all k no_cells
       here = same 0 ∙ ap (λ (n : ℕ). get_or all n no_cells) (add-zero k)
 
@@ -258,10 +256,7 @@ join n t s s' rows tables c0 c1 e a (done at c progress ws ns vs) h =
   where
     steps : (i : ℕ) → i < suc n → Step (t + i) (get_or (rows ∷ tables) i []) (shift s h.at i) (h.at i)
     steps zero l = subst (λ (u : ℕ). Step u rows s (h.at 0)) (sym (add-zero t)) (subst (λ (q : State). Step t rows s q) (sym h.first) a)
-    steps (suc i) l = subst (λ (u : ℕ). Step u (get_or tables i []) (h.at i) (h.at (suc i))) (next t i) (h.step i (le_of_suc-le-suc l))
-      where
-        next : (t i : ℕ) → t + 1 + i ≡ t + suc i
-        next t i = omega arith
+    steps (suc i) l = subst (λ (u : ℕ). Step u (get_or tables i []) (h.at i) (h.at (suc i))) (sym (one_on t i)) (h.step i (le_of_suc-le-suc l))
 
     counts : (i : ℕ) → suc n ≡ suc i → c ≡ length (get_or (rows ∷ tables) i [])
     counts zero z = h.none (omega arith) ∙ e

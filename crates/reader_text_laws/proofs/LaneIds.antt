@@ -1,7 +1,7 @@
 -- A section's ids: in a sound text they are 1 to n, then -1 to -m (`ids-kept`); and where they are, it is the turn of each line's id (`id-turn`).
 use Prim.Native.Nat.{ℕ, zero, suc, ◌+◌, ◌-◌, ◌<◌, ◌≤◌, suc-le-suc}
 use native.Mathlib.Omega.{arith}
-use native.Mathlib.Nat.{eq-or-lt_of_le, zero-lt-suc}
+use native.Mathlib.Nat.{eq-or-lt_of_le, zero-lt-suc, add-zero}
 use mathlib.Core.Path.{◌≡◌, refl, sym, ◌∙◌, ap, subst}
 use mathlib.Core.Bool.{Bool, true, false, ◌&&◌}
 use mathlib.Core.List.{List, [], ◌∷◌, map}
@@ -245,11 +245,8 @@ module _ (all : List Cells) (S : ℕ) (strips : List (Option ℕ)) (ws : List �
               let a = old-left n x in
               let e = (id-at n (omega arith)).1 in
               let d = ids-right n m 0 (omega arith) in
-              let w : get_or (ids_of n m) n 0 ≡ 9999 - 0 = ap (λ (k : ℕ). get_or (ids_of n m) k 0) (plain n) ∙ d in
+              let w : get_or (ids_of n m) n 0 ≡ 9999 - 0 = ap (λ (k : ℕ). get_or (ids_of n m) k 0) (sym (add-zero n)) ∙ d in
               absurd (omega arith)
-            where
-              plain : (n : ℕ) → n ≡ n + 0
-              plain n = omega arith
           by false false p q = let x = ltb-false L n p in let y = ltb-false n L q in omega arith
 
       go : (b : Bool) → ltb c n ≡ b → (side : ℕ) × (side_word (section_record us s) (id_in all k) ≡ Some side)

@@ -1,6 +1,7 @@
 -- The road that an accepted text leaves in memory is the road that its lines say (`road-says`).
 use Prim.Native.Nat.{ℕ, zero, suc, ◌+◌, ◌*◌, ◌/◌, ◌%◌, ◌<◌, ◌≤◌}
 use native.Mathlib.Omega.{arith}
+use native.Mathlib.Nat.{add-zero}
 use mathlib.Core.Path.{◌≡◌, refl, sym, ◌∙◌, ap, subst}
 use mathlib.Core.Bool.{Bool, true, false, cond}
 use mathlib.Core.List.{List, [], ◌∷◌, map}
@@ -83,9 +84,6 @@ road-same : {a a' : Float} {b b' : List GeomRec} {c c' : List (List Float)} {d d
     → ◌≡◌ {A = Road} (record { length = a; geoms = b; unused = c; elevations = d; superelevations = e; offsets = f; tshifts = g; sections = h; profiles = i; strips = j })
     (record { length = a'; geoms = b'; unused = c'; elevations = d'; superelevations = e'; offsets = f'; tshifts = g'; sections = h'; profiles = i'; strips = j' })
 road-same p q r s t u v w x y = cc
-
-plain : (n : ℕ) → n + 0 ≡ n
-plain n = omega arith
 
 module _ (text : List ℕ) (l m n at count : ℕ) (progress : Progress) (ws : List ℕ) (ns : List Float) (vs : List ℕ) (read : Stored text l m n (done at count progress ws ns vs)) where
   abbrev T : ℕ → List Cells
@@ -224,7 +222,7 @@ module _ (text : List ℕ) (l m n at count : ℕ) (progress : Progress) (ws : Li
   unfolding lane_said number_lines word_lines word_place word_columns ranges_of
   lane-says j h =
       lane-join ws ns j
-      ∙ lane-same (ap (λ (p : ℕ). eqb (get_or ws p 0) 1) (plain (119 + j * 6)) ∙ ap (λ (v : ℕ). eqb v 1) (lane-extent j h) ∙ code_one (cell_of (get_or (T 7) j no_cells) 2))
+      ∙ lane-same (ap (λ (p : ℕ). eqb (get_or ws p 0) 1) (add-zero (119 + j * 6)) ∙ ap (λ (v : ℕ). eqb v 1) (lane-extent j h) ∙ code_one (cell_of (get_or (T 7) j no_cells) 2))
       (ap (λ (v : ℕ). eqb v 1) (lane-level j h) ∙ code_one (cell_of (get_or (T 7) j no_cells) 3))
       (cubics-part 8 2 extent_base extent-five (omega arith) (get_or ws (121 + j * 6) 0) (get_or ws (121 + j * 6 + 1) 0) (extent-part j h).fits ∙ ap (map (cubic_in 2)) (sym (those-part (of_lane (get_or (T 7) j no_cells)) (T 8) (get_or ws (121 + j * 6) 0) (get_or ws (121 + j * 6 + 1) 0) (extent-part j h))))
       (heights-part (get_or ws (123 + j * 6) 0) (get_or ws (123 + j * 6 + 1) 0) (height-part j h).fits ∙ ap (map height_in) (sym (those-part (of_lane (get_or (T 7) j no_cells)) (T 9) (get_or ws (123 + j * 6) 0) (get_or ws (123 + j * 6 + 1) 0) (height-part j h))))
@@ -305,7 +303,7 @@ module _ (text : List ℕ) (l m n at count : ℕ) (progress : Progress) (ws : Li
         (λ i g. let z : i < 1 = subst (λ (q : ℕ). i < q) (part_length rows j 1 (omega arith)) g in span-at rows j 1 i no_cells z ∙ here i z)
       where
         here : (i : ℕ) → i < 1 → get_or rows (j + i) no_cells ≡ get_or (get_or rows j no_cells ∷ []) i no_cells
-        here zero g = ap (λ (q : ℕ). get_or rows q no_cells) (plain j)
+        here zero g = ap (λ (q : ℕ). get_or rows q no_cells) (add-zero j)
         here (suc i) g = absurd (omega arith)
 
     -- a strip's word and its lines: 0 and none, or by one line's relative

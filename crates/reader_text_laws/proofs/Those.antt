@@ -3,6 +3,7 @@ use Prim.Native.Nat.{ℕ, zero, suc, ◌+◌, ◌<◌, ◌≤◌, suc-le-suc}
 use native.Mathlib.Omega.{arith}
 use native.Mathlib.Nat.{le_of_suc-le-suc, not-suc-le-zero, zero-add, add-zero, zero-lt-suc}
 use mathlib.Core.Path.{◌≡◌, refl, sym, ◌∙◌, ap, subst}
+use Rattle.reader_store.proofs.Puts.{one_on}
 use mathlib.Core.Bool.{Bool, true}
 use mathlib.Core.List.{List, [], ◌∷◌, map}
 use lib.ListN.{length, get_or, take, drop, length-map, length-drop, get_or-map}
@@ -89,10 +90,7 @@ unfolding tabulate numbered
 numbered-from g s [] k h = refl
 numbered-from g s (r ∷ rs) k h =
     cons_same (h 0 (zero-lt-suc (length rs)) ∙ ap (λ (i : ℕ). s i r) (add-zero k))
-    (numbered-from (λ i. g (suc i)) s rs (k + 1) (λ i l. h (suc i) (suc-le-suc l) ∙ ap (λ (n : ℕ). s n (get_or rs i no_cells)) (next k i)))
-  where
-    next : (k i : ℕ) → k + suc i ≡ k + 1 + i
-    next k i = omega arith
+    (numbered-from (λ i. g (suc i)) s rs (k + 1) (λ i l. h (suc i) (suc-le-suc l) ∙ ap (λ (n : ℕ). s n (get_or rs i no_cells)) (one_on k i)))
 
 pub table-numbered : {B : Type 0} (g : ℕ → B) (s : ℕ → Cells → B) (rows : List Cells) → ((i : ℕ) → i < length rows → g i ≡ s i (get_or rows i no_cells)) → tabulate g (length rows) ≡ numbered s 0 rows
 table-numbered g s rows h = numbered-from g s rows 0 (λ i l. h i l ∙ ap (λ (n : ℕ). s n (get_or rows i no_cells)) (sym (zero-add i)))
