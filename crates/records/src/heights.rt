@@ -29,11 +29,7 @@ impl Record for HeightDef {
     }
 
     fn none() -> Self {
-        HeightDef {
-            s_offset: f64::NAN,
-            inner: f64::NAN,
-            outer: f64::NAN,
-        }
+        Self::from_part(&[])
     }
 }
 

@@ -142,6 +142,8 @@ pub const LEVEL_CODES: usize = 2;
 // a strip: absent, absolute, relative
 pub const ABSENT_CODE: usize = 0;
 
+pub const ABSOLUTE_CODE: usize = 1;
+
 pub const RELATIVE_CODE: usize = 2;
 
 pub const STRIP_CODES: usize = 3;

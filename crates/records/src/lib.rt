@@ -3,6 +3,7 @@
 
 mod heights;
 pub mod layout;
+mod marks;
 mod points;
 mod road;
 

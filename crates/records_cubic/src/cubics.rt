@@ -59,13 +59,7 @@ impl Record for Cubic {
     }
 
     fn none() -> Self {
-        Cubic {
-            start: f64::NAN,
-            a: f64::NAN,
-            b: f64::NAN,
-            c: f64::NAN,
-            d: f64::NAN,
-        }
+        Self::from_part(&[])
     }
 }
 

@@ -4,5 +4,5 @@
 mod lanes;
 mod sides;
 
-pub use lanes::{LentLane, lane_in};
-pub use sides::{LentSide, lane};
+pub use lanes::LentLane;
+pub use sides::{LentSide, lane, side_lanes};

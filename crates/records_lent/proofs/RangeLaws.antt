@@ -13,10 +13,12 @@ use Rattle.std.proofs.iter.Yields.{nat_range_steps}
 use Rattle.std.proofs.iter.runs.Sources.{nat_range_steps_back}
 use Rattle.std.specs.declared.option.Option.TheVariants.{None, Some}
 use Rattle.std.specs.Fn.{Called, CalledAt}
-use Rattle.std.specs.Iterator.{Yields, YieldsThen}
+use lib.ListN.{length, get_or}
+use Rattle.std.specs.Iterator.{Yields, YieldsThen, YieldsFirst}
 use Rattle.std.specs.List.{FoldsTo, range_with_len, list_all, list_any}
 use Rattle.std.specs.Option.{MatchOption}
 use Rattle.std.proofs.lemmas.Iterator.{YieldsList-from_range}
+use Rattle.std.proofs.lemmas.Iterator.Consumers.{YieldsList-from_first}
 use Rattle.std.proofs.lemmas.Iterator.Search.{all_from_yields_List, any_from_yields_List}
 use Rattle.records_lent.specs.Lists.{all_below, any_below, last_that}
 
@@ -100,3 +102,28 @@ module _ {F : Type 0} {g : Mut F (Bor ℕ × Unit {0}) Bool} (p : ℕ → Bool) 
   pub last_range : (n : ℕ) (u : Range ℕ) {r : Option ℕ} → (xs : List ℕ) × (j : F) × YieldsThen nat_range_steps_back (record { start = 0; end = n }) xs r u × FoldsTo (λ q x v. CalledAt g q x false v) f xs j × MatchOption r (Unit {0}) (λ x. (h : F) × CalledAt g j x true h)
       → r ≡ last_that p n
   last_range n u {r} ran = down ran.0 n _ ran.2.0 u r ran.1 refl ran.2.1 ran.2.2 ran.3 ran.4
+
+-- ---- over a list whose `next` gives its first
+
+list_all-below : {A : Type 0} (p : A → Bool) (xs : List A) (d : A) → list_all p xs ≡ all_below (λ i. p (get_or xs i d)) (length xs)
+unfolding all_below
+list_all-below p [] d = refl
+list_all-below p (x ∷ xs) d = ap (λ b. p x && b) (list_all-below p xs d) ∙ sym (all-front (λ i. p (get_or (x ∷ xs) i d)) (length xs))
+
+list_any-below : {A : Type 0} (p : A → Bool) (xs : List A) (d : A) → list_any p xs ≡ any_below (λ i. p (get_or xs i d)) (length xs)
+unfolding any_below
+list_any-below p [] d = refl
+list_any-below p (x ∷ xs) d = ap (λ b. p x || b) (list_any-below p xs d) ∙ sym (any-front (λ i. p (get_or (x ∷ xs) i d)) (length xs))
+
+module _ {A F : Type 0} {g : Mut F (A × Unit {0}) Bool} (p : A → Bool) (d : A) {s t u : List A} {f : F} {r : Bool} where
+  -- what `all(f)` over s, which is t, answered, f answering p of each
+  pub all_listed : (xs : List A) × (o : Option A) × (j : F) × YieldsThen (YieldsFirst (λ l. l)) s xs o u × FoldsTo (λ q x v. Called g q (x, tt) true v) f xs j × MatchOption o (r ≡ true) (λ x. (r ≡ false) × ((h : F) × Called g j (x, tt) false h))
+      → s ≡ t → ((x : A) (b : Bool) (q : F) → Called g f (x, tt) b q → (q ≡ f) × (b ≡ p x))
+      → r ≡ all_below (λ i. p (get_or t i d)) (length t)
+  all_listed ran e says = all_from_yields_List p u f r ran (YieldsList-from_first (λ x. x) (λ l. l) t e) says ∙ list_all-below p t d
+
+  -- what `any(f)` answered
+  pub any_listed : (xs : List A) × (o : Option A) × (j : F) × YieldsThen (YieldsFirst (λ l. l)) s xs o u × FoldsTo (λ q x v. Called g q (x, tt) false v) f xs j × MatchOption o (r ≡ false) (λ x. (r ≡ true) × ((h : F) × Called g j (x, tt) true h))
+      → s ≡ t → ((x : A) (b : Bool) (q : F) → Called g f (x, tt) b q → (q ≡ f) × (b ≡ p x))
+      → r ≡ any_below (λ i. p (get_or t i d)) (length t)
+  any_listed ran e says = any_from_yields_List p u f r ran (YieldsList-from_first (λ x. x) (λ l. l) t e) says ∙ list_any-below p t d

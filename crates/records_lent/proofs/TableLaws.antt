@@ -1,17 +1,16 @@
 -- The lists of `Lists`: a table's length and its lines, the elements of a span, where a test of `any_below` passes, and what `last_that` depends on. By induction.
 use Prim.Native.Nat.{ℕ, zero, suc, ◌+◌, ◌*◌, ◌/◌, ◌<◌, ◌≤◌}
 use native.Mathlib.Omega.{arith}
-use native.Mathlib.Nat.{add-zero, le_of_suc-le-suc, not-suc-le-zero, eq-or-lt_of_le}
-use mathlib.Core.Path.{◌≡◌, refl, sym, ap, ◌∙◌}
+use native.Mathlib.Nat.{add-zero, zero-mul, le_of_suc-le-suc, not-suc-le-zero, eq-or-lt_of_le}
+use mathlib.Core.Path.{◌≡◌, refl, sym, ap, ap₂, ◌∙◌}
 use mathlib.Core.Bool.{Bool, true, false, ◌||◌, or-true}
-use mathlib.Core.List.{List}
+use mathlib.Core.List.{List, [], ◌∷◌}
 use mathlib.Core.Logic.{⊎_elim}
-use lib.ListN.{length, get_or, drop, get_or-eq_default, length-take}
-use lib.Seq.{get_or-take, get_or-drop}
-use Rattle.std.proofs.Math.Nat.{div-mul-le_self, mul-le-mul_right}
+use lib.ListN.{length, get_or, take, drop, get_or-eq_default, length-take, length-drop}
+use lib.Seq.{get_or-take, get_or-drop, drop-drop}
+use Rattle.std.proofs.Math.Nat.{div-eq_of_lt, div-mul-le_self, mul-le-mul_right, add-div_right}
 use Rattle.std.proofs.lemmas.Bool.{cases_lt}
 use Rattle.std.specs.Prelude.{Float}
-use borrow.Author.Tests.{le-leb}
 use Rattle.records_lent.specs.Lists.{tabulate, records_of, span, all_below, any_below, last_that}
 
 -- ---- tables
@@ -30,6 +29,19 @@ table_at f (suc n) (suc i) d h = table_at (λ k. f (suc k)) n i d (le_of_suc-le-
 pub table-past : {A : Type 0} (f : ℕ → A) (n i : ℕ) (d : A) → n ≤ i → get_or (tabulate f n) i d ≡ d
 table-past f n i d h = get_or-eq_default (tabulate f n) d (rw length-table h)
 
+-- how many lines a table has, from the list that it is
+pub table-count : {A : Type 0} (f : ℕ → A) {m n : ℕ} {xs : List A} → n ≡ length xs → tabulate f m ≡ xs → n ≡ m
+table-count f {m = m} e v = e ∙ sym (ap length v) ∙ length-table f m
+
+-- the first line, and the others
+pub table-step : {A : Type 0} (f : ℕ → A) (first : ℕ) {n m : ℕ} → n ≡ suc m → tabulate (λ k. f (first + k)) n ≡ f first ∷ tabulate (λ k. f (first + 1 + k)) m
+unfolding tabulate
+table-step f first {m = m} e =
+    ap (tabulate (λ k. f (first + k))) e ∙ ap₂ (λ x xs. x ∷ xs) (ap f (add-zero first)) (ap (λ (q : ℕ → ℕ). tabulate (λ k. f (q k)) m) (λ i k. over first k i))
+  where
+    over : (a k : ℕ) → a + suc k ≡ a + 1 + k
+    over a k = omega arith
+
 -- ---- records
 
 -- a record that is counted is held whole
@@ -42,6 +54,27 @@ record-whole from stride xs {n = n} {i = i} e f h = (counted, whole (mul-le-mul_
 
     whole : suc i * stride ≤ length xs / stride * stride → length xs / stride * stride ≤ length xs → i * stride + stride ≤ length xs
     whole a b = omega arith
+
+-- fewer numbers than one takes hold no record
+pub records-none : {A : Type 0} (from : List Float → ℕ → A) (stride : ℕ) (xs : List Float) → length xs < stride → records_of from stride xs ≡ []
+unfolding tabulate
+records-none from stride xs h = ap (tabulate (λ i. from xs (i * stride))) (div-eq_of_lt h)
+
+-- the first record, and those of the other numbers
+pub records-step :
+    {A : Type 0} (from : List Float → ℕ → A) (stride : ℕ) (own : (xs : List Float) (at : ℕ) → from (span xs at stride) 0 ≡ from xs at) (xs : List Float)
+    → 0 < stride → stride ≤ length xs → records_of from stride xs ≡ from (take stride xs) 0 ∷ records_of from stride (drop stride xs)
+unfolding tabulate
+records-step {A} from stride own xs p h =
+    ap (tabulate (λ i. from xs (i * stride))) count ∙ ap₂ (λ x rs. x ∷ rs) (ap (from xs) (zero-mul stride) ∙ sym (own xs 0)) (ap (λ (f : ℕ → A). tabulate f (length (drop stride xs) / stride)) (λ i k. later k i))
+  where
+    count : length xs / stride ≡ suc (length (drop stride xs) / stride)
+    count =
+        let l = length-drop stride xs in
+        ap (λ (n : ℕ). n / stride) (let t : length xs ≡ length (drop stride xs) + stride = omega arith in t) ∙ add-div_right (length (drop stride xs)) p ∙ omega arith
+
+    later : (i : ℕ) → from xs (suc i * stride) ≡ from (drop stride xs) (i * stride)
+    later i = sym (own xs (suc i * stride)) ∙ ap (λ (ys : List Float). from (take stride ys) 0) (ap (λ (n : ℕ). drop n xs) (omega arith) ∙ sym (drop-drop (i * stride) stride xs)) ∙ own (drop stride xs) (i * stride)
 
 -- ---- spans
 

@@ -17,13 +17,20 @@ pub fn number(numbers: &[f64], at: usize) -> f64
     item_or(numbers, at, f64::NAN)
 }
 
-// The word at a place, 0 past the end. It is a usize, since it counts or numbers lines and callers calculate places with it; that it came of a u16 is a
-// clause, in the functions of counts too, where the model's list is of any length.
+// The word at a place as it is lent, 0 past the end.
+pub fn raw_word(words: &[u16], at: usize) -> u16
+    ensures { result ≡ get_or words.now at 0 }
+{
+    item_or(words, at, 0)
+}
+
+// The word at a place, 0 past the end. It is a usize, since callers calculate places with it and compare it with lengths: of a u16 each would make one. So
+// that it came of a u16 is a clause, here and in the functions of counts, where the model's list is of any length.
 pub fn word(words: &[u16], at: usize) -> usize
     ensures value { result ≡ get_or words.now at 0 }
     ensures small { result < 65536 }
 {
-    usize::from(item_or(words, at, 0))
+    usize::from(raw_word(words, at))
 }
 
 // count numbers from start on, fewer where the slice ends before.

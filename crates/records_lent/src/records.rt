@@ -1,8 +1,9 @@
 // Records in lent numbers, one after another.
-ghost use Rattle.std.specs.Prelude.{◌≡◌, ◌+◌, ◌*◌, ◌<◌, ℕ, List, Float, length, get_or};
+ghost use Rattle.std.specs.Prelude.{◌≡◌, ◌==◌, ◌+◌, ◌*◌, ◌<◌, ℕ, List, Float, length, get_or};
+ghost use Rattle.std.specs.Iterator.{YieldsFirst, item_count};
 ghost use Rattle.records_lent.specs.Lists.{records_of, span};
 
-use crate::access::part;
+use crate::access::{part, word};
 use std::marker::{Model, PhantomData};
 
 // What so many numbers stand for.
@@ -65,14 +66,28 @@ impl<'a, T: Record> Records<'a, T> {
         Self::new(part(numbers, start, count.saturating_mul(T::STRIDE)))
     }
 
+    // Of a table that begins at a base, the lines that two words at a place say: the first and how many.
+    pub fn of_range(words: &[u16], at: usize, numbers: &'a [f64], base: usize) -> Self
+        ensures { result ≡ records_of T.from T.STRIDE (span numbers.now (base + get_or words.now at 0 * T.STRIDE) (get_or words.now (at + 1) 0 * T.STRIDE)) }
+    {
+        let first = word(words, at);
+        let count = word(words, at.saturating_add(1));
+        Self::of_table(numbers, base, first, count)
+    }
+
     pub fn len(&self) -> usize
         ensures { result ≡ length self.now }
     {
         self.numbers.len() / T::STRIDE
     }
 
-    // The i-th record, none past the last. Callers go by index, over ranges: the tests of an order look at the next record too, and one law of ranges serves
-    // them all.
+    pub fn is_empty(&self) -> bool
+        ensures { result ≡ (length self.now == 0) }
+    {
+        self.len() == 0
+    }
+
+    // The i-th record, none past the last.
     pub fn get(&self, i: usize) -> T
         ensures { result ≡ get_or self.now i T.none }
     {
@@ -82,5 +97,26 @@ impl<'a, T: Record> Records<'a, T> {
         } else {
             T::none()
         }
+    }
+
+    // The same records, to go over.
+    pub fn iter(&self) -> Self
+        ensures { result ≡ self.now }
+    {
+        Self::new(self.numbers)
+    }
+}
+
+impl<'a, T: Record> Iterator for Records<'a, T> {
+    type Item = T;
+
+    ghost next_gives = { YieldsFirst (λ records. records) };
+
+    ghost remaining = { item_count (λ records. records) };
+
+    fn next(&mut self) -> Option<T> {
+        let (record, others) = self.numbers.split_at_checked(T::STRIDE)?;
+        self.numbers = others;
+        Some(T::from_part(record))
     }
 }

@@ -1,4 +1,4 @@
--- `covered` by the answers that a function has, and `CoveredIs` by the four tests of each mark.
+-- `CoveredIs` by the four tests of each mark.
 use Prim.Native.Nat.{ℕ}
 use mathlib.Core.Path.{◌≡◌, refl}
 use mathlib.Core.Bool.{Bool, true, false, cond, ◌&&◌}
@@ -28,12 +28,6 @@ less false false false = refl
 -- what `<` says of floats, by the tests that `partial_cmp` makes one after the other
 pub lt_is : (x y : Float) → partial_lt float_partial_cmp x y ≡ lt x y
 lt_is x y = less (lt x y) (eq x y) (lt y x)
-
-pub covered-by :
-    (road : Road) (i lane kind : ℕ) (s : Float) {n : ℕ} {start : Float} {found : Bool} → found ≡ any_below (λ j. paints (mark_at road i j) lane kind (s ⊖ start)) n
-    → n ≡ length (section_of road i).marks → start ≡ (section_of road i).start → found ≡ covered road i lane kind s
-unfolding covered
-covered-by road i lane kind s e f g = rw (← f, ← g) e
 
 four : {a b c d : Bool} → a ≡ true → b ≡ true → c ≡ true → d ≡ true → a && b && (c && d) ≡ true
 four e f g h = rw (e, f, g, h)

@@ -3,4 +3,4 @@
 
 mod marks;
 
-pub use marks::{LentMarks, covered, covers, mark, mark_count};
+pub use marks::{LentMarks, covered, covers, section_marks};

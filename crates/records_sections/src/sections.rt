@@ -1,4 +1,5 @@
-// The sections of a road: starts, and lanes on either side.
+// The sections of a road: starts, and lanes on either side. A section is the road and a number, and no value of its own: most that is asked of one at a
+// station needs the road too, its offset, elevation and length, so such a value would stand beside the road and not in its place.
 ghost use Rattle.std.specs.Prelude.{◌≡◌, ◌<◌, cond, length};
 ghost use Rattle.records.specs.Roads.{section_of};
 

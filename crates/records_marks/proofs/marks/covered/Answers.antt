@@ -1,13 +1,13 @@
 -- `covered`: whether a mark paints, asked of each.
 use Rattle.std.proofs.Common.{rules}
-use mathlib.Core.Path.{◌∙◌, ap}
-use lib.ListN.{length}
-use Rattle.records_lent.proofs.RangeLaws.{any_range}
-use Rattle.records_marks.proofs.CoverLaws.{covered-by}
+use Rattle.float_laws.specs.Binary64.{◌⊖◌}
+use Rattle.records_lent.proofs.RangeLaws.{any_listed}
+use Rattle.records.specs.Roads.{no_mark}
+use Rattle.records_marks.specs.Covers.{paints, covered}
 use Rattle.records_marks.proofs.marks.covered.Goals as goal
 
 pub returns : goal.returns
+unfolding covered
 returns c =
     let a = c.args in
-    let m = c.new-marks.ensures in
-    covered-by a.road.now a.section a.lane a.kind a.s (any_range _ _ c.any.ensures.ran (λ x b q k. search rules)) (c.len.ensures.value ∙ ap length m) c.section_start.ensures
+    rw (← c.section_start.ensures) (any_listed (λ m. paints m a.lane a.kind (a.s ⊖ c.section_start.result)) no_mark c.any.ensures.ran c.section_marks.ensures (λ x b q k. search rules))

@@ -2,7 +2,7 @@
 use Prim.Native.Nat.{◌+◌, ◌-◌, ◌*◌}
 use native.Mathlib.Omega.{arith}
 use mathlib.Core.Path.{◌≡◌, ◌∙◌, sym}
-use Rattle.records_lent.proofs.TableLaws.{record-whole, table_at, table-past}
+use Rattle.records_lent.proofs.TableLaws.{record-whole, table_at}
 use Rattle.records_lent.proofs.records.Records.get.Goals as goal
 
 pub overflow_mul-at : goal.overflow_mul-at

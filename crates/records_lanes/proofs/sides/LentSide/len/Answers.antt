@@ -1,7 +1,0 @@
--- `LentSide::len`: as many lanes as lines.
-use mathlib.Core.Path.{sym}
-use Rattle.records_lent.proofs.TableLaws.{length-table}
-use Rattle.records_lanes.proofs.sides.LentSide.len.Goals as goal
-
-pub returns-clause-value : goal.returns-clause-value
-returns-clause-value c = rw (← c.self.view_is) (sym (length-table _ _))
