@@ -78,7 +78,7 @@ impl<'a> CubicRun<'a> {
     }
 }
 
-// Every start in lo..hi and every B at most the limit, of a list that ends at end.
+// Every start in lo..hi and every B at most the limit, of a list that ends at end. lo and hi are two numbers, as the definition and `in_range` have them.
 pub fn cubics_within(cubics: &Cubics, lo: f64, hi: f64, end: f64, limit: f64) -> bool
     ensures { result ≡ cubics_within cubics.now lo hi end limit }
 {

@@ -8,7 +8,7 @@ use admission::on_road;
 use admission_bounds::cubics_within;
 use arithmetic_ranges::{LARGEST, sized};
 use records::{HeightDef, Heights, LentRoad};
-use records_lanes::{LentLane, LentSide};
+use records_lanes::{LentLane, LentSide, side_lanes};
 use records_sections::{section_count, section_start};
 
 const GREATEST_LANE_HEIGHT: f64 = 2.0;
@@ -42,7 +42,7 @@ fn height_limited(h: HeightDef) -> bool
 fn heights_limited(heights: &Heights) -> bool
     ensures { result ≡ heights_limited heights.now }
 {
-    (0..heights.len()).all(|i| height_limited(heights.get(i)))
+    heights.iter().all(height_limited)
 }
 
 // A border is measured from the center, a width from the lane before.
@@ -67,7 +67,7 @@ fn lane_limited(lane: &LentLane, extent: f64) -> bool
 fn side_limited(side: &LentSide, extent: f64) -> bool
     ensures { result ≡ all_below (λ (k : ℕ). lane_limited extent (get_or side.now k no_lane)) (length side.now) }
 {
-    (0..side.len()).all(|k| lane_limited(&side.get(k), extent))
+    side.iter().all(|lane| lane_limited(&lane, extent))
 }
 
 #[tactic(auto, unfolding(admission::specs::Limits::section_limited))]
@@ -75,8 +75,8 @@ fn section_limited(road: &LentRoad, i: usize) -> bool
     ensures { result ≡ section_limited road.now i }
 {
     let extent = section_extent(road, i);
-    let left = LentSide::new(road, i, false);
-    let right = LentSide::new(road, i, true);
+    let left = side_lanes(road, i, false);
+    let right = side_lanes(road, i, true);
     on_road(road, section_start(road, i))
         && side_limited(&left, extent)
         && side_limited(&right, extent)

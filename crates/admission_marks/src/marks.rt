@@ -5,7 +5,7 @@ ghost use Rattle.admission.specs.Limits.{mark_limited, marks_limited};
 
 use admission_lanes::section_extent;
 use records::{LentRoad, Mark};
-use records_marks::LentMarks;
+use records_marks::section_marks;
 use records_sections::section_count;
 
 const LEAST_KIND: usize = 1;
@@ -27,8 +27,7 @@ fn section_marks_limited(road: &LentRoad, section: usize) -> bool
     ensures { result ≡ marks_limited road.now section }
 {
     let extent = section_extent(road, section);
-    let marks = LentMarks::new(road, section);
-    (0..marks.len()).all(|j| mark_limited(extent, marks.get(j)))
+    section_marks(road, section).all(|mark| mark_limited(extent, mark))
 }
 
 // The marks of every section.

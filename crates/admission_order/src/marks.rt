@@ -5,7 +5,7 @@ ghost use Rattle.records.specs.Roads.{no_mark};
 ghost use Rattle.admission_order.specs.Order.{starts_in_order, marks_in_order};
 
 use records::{LentRoad, Mark};
-use records_marks::LentMarks;
+use records_marks::{LentMarks, section_marks};
 
 // Of two marks on one lane the later starts no earlier.
 fn starts_in_order(a: Mark, b: Mark) -> bool
@@ -25,7 +25,7 @@ fn mark_in_order(marks: &LentMarks, j: usize) -> bool
 fn section_marks_in_order(road: &LentRoad, section: usize) -> bool
     ensures { result ≡ marks_in_order road.now section }
 {
-    let marks = LentMarks::new(road, section);
+    let marks = section_marks(road, section);
     (0..marks.len()).all(|j| mark_in_order(&marks, j))
 }
 

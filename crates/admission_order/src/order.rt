@@ -11,7 +11,7 @@ use records::layout::{COLUMNS_A_STRIP, STRIPS};
 use records::{Heights, LentRoad};
 use records_cubic::Cubics;
 use records_geometry::geom;
-use records_lanes::{LentLane, LentSide};
+use records_lanes::{LentLane, LentSide, side_lanes};
 use records_sections::{section_count, section_start};
 use records_shapes::{LentStrip, profile_count, profile_start, shapes, strip};
 
@@ -65,15 +65,15 @@ fn lane_in_order(lane: &LentLane) -> bool
 fn side_in_order(side: &LentSide) -> bool
     ensures { result ≡ all_below (λ k. lane_in_order (get_or side.now k no_lane)) (length side.now) }
 {
-    (0..side.len()).all(|k| lane_in_order(&side.get(k)))
+    side.iter().all(|lane| lane_in_order(&lane))
 }
 
 #[tactic(auto, unfolding(crate::specs::Order::section_in_order))]
 fn section_in_order(road: &LentRoad, i: usize) -> bool
     ensures { result ≡ section_in_order road.now i }
 {
-    let left = LentSide::new(road, i, false);
-    let right = LentSide::new(road, i, true);
+    let left = side_lanes(road, i, false);
+    let right = side_lanes(road, i, true);
     side_in_order(&left) && side_in_order(&right)
 }
 

@@ -4,12 +4,12 @@ ghost use Rattle.records_lent.specs.Lists.{all_below};
 ghost use Rattle.records.specs.Layout.{section_count_at, mark_words, mark_stride};
 ghost use Rattle.admission_structure.specs.Structure.{marks_ok};
 
-use crate::structure::{count, range_ok};
+use crate::structure::range_ok;
 use records::layout::{
     LEFT_WORDS, MARK_COUNT_WORDS, MARK_STRIDE, MARK_WORDS, MOST_MARKS, MOST_MARKS_A_SECTION,
     RIGHT_WORDS, SECTION_COUNT_AT, SECTION_MARK_STRIDE, SECTION_MARK_WORDS, SECTION_STRIDE,
 };
-use records_lent::word;
+use records_lent::{raw_word, word};
 
 // Each of n marks from the first on is on one of so many lanes.
 fn on_lanes(words: &[u16], first: u16, n: u16, lanes: usize) -> bool
@@ -32,8 +32,8 @@ fn section_marks_ok(words: &[u16], i: u16) -> bool
     range_ok(words, k, 0, MOST_MARKS_A_SECTION, MOST_MARKS)
         && on_lanes(
             words,
-            count(words, k),
-            count(words, MARK_COUNT_WORDS + at),
+            raw_word(words, k),
+            raw_word(words, MARK_COUNT_WORDS + at),
             lanes,
         )
 }
@@ -42,6 +42,6 @@ fn section_marks_ok(words: &[u16], i: u16) -> bool
 pub(crate) fn all_marks_ok(words: &[u16]) -> bool
     ensures { result ≡ all_below (marks_ok words.now) (get_or words.now section_count_at 0) }
 {
-    let n = count(words, SECTION_COUNT_AT);
+    let n = raw_word(words, SECTION_COUNT_AT);
     (0..n).all(|i| section_marks_ok(words, i))
 }

@@ -1,5 +1,6 @@
 // Counts, codes and ranges of the lent words. Each count is tested before anything loops over it, so that a broken road is refused at once.
-// They are over the words, and no LentRoad, whose model hides them.
+// They are over the words, and no LentRoad, whose model hides them. A count is a u16 as it is lent, and so is the number of a line below it: no place of
+// such a line is past a usize, so a function of a line asks for no bound.
 ghost use Rattle.std.specs.Prelude.{◌≡◌, ◌+◌, ◌^◌, ◌<◌, ◌≤◌, get_or};
 ghost use Rattle.records_lent.specs.Lists.{all_below};
 ghost use Rattle.records.specs.Layout.{section_count_at, profile_count_at, most_lanes};
@@ -16,15 +17,7 @@ use records::layout::{
     PROFILE_STRIDE, PROFILE_WORDS, RIGHT_WORDS, SECTION_COUNT_AT, SECTION_STRIDE, SECTION_WORDS,
     STRIP_CODES, STRIP_STRIDE, STRIP_WORDS, STRIPS, TSHIFT_COUNT_AT, WORDS_NEEDED,
 };
-use records_lent::word;
-
-// A count, as the u16 that is lent: the number of a line below it is a u16 too, and no place of such a line is past a usize, so a function of a line asks
-// for no bound.
-pub(crate) fn count(words: &[u16], at: usize) -> u16
-    ensures { result ≡ get_or words.now at 0 }
-{
-    word(words, at) as u16
-}
+use records_lent::{raw_word, word};
 
 // The range whose first line and count are the words from k on: least to most lines, inside a table of limit lines.
 pub(crate) fn range_ok(words: &[u16], k: usize, least: usize, most: usize, limit: usize) -> bool
@@ -95,7 +88,7 @@ fn section_ok(words: &[u16], i: u16) -> bool
 fn sections_ok(words: &[u16]) -> bool
     ensures { result ≡ all_below (section_ok words.now) (get_or words.now section_count_at 0) }
 {
-    let n = count(words, SECTION_COUNT_AT);
+    let n = raw_word(words, SECTION_COUNT_AT);
     (0..n).all(|i| section_ok(words, i))
 }
 
@@ -110,7 +103,7 @@ fn profile_ok(words: &[u16], i: u16) -> bool
 fn profiles_ok(words: &[u16]) -> bool
     ensures { result ≡ all_below (profile_ok words.now) (get_or words.now profile_count_at 0) }
 {
-    let n = count(words, PROFILE_COUNT_AT);
+    let n = raw_word(words, PROFILE_COUNT_AT);
     (0..n).all(|i| profile_ok(words, i))
 }
 

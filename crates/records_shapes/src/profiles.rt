@@ -1,6 +1,6 @@
 // Profiles with their shapes.
-ghost use Rattle.std.specs.Prelude.{◌≡◌, ◌+◌, ◌<◌, [], get_or, length};
-ghost use Rattle.records.specs.Roads.{cubics_in, profile_at};
+ghost use Rattle.std.specs.Prelude.{◌≡◌, ◌<◌, [], length};
+ghost use Rattle.records.specs.Roads.{profile_at};
 
 use records::LentRoad;
 use records::layout::{PROFILE_BASE, PROFILE_COUNT_AT, PROFILE_STRIDE, PROFILE_WORDS, SHAPE_BASE};
@@ -21,15 +21,6 @@ pub fn profile_start(road: &LentRoad, i: usize) -> f64
     number_in(road.numbers, PROFILE_BASE, profile_count(road), i)
 }
 
-// The cubics of a table whose base is given: from the first on as many as the two words at a place say. It takes the slices, since a road's model
-// has no places.
-pub(crate) fn cubics_at<'a>(words: &[u16], numbers: &'a [f64], base: usize, at: usize) -> Cubics<'a>
-    requires { (base < 65536) × (at < 196608) }
-    ensures { result ≡ cubics_in words.now numbers.now base (get_or words.now at 0) (get_or words.now (at + 1) 0) }
-{
-    Cubics::of_table(numbers, base, word(words, at), word(words, at + 1))
-}
-
 pub(crate) fn no_cubics<'a>() -> Cubics<'a>
     ensures { result ≡ [] }
 {
@@ -41,7 +32,7 @@ pub fn shapes<'a>(road: &LentRoad<'a>, i: usize) -> Cubics<'a>
 {
     if i < profile_count(road) {
         let at = PROFILE_WORDS + i * PROFILE_STRIDE;
-        cubics_at(road.words, road.numbers, SHAPE_BASE, at)
+        Cubics::of_range(road.words, at, road.numbers, SHAPE_BASE)
     } else {
         no_cubics()
     }

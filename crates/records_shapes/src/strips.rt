@@ -3,7 +3,7 @@ ghost use Rattle.std.specs.Prelude.{◌≡◌, [], get_or};
 ghost use Rattle.records.specs.Roads.{strip_at, column_by};
 ghost use Rattle.records_shapes.specs.Strips.{strip_of};
 
-use crate::profiles::{cubics_at, no_cubics};
+use crate::profiles::no_cubics;
 use records::LentRoad;
 use records::layout::{
     ABSENT_CODE, COLUMN_STRIDE, COLUMN_WORDS, COLUMNS_A_STRIP, CUBIC_BASE, RELATIVE_CODE,
@@ -42,7 +42,7 @@ impl<'a> LentStrip<'a> {
         let first = COLUMN_WORDS + self.line * STRIP_STRIDE;
         if column < COLUMNS_A_STRIP {
             let at = first + column * COLUMN_STRIDE;
-            cubics_at(self.words, self.numbers, CUBIC_BASE, at)
+            Cubics::of_range(self.words, at, self.numbers, CUBIC_BASE)
         } else {
             no_cubics()
         }

@@ -5,4 +5,4 @@ use Rattle.admission_order.proofs.marks.section_marks_in_order.Goals as goal
 
 pub returns : goal.returns
 unfolding marks_in_order
-returns c = rw (← c.new-marks.ensures, ← c.len.ensures.value) (all_range _ _ c.all.ensures.ran (λ x b q k. search rules))
+returns c = rw (← c.section_marks-marks.ensures, ← c.len.ensures.value) (all_range _ _ c.all.ensures.ran (λ x b q k. search rules))

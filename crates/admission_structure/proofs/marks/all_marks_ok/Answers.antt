@@ -5,4 +5,4 @@ use Rattle.records_lent.proofs.RangeLaws.{all_range}
 use Rattle.admission_structure.proofs.marks.all_marks_ok.Goals as goal
 
 pub returns : goal.returns
-returns c = all_range _ _ c.all.ensures.ran (λ x b q k. search rules) ∙ ap (all_below _) c.count-n.ensures
+returns c = all_range _ _ c.all.ensures.ran (λ x b q k. search rules) ∙ ap (all_below _) c.raw_word-n.ensures
