@@ -1,6 +1,6 @@
 use mathlib.Core.Path.{◌≡◌, ◌∙◌}
 use native.Mathlib.Omega.{arith}
-use Prim.Native.Nat.{◌≤◌, ◌<◌}
+use Prim.Native.Nat.{◌<◌}
 use Rattle.std.proofs.Common.{rules, Some, None, Err}
 use Rattle.refusals.specs.declared.refusals.Refusal.TheVariants.{Form, Capacity}
 use Rattle.reader_calls.proofs.TakingCases.{agree-done, agree-stop, agree_err, lines_end, lines_cut, lines-over, lines_next}
