@@ -103,6 +103,7 @@ impl<'a> Track<'a> {
     }
 
     // The heading t of the way along segment i, between the tangents of its ends.
+    // That the next point has a number stands in three contracts: a ghost field of the public `Spot` would be a part of what `spot_of` says, and for `saturating_add` here a proof needs how long the track may be, which a method that reads no field is not told.
     #[tactic(auto, unfolding(crate::specs::Poses::heading_at))]
     fn heading(&self, i: usize, t: f32) -> Vector
         requires { i + 1 < 2 ^ 64 }
