@@ -175,7 +175,8 @@ fn mark_index(words: &[u16], cells: Cells) -> Option<Ranked>
     Some(s)
 }
 
-// A column of a strip: its width, or one of its terms. A cell that names one is its place among them. Its rank goes by the strip's line, its index by the strip's fixed place.
+// A column of a strip: its width, or one of its terms. A cell that names one is its place among them. Its rank goes by the strip's line, its index by the
+// strip's fixed place.
 #[tactic(auto, unfolding(crate::specs::Parents::term_of))]
 fn term_of(strips: Strips, side: u64, place: u64, term: u64) -> Option<Ranked>
     ensures { result ≡ term_of strips side place term }
