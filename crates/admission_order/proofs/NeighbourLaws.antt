@@ -1,10 +1,10 @@
--- What `is_sorted_by` of a run over a range answers: the test at each index and the next, in the words of `Lists`.
+-- What `is_sorted_by` of a run over a range, or over a list, answers: the test at each index and the next, in the words of `Lists`.
 use Prim.Native.Nat.{ℕ, zero, suc, ◌+◌, ◌-◌, ◌<◌, ◌≤◌}
 use native.Mathlib.Omega.{arith}
 use mathlib.Core.Path.{◌≡◌, refl, sym, ap, ◌∙◌, subst}
 use mathlib.Core.Bool.{Bool, true, false}
 use mathlib.Core.List.{List, map}
-use lib.ListN.{length}
+use lib.ListN.{length, get_or}
 use denote.Param.Members.{Mut}
 use Rattle.std.specs.Prelude.{slice_index_or}
 use Rattle.std.specs.declared.ops.Range.{Range}
@@ -12,12 +12,13 @@ use Rattle.std.specs.declared.option.Option.{Option}
 use Rattle.std.specs.declared.option.Option.TheVariants.{Some}
 use Rattle.std.specs.Bool.{OnTrue, IsTrue}
 use Rattle.std.specs.List.{IsAllAdjacentAnswer}
-use Rattle.std.specs.Iterator.{ActsAs}
+use Rattle.std.specs.Iterator.{ActsAs, YieldsFirst}
 use Rattle.std.specs.Iterator.Order.{IsSortedAnswer}
-use Rattle.std.specs.Iterator.Runs.{Run, IsMapRun}
+use Rattle.std.specs.Iterator.Runs.{Run, IsMapRun, ItemsAre}
 use Rattle.std.specs.Option.{unwrap_or}
 use Rattle.std.proofs.iter.Yields.{nat_range_steps}
 use Rattle.std.proofs.iter.runs.Sources.{range_runs}
+use Rattle.std.proofs.iter.Rest.{run_of_first}
 use Rattle.std.proofs.lemmas.List.{get_or-map}
 use Rattle.records_lent.specs.Lists.{all_below}
 use Rattle.records_lent.proofs.TestLaws.{all-at}
@@ -69,3 +70,23 @@ module _ {A F S : Type 0} {steps : S → Option A → S → Type 0} {g : Mut F (
       w : (b : Bool) → OnTrue b (IsTrue p.whole) → b ≡ true → p.whole ≡ true
       w true k t = k
       w false k t = absurd (subst (λ b. elim b as (λ _. Type 0) [ true ↦ Unit {0} | false ↦ ⊥ ]) (sym t) tt)
+
+-- the same of `xs.iter().map(f).is_sorted_by(g)`, f answering start of each
+module _ {A B F S : Type 0} {steps : S → Option A → S → Type 0} {g : Mut F (B × Unit {0}) A} {f : F} (p : Run steps) (q : Run (YieldsFirst (λ (l : List B). l))) (start : B → A) (h : A → A → Bool) (xs : List B) (d : B) where
+  pub sorted_listed :
+      {r : Bool} → q.from ≡ xs → IsMapRun p q g f → ActsAs g f start → OnTrue r (IsTrue p.whole) → IsSortedAnswer h p.items r
+      → r ≡ all_below (λ i. h (start (get_or xs i d)) (start (get_or xs (i + 1) d))) (length xs - 1)
+  sorted_listed {r} e m acts whole is =
+      let up = (run_of_first (λ (l : List B). l) q).1 in
+      let size : length q.from ≡ length xs = ap length e in
+      let items : p.items ≡ map start q.items = m.3 start acts in
+      let long : length p.items ≡ q.len = sym p.long ∙ m.1 in
+      neighbours (λ i. start (get_or xs i d)) h (length xs) p.items r (omega (arith, up.0)) (λ t. long ∙ up.1 (m.0 ∙ w r whole t) ∙ size)
+      (λ k z l. ap (λ ys. slice_index_or ys k z) items ∙ get_or-map start q.items k d z (omega (arith, q.long)) ∙ ap start (at up k (omega arith) e)) is.0
+    where
+      w : (b : Bool) → OnTrue b (IsTrue p.whole) → b ≡ true → p.whole ≡ true
+      w true k t = k
+      w false k t = absurd (subst (λ b. elim b as (λ _. Type 0) [ true ↦ Unit {0} | false ↦ ⊥ ]) (sym t) tt)
+
+      at : ItemsAre q q.from → (k : ℕ) → k < q.len → q.from ≡ xs → slice_index_or q.items k d ≡ get_or xs k d
+      at up k l e = ap (λ o. unwrap_or o d) (sym (q.reads k d l) ∙ up.2 k d l) ∙ ap (λ ys. get_or ys k d) e

@@ -29,7 +29,7 @@ fn apart(a: f64, b: f64) -> bool
 fn cubics_in_order(cubics: &Cubics) -> bool
     ensures { result ≡ cubics_in_order cubics.now }
 {
-    let starts = (0..cubics.len()).map(|i| cubics.get(i).start);
+    let starts = cubics.iter().map(|cubic| cubic.start);
     starts.is_sorted()
 }
 
@@ -37,7 +37,7 @@ fn cubics_in_order(cubics: &Cubics) -> bool
 fn heights_apart(heights: &Heights) -> bool
     ensures { result ≡ apart (λ i. (height_def_at heights.now i).s_offset) (length heights.now) }
 {
-    let offsets = (0..heights.len()).map(|i| heights.get(i).s_offset);
+    let offsets = heights.iter().map(|height| height.s_offset);
     offsets.is_sorted_by(|a, b| apart(*a, *b))
 }
 
