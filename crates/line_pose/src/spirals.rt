@@ -73,7 +73,10 @@ impl<'a> SpiralSamples<'a> {
         ensures { result ≡ true → (n : ℕ) → leading self.now.samples.now k d (n + 8) ≡ 8 + leading self.now.samples.now (k + 8) d n }
     {
         let at = k * SAMPLE_STRIDE;
-        (0..GROUP).fold(true, |all, j| all & (self.samples[at + j * SAMPLE_STRIDE] <= d))
+        (0..GROUP).fold(
+            true,
+            |all, j| all & (self.samples[at + j * SAMPLE_STRIDE] <= d),
+        )
     }
 
     // How many samples lead with a distance of at most d, as far as whole groups of them go: one by one a long spiral takes near twice as long.
