@@ -10,7 +10,7 @@ use records_cubic::{Cubic, Cubics};
 // What a reach has more than the way to the next start.
 const REACH_MARGIN: f64 = 0.001;
 
-// The bound B of a cubic over a reach d. Not `eval` of a cubic of sizes, which takes its start off d first: B has no start.
+// The bound B of a cubic over a reach d. Not `eval` of a cubic of sizes from 0 on: to make that cubic is longer than the formula.
 #[tactic(auto, unfolding(crate::specs::Bounds::bound_of))]
 pub fn bound(c: Cubic, d: f64) -> f64
     ensures { result ≡ bound_of c d }

@@ -1,6 +1,6 @@
 // Counts, codes and ranges of the lent words. Each count is tested before anything loops over it, so that a broken road is refused at once.
 // They are over the words, and no LentRoad, whose model hides them. A count is a u16 as it is lent, and so is the number of a line below it: no place of
-// such a line is past a usize, so a function of a line asks for no bound.
+// such a line is past a usize, so a function of it asks for no bound. A lane's line is a sum, its section's first and its place, and has one.
 ghost use Rattle.std.specs.Prelude.{◌≡◌, ◌+◌, ◌^◌, ◌<◌, ◌≤◌, get_or};
 ghost use Rattle.records_lent.specs.Lists.{all_below};
 ghost use Rattle.records.specs.Layout.{section_count_at, profile_count_at, most_lanes};

@@ -105,7 +105,7 @@ impl Vector {
         self.x * b.x + self.y * b.y + self.z * b.z
     }
 
-    // The cross product, right-handed: of x and y it is z. Not one function with surface_station's `cross`, which differs in the width: the operators' bounds give a relation, `mul_gives`, and no function that a contract could name, so it takes a trait of products and differences with an impl for each width and both structs taken apart, sixty lines for these ten (tried: it proves).
+    // The cross product, right-handed: of x and y it is z. Not one function with `Axis::cross` of surface_station, which differs in the width: the operators' bounds give a relation, `mul_gives`, and no function that a contract could name, so it takes a trait of products and differences with an impl for each width and both structs taken apart, sixty lines for these ten (tried: it proves).
     fn cross(self, b: Vector) -> Vector
         ensures { result ≡ cross_of self b }
     {

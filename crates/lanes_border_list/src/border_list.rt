@@ -1,4 +1,4 @@
-// A section's borders into a lent list. The section is a parameter beside s, as in the definitions: they take any section at any s.
+// A section's borders into a lent list. The section is a parameter beside s: it is any section at any s, and of the two `SideAt::both` alone reads both.
 ghost use Rattle.std.specs.Prelude.{◌≡◌, ◌*◌, ◌/◌, cond, leb, length, Some, None};
 ghost use Rattle.lanes_borders.specs.Borders.{borders_at, lanes_of, side_list};
 ghost use Rattle.lanes_border_list.specs.BorderList.{listed_by};

@@ -1,5 +1,5 @@
 // Which lane lies at t: the name that the naming call answers, and the lane by whose heights the surface goes.
-// The section is a parameter beside s, as in the definitions: they take any section at any s.
+// The section is a parameter beside s: it is any section at any s, and of the functions below `SideAt::both` alone reads both.
 ghost use Rattle.std.specs.Prelude.{◌≡◌, ℕ, suc, ◌<◌, cond, length, Some, pos, negsuc};
 ghost use Rattle.records_lent.specs.Lists.{last_that};
 ghost use Rattle.records.specs.declared.points.LanePlace.{LanePlace};

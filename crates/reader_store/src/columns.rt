@@ -2,7 +2,7 @@
 ghost use Rattle.std.specs.Prelude.{◌≡◌, ℕ};
 ghost use Rattle.reader_store.specs.Layout.{line_of, cells_kept, numbers_kept, codes_kept, wants_kept};
 
-use crate::layout::{KeptColumns, Lines, codes_of, numbers_of};
+use crate::layout::{KeptColumns, Lines, WANT_S_COLUMN, WANT_T_COLUMN, codes_of, numbers_of};
 use crate::memory::code;
 use reader_lines::{Cells, put};
 use reader_schema::tables::WANT_TABLE;
@@ -78,7 +78,7 @@ pub(crate) fn put_wants(wants: &mut [u64], line: TableLine)
 {
     if line.table == WANT_TABLE {
         let i = Lines::spaced(0, WANT_STRIDE).line(line.k as u32);
-        put(wants, i, line.cells.at(0));
-        put(wants, i + 1, line.cells.at(1));
+        put(wants, i, line.cells.at(WANT_S_COLUMN));
+        put(wants, i + 1, line.cells.at(WANT_T_COLUMN));
     }
 }

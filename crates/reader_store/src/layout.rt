@@ -85,11 +85,11 @@ const CUBIC_NUMBERS: &[u8] = &[3, 4, 5, 6, 7];
 const MARK_NUMBERS: &[u8] = &[2, 3];
 
 // The columns that hold words: a geometry's kind, a lane's extent and level.
-const GEOM_CODES: &[u8] = &[5];
+const GEOM_CODE_COLUMNS: &[u8] = &[5];
 
-const LANE_CODES: &[u8] = &[2, 3];
+const LANE_CODE_COLUMNS: &[u8] = &[2, 3];
 
-// The columns that are read one by one: those that name a line's parent, then a strip's own and a mark's.
+// The columns that are read one by one: those that name a line's parent, then a strip's own, a mark's and a want's.
 pub(crate) const SECTION_COLUMN: usize = 0;
 
 pub(crate) const ID_COLUMN: usize = 1;
@@ -105,6 +105,10 @@ pub(crate) const TERM_COLUMN: usize = 2;
 pub(crate) const RELATIVE_COLUMN: usize = 2;
 
 pub(crate) const MARK_KIND_COLUMN: usize = 4;
+
+pub(crate) const WANT_S_COLUMN: usize = 0;
+
+pub(crate) const WANT_T_COLUMN: usize = 1;
 
 // Whose children the lines of a table are, where a parent has a range of them: a lane's extents, its heights, a profile's shapes, a strip's cubics, a section's marks.
 #[derive(Clone, Copy, Debug, PartialEq, Eq)]
@@ -173,8 +177,8 @@ pub(crate) fn codes_of(table: usize) -> KeptColumns
     ensures columns { result.columns.now ≡ word_columns table }
 {
     match table {
-        GEOM_TABLE => Lines::spaced(KIND_WORDS, 1).holding(GEOM_CODES),
-        LANE_TABLE => Lines::spaced(LANE_WORDS, LANE_STRIDE).holding(LANE_CODES),
+        GEOM_TABLE => Lines::spaced(KIND_WORDS, 1).holding(GEOM_CODE_COLUMNS),
+        LANE_TABLE => Lines::spaced(LANE_WORDS, LANE_STRIDE).holding(LANE_CODE_COLUMNS),
         _ => Lines::spaced(0, 0).holding(&[]),
     }
 }

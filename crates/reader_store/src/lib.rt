@@ -8,7 +8,7 @@ mod memory;
 mod parents;
 mod progress;
 
-// The laws above speak of a table's rule, of a line's parent and of a section's record.
+// The laws of reader_laws and reader_text_laws speak of a table's rule, of a line's parent and of a section's record.
 pub use columns::TableLine;
 pub use layout::{Family, Rule};
 pub use lines::{end_table, keep_line};

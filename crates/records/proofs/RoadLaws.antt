@@ -1,6 +1,5 @@
 -- What the road of two lent lists holds, place by place: how long each list is, its i-th element below that, nothing past it. Every list is a table, so each law is one of TableLaws.
 use Prim.Native.Nat.{ℕ, zero, suc, ◌+◌, ◌*◌, ◌<◌, ◌≤◌}
-use native.Mathlib.Nat.{add-zero}
 use native.Mathlib.Omega.{arith}
 use native.Mathlib.Numerals.{add-one}
 use mathlib.Core.Path.{◌≡◌, refl, ap, ◌∙◌, sym}
@@ -10,22 +9,15 @@ use lib.ListN.{length, get_or}
 use lib.Dec.{eqb}
 use lib.Ieee.{Float, nan, eq}
 use Rattle.float_laws.specs.Binary64.{zero64}
-use Rattle.records.specs.declared.points.GeomRec.{GeomRec}
 use Rattle.records.specs.declared.points.GeomShape.{GeomShape}
 use Rattle.records.specs.declared.points.GeomShape.TheVariants.{Line, Arc, Spiral}
-use Rattle.records.specs.declared.points.StripKind.TheVariants.{Absent, Absolute, Relative}
 use Rattle.records_lent.specs.Lists.{tabulate, span}
-use Rattle.records.specs.Active.{last_start, or_first, active_up_to}
-use Rattle.records.specs.Roads.{Road, Section, Profile, Strip, absent, present, road_of, geom_in, unused_in, lane_in, section_in, profile_in, column_in, strip_in, word_at, geom_shape_of, geom_from, no_geom, geom_at, all_zero, unused_zero, no_section, section_of, no_lane, lane_of, no_mark, mark_at, mark_in, no_profile, profile_at, strip_at, strip_kind_of, column_of, geom_index, section_index}
+use Rattle.records.specs.Roads.{Road, Section, Profile, Strip, absent, present, road_of, geom_in, unused_in, lane_in, section_in, profile_in, column_in, strip_in, word_at, geom_shape_of, geom_from, no_geom, geom_at, all_zero, unused_zero, no_section, section_of, no_lane, lane_of, no_mark, mark_at, mark_in, no_profile, profile_at, strip_at, column_of}
 use Rattle.records_lent.proofs.TableLaws.{length-table, table_at, table-past, span-at, span-table}
-use Rattle.records.proofs.ScanLaws.{last_start-same}
 
 -- a place by a sum of two literals, and by a sum of three
 plus : (a b x : ℕ) → a + x + b ≡ a + b + x
 plus a b x = omega arith
-
-once : (base i : ℕ) → base + i * 1 ≡ base + i
-once base i = omega arith
 
 module _ (words : List ℕ) (numbers : List Float) where
   abbrev road : Road
@@ -208,15 +200,6 @@ module _ (words : List ℕ) (numbers : List Float) where
       rw (← l, g, k, e, f, span-at numbers (1 + i * 7) 7 5 nan (omega arith), span-at numbers (1 + i * 7) 7 6 nan (omega arith))
       (zero-tests (eqb (get_or words (7 + i) 0) 1) (eqb (get_or words (7 + i) 0) 2) (get_or numbers (1 + i * 7 + 5) nan) (get_or numbers (1 + i * 7 + 6) nan) ∙ ap all_zero (sym (unused_in_lem words numbers i h)))
 
-  pub strip_by_lem : (i : ℕ) {code : ℕ} → i < 4 → code ≡ get_or words (1303 + i * 11) 0
-      → cond (eqb code 0) Absent (cond (eqb code 2) Relative Absolute) ≡ strip_kind_of (strip_at (road_of words numbers) i)
-  unfolding strip_in
-  strip_by_lem i {code} h e = rw (strip_in_lem words numbers i h, ← e) (go (eqb code 0))
-    where
-      go : (b : Bool) → cond b Absent (cond (eqb code 2) Relative Absolute) ≡ strip_kind_of (cond b absent (there words numbers i code))
-      go true = refl
-      go false = refl
-
   -- a column of a strip that is there, of one that is not, past the last column, past the last strip
   pub column_in_lem : (i column : ℕ) → i < 4 → column < 5 → eqb (get_or words (1303 + i * 11) 0) 0 ≡ false → column_of (strip_at (road_of words numbers) i) column ≡ column_in words numbers i column
   unfolding strip_in
@@ -238,37 +221,3 @@ module _ (words : List ℕ) (numbers : List Float) where
 
   pub column-past : (i column : ℕ) → 4 ≤ i → column_of (strip_at (road_of words numbers) i) column ≡ []
   column-past i column h = rw (strip-past words numbers i h)
-
-  -- ---- the geometry and the section at s
-  geom-start : (i : ℕ) → i < get_or words 0 0 → get_or numbers (1 + i * 7) nan ≡ (geom_at (road_of words numbers) i).s
-  unfolding geom_in
-  geom-start i h =
-      ap (λ (k : ℕ). get_or numbers k nan) (sym (add-zero (1 + i * 7))) ∙ sym (span-at numbers (1 + i * 7) 7 0 nan (omega arith))
-      ∙ ap (λ (g : GeomRec). g.s) (sym (geom_in_lem words numbers i h))
-
-  pub geom_index_lem :
-      (s : Float) {n : ℕ} → n ≡ get_or words 0 0
-      → or_first (last_start (λ (i : ℕ). get_or numbers (1 + i * 7) nan) (active_up_to s) n) ≡ geom_index (road_of words numbers) s
-  unfolding geom_index
-  geom_index_lem s e = rw (geom_count_lem words numbers, e) (ap or_first (last_start-same _ _ (active_up_to s) _ geom-start))
-
-  section_start_lem : (i : ℕ) → i < get_or words 5 0 → get_or numbers (1729 + i * 1) nan ≡ (section_of (road_of words numbers) i).start
-  unfolding section_in
-  section_start_lem i h = ap (λ (k : ℕ). get_or numbers k nan) (once 1729 i) ∙ ap (λ (x : Section). x.start) (sym (section_in_lem words numbers i h))
-
-  pub section_index_lem :
-      (s : Float) {n : ℕ} → n ≡ get_or words 5 0
-      → or_first (last_start (λ (i : ℕ). get_or numbers (1729 + i * 1) nan) (active_up_to s) n) ≡ section_index (road_of words numbers) s
-  unfolding section_index
-  section_index_lem s e = rw (section_count_lem words numbers, e) (ap or_first (last_start-same _ _ (active_up_to s) _ section_start_lem))
-
-  -- ---- the profile at s
-  profile_start_lem : (i : ℕ) → i < get_or words 6 0 → get_or numbers (5841 + i * 1) nan ≡ (profile_at (road_of words numbers) i).s
-  unfolding profile_in
-  profile_start_lem i h = ap (λ (k : ℕ). get_or numbers k nan) (once 5841 i) ∙ ap (λ (x : Profile). x.s) (sym (profile_in_lem words numbers i h))
-
-  pub profile-by :
-      (s : Float) {n : ℕ} → n ≡ get_or words 6 0
-      → last_start (λ (i : ℕ). get_or numbers (5841 + i * 1) nan) (active_up_to s) n
-      ≡ last_start (λ (i : ℕ). (profile_at (road_of words numbers) i).s) (active_up_to s) (length (road_of words numbers).profiles)
-  profile-by s e = rw (profile_count_lem words numbers, e) (last_start-same _ _ (active_up_to s) _ profile_start_lem)

@@ -15,8 +15,6 @@ use Rattle.records.specs.declared.points.GeomShape.{GeomShape}
 use Rattle.records.specs.declared.points.GeomShape.TheVariants.{Line, Arc, Spiral}
 use Rattle.records.specs.declared.points.HeightDef.{HeightDef}
 use Rattle.records.specs.declared.points.Mark.{Mark}
-use Rattle.records.specs.declared.points.StripKind.{StripKind}
-use Rattle.records.specs.declared.points.StripKind.TheVariants.{Absent, Absolute, Relative}
 use Rattle.records_lent.specs.Lists.{tabulate, span}
 use Rattle.records_cubic.specs.Cubics.{cubics_of}
 use Rattle.records.specs.Active.{last_start, or_first, active_up_to}
@@ -49,6 +47,7 @@ pub record StripDef : Type 0 where
   pub width : List Cubic
   pub terms : List (List Cubic)
 
+-- A strip of a road, by its own two words and no option: where none is there the cross section goes by other rules, and it is taken for no strip with columns
 pub data Strip : Type 0 where
   absent : Strip
   present : StripDef → Strip
@@ -242,10 +241,6 @@ profile_at road i = get_or road.profiles i no_profile
 
 abbrev pub strip_at : Road → ℕ → Strip
 strip_at road i = get_or road.strips i absent
-
-abbrev pub strip_kind_of : Strip → StripKind
-strip_kind_of absent = Absent
-strip_kind_of (present d) = cond d.relative Relative Absolute
 
 -- column 0 is the width's cubics, column j + 1 those of term j
 abbrev pub column_by : StripDef → ℕ → List Cubic

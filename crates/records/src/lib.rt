@@ -9,6 +9,6 @@ mod road;
 
 pub use heights::Heights;
 pub use points::{
-    GeomRec, GeomShape, HeightDef, LanePlace, Mark, Point, RefPoint, STRAIGHT_CURVATURE, StripKind,
+    GeomRec, GeomShape, HeightDef, LanePlace, Mark, Point, RefPoint, STRAIGHT_CURVATURE,
 };
 pub use road::LentRoad;

@@ -61,14 +61,6 @@ pub struct Mark {
     pub end: f64,
 }
 
-// A strip of the cross section: not there, with a height of its own, or standing on the inner strip's edge.
-#[derive(Clone, Copy, Debug, PartialEq, Eq)]
-pub enum StripKind {
-    Absent,
-    Absolute,
-    Relative,
-}
-
 // A lane by its section, its side (right of the center or left) and its place there, from the center outward. A side is a flag, since the definitions
 // choose by it, `cond right section.right section.left`: an enum would be turned into that flag in each contract. They take section, side and place one by
 // one, since the laws go by induction over the place and by cases of the side, for every section.

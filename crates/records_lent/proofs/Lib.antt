@@ -1,4 +1,3 @@
 pub mod TableLaws
 pub mod TestLaws
-pub mod StoreLaws
 pub mod RangeLaws

@@ -1,4 +1,4 @@
-// What the crate `admission` answers, as a line of the list writes it: 0 or n + 2^63, or the number of a refusal.
+// What `admit` and `samples` answer, as a line of the list writes it: 0 or n + 2^63, or the number of a refusal.
 //
 // The calls take the two lent slices and no road: whether one lies there is what is asked.
 ghost use Rattle.std.specs.Prelude.{◌≡◌, length};

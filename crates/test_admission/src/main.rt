@@ -1,4 +1,4 @@
-// Runs a list of cases from standard input against the crate `admission`. It writes a line for each case that differs, then how
+// Runs a list of cases from standard input against the calls `admit` and `samples`. It writes a line for each case that differs, then how
 // many cases there were and how many differ. tools/lists makes the list.
 #![tactic(auto)]
 
