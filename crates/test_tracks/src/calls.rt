@@ -9,7 +9,6 @@ ghost use Rattle.test_tracks.specs.Case.{call_of, words_wanted, tangents_agree, 
 use crate::answers::{Answer, pose_numbers, project_numbers, tangents_number};
 use records::Point;
 use refusals::answer_number;
-use std::io;
 use std::num::f32_from_bits_with_nan;
 
 // A call that a line asks for.

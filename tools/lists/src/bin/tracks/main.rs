@@ -115,7 +115,6 @@ fn main() {
     for kind in ["project refused 14", "pose answered, a NaN in it"] {
         assert!(list.kinds.contains_key(kind), "no answer of the kind {kind}");
     }
-    assert!(list.text.len() <= 600_000, "the program has room for 600,000 bytes, not for {}", list.text.len());
     assert!(list.text.lines().all(|line| line.len() <= 1 + 9 * 1600), "the program has room for 1,600 words of a line");
     std::fs::write(&to, &list.text).expect("the list");
     let said = format!(
