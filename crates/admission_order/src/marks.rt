@@ -19,6 +19,7 @@ fn mark_in_order(marks: &LentMarks, j: usize) -> bool
     ensures { result ≡ all_below (λ (h : ℕ). starts_in_order (get_or marks.now h no_mark) (get_or marks.now j no_mark)) j }
 {
     let later = marks.get(j);
+    // by index: of a j past the marks `take` would see fewer
     (0..j).all(|h| starts_in_order(marks.get(h), later))
 }
 

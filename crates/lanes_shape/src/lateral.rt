@@ -21,7 +21,7 @@ pub fn height_toward(road: &LentRoad, s: f64, t: f64, toward: f64) -> f64
 fn has_cross_section(road: &LentRoad) -> bool
     ensures { result ≡ has_cross_section road.now }
 {
-    (0 < road.tshifts().len()) | (0..STRIPS).any(|i| strip(road, i).is_some())
+    !road.tshifts().is_empty() | (0..STRIPS).any(|i| strip(road, i).is_some())
 }
 
 // Whether the road is flat across: neither a profile nor a cross section.

@@ -1,11 +1,15 @@
 -- What a test that passed tells: both parts of a conjunction, each test of a chain of `&&`, the test at each index of `all_below`. By induction.
+-- And that a list has an element where it is not empty.
 use Prim.Native.Nat.{ℕ, zero, suc, ◌<◌}
 use native.Mathlib.Nat.{le_of_suc-le-suc, not-suc-le-zero, eq-or-lt_of_le}
+use native.Mathlib.Omega.{arith}
 use mathlib.Core.Path.{◌≡◌, refl}
-use mathlib.Core.Bool.{Bool, true, ◌&&◌}
+use mathlib.Core.Bool.{Bool, true, ◌&&◌, not}
 use mathlib.Core.Logic.{⊎_elim}
 use mathlib.Core.List.{List, [], ◌∷◌}
+use lib.Dec.{eqb, ltb}
 use lib.ListN.{get_or}
+use borrow.Author.Tests.{lt-ltb, ne_eqb}
 use Rattle.std.proofs.lemmas.Bool.{and_parts}
 use Rattle.records_lent.specs.Lists.{all_below}
 
@@ -40,3 +44,7 @@ all-at p (suc n) e i l =
     (λ q. rw q (and-snd (all_below p n) (p n) e))
     (λ m. all-at p n (and-fst (all_below p n) (p n) e) i m)
     (eq-or-lt_of_le (le_of_suc-le-suc l))
+
+pub not_empty : (n : ℕ) → not (eqb n 0) ≡ ltb 0 n
+not_empty zero = refl
+not_empty (suc n) = rw (ne_eqb (suc n) 0 (λ e. absurd (omega (arith, e))), lt-ltb 0 (suc n) (omega arith))

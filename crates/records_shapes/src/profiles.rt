@@ -1,4 +1,5 @@
-// Profiles with their shapes.
+// Profiles with their shapes. A profile is the road and a number, and no value as a strip is: the search for the active one and the order ask for starts
+// alone, and of a value they would read its shapes' words too.
 ghost use Rattle.std.specs.Prelude.{◌≡◌, ◌<◌, [], length};
 ghost use Rattle.records.specs.Roads.{profile_at};
 
