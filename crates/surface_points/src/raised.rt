@@ -17,11 +17,7 @@ fn plain_by(at: Bearing, bank: SinCos, elevation: f64, t: f64) -> SurfacePoint
     ensures { result ≡ plain_by at bank elevation t }
 {
     let Bearing { pose, turn } = at;
-    let place = PlanVector {
-        x: pose.x,
-        y: pose.y,
-    };
-    let PlanVector { x, y } = beside(place, turn, t * bank.cos);
+    let PlanVector { x, y } = beside(PlanVector::from(pose), turn, t * bank.cos);
     SurfacePoint {
         x,
         y,
