@@ -33,7 +33,7 @@ pub fn bank_at(road: &LentRoad, s: f64) -> SinCos
     ensures { result ≡ sin_cos_of (value_in road.now.superelevations s) }
 {
     let banks = road.superelevations();
-    if banks.len() == 0 {
+    if banks.is_empty() {
         return SinCos { sin: 0.0, cos: 1.0 };
     }
     sin_cos(value(&banks, s))
