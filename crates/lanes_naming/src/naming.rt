@@ -16,6 +16,7 @@ fn last_beyond(side: &SideAt, t: f64) -> Option<usize>
 {
     let mut inner = side.base;
     let mut last = None;
+    // by index: a lane's place is what is answered
     for k in 0..side.lanes.len() {
         if side.sign * (t - inner) > 0.0 {
             last = Some(k);

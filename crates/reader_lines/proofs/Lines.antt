@@ -13,11 +13,6 @@ use Rattle.reader_lines.specs.ValuesLine.{stop_of, values_read, values_at}
 use Rattle.reader_lines.specs.declared.columns.Order.{Order}
 use Rattle.reader_lines.specs.declared.columns.Cells.{Cells}
 
-pub stop-positive : (n : ℕ) → 0 < stop_of n
-unfolding stop_of
-stop-positive zero = omega arith
-stop-positive (suc n) = omega arith
-
 pub stop-more : (i n : ℕ) → i < n → 32 ≡ stop_of (n - i)
 unfolding stop_of
 stop-more i n h = let z : n - i ≡ suc (n - (i + 1)) = omega arith in rw z
