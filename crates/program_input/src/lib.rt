@@ -8,6 +8,8 @@ use std::io::Read;
 
 // Reads until the buffer is full or the input ends, and answers how many bytes now stand at its front. A read that fails counts as the end
 // of the input; `read_exact` does not say what was read before a failure.
+// A count, and not the part that was filled: tried, and what a part holds that is handed out is said by an `ensures*`, which is proved only of one field or of
+// a call's result.
 pub fn read_full<R: Read>(from: &mut R, buffer: &mut [u8]) -> usize
     ensures in_bounds { result ≤ length buffer.new }
     ensures bytes { Consumes (R.remaining from.old) (R.remaining from.new) (take result buffer.new) }

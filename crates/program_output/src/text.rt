@@ -28,7 +28,8 @@ pub const OUTPUT_NEEDED: usize = NAMES_LENGTH + WANT_LENGTH * (WANTS_NEEDED / WA
 
 pub(crate) type Text = fixed_text::Text<OUTPUT_NEEDED>;
 
-// What is put behind a text needs room there, each its own number of bytes, so a `requires` says it and no type.
+// What is put behind a text needs room there, each its own number of bytes, so a `requires` says it and no type. `Text::append` asks for none and leaves
+// off what does not fit; by it each contract would say the text cut at the room, of which the definitions of the output know nothing.
 
 // The byte of a hexadecimal digit.
 fn glyph(d: u8) -> u8
