@@ -1,6 +1,5 @@
 pub mod Sections
 pub mod ReferenceLine
-pub mod Heights
 pub mod Points
 pub mod Locating
 pub mod MarksUnseen

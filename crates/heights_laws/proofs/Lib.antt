@@ -1,0 +1,3 @@
+pub mod AcrossAlike
+pub mod OneTangentHolds
+pub mod TangentExamples
