@@ -136,6 +136,24 @@ fn raised() -> Road {
     Road { elev: cubics(&[(0.0, 12.0), (200.0, 12.3)]), bank: cubics(&[(0.0, 0.05), (200.0, 0.06)]), ..twelve_lanes() }
 }
 
+/// Six level lanes a side without heights of their own, on a line that climbs and is banked, without profiles and cross section.
+fn level() -> Road {
+    let mut road = Road { profiles: Vec::new(), ..raised() };
+    let section = &mut road.sections[0];
+    for lane in section.left.iter_mut().chain(&mut section.right) {
+        (lane.level, lane.heights) = (true, Vec::new());
+    }
+    road
+}
+
+/// The same lanes, none of them level: nothing stands off.
+fn bare_lanes() -> Road {
+    let mut road = level();
+    let section = &mut road.sections[0];
+    section.left.iter_mut().chain(&mut section.right).for_each(|lane| lane.level = false);
+    road
+}
+
 /// Every table: the same lanes, one of them level, on a line, an arc and a spiral, with a cross section of four strips.
 fn every_table() -> Road {
     let mut road = raised();
@@ -157,7 +175,7 @@ fn cases() -> Vec<Case> {
     let mut rng = Rng::new(2, "bench of the surface");
     let shape = |shape| one_geometry(shape, 400.0);
     let (line, arc, spiral) = (shape(Shape::Line), shape(Shape::Arc(0.004)), shape(Shape::Spiral(0.0, 0.004)));
-    let (raised, every) = (raised(), every_table());
+    let (raised, every, level, bare) = (raised(), every_table(), level(), bare_lanes());
     [
         ("station on a bare line", Call::Station, &line),
         ("station with every table", Call::Station, &every),
@@ -174,6 +192,12 @@ fn cases() -> Vec<Case> {
         ("locate on a bare 400 m spiral", Call::Locate, &spiral),
         ("locate with lanes and heights", Call::Locate, &raised),
         ("locate with every table", Call::Locate, &every),
+        ("surface on 12 level lanes", Call::Surface, &level),
+        ("lane surface on 12 level lanes", Call::LaneSurface, &level),
+        ("locate on 12 level lanes", Call::Locate, &level),
+        ("surface on 12 lanes, nothing raised", Call::Surface, &bare),
+        ("lane surface on 12 lanes, nothing raised", Call::LaneSurface, &bare),
+        ("locate on 12 lanes, nothing raised", Call::Locate, &bare),
     ]
     .map(|(what, call, road)| Case::new(what, call, road, &mut rng))
     .into()

@@ -155,6 +155,8 @@ fn all_borders(road: &Road, section: &Section, s: f64) -> Vec<[f64; 3]> {
 /// The heights of the lanes of a side at their inner and outer borders.
 pub fn side_heights(road: &Road, lanes: &[Lane], sign: f64, (s, into): (f64, f64), base: f64, tangent: f64) -> Vec<[f64; 2]> {
     let (mut last, mut level) = (height(road, s, base, sign), false);
+    let turned = if fault("level side") { -sign } else { sign };
+    let tangent = if fault("tangent finite") && !tangent.is_finite() { 0.0 } else { tangent };
     let mut all = Vec::new();
     for (lane, [inner, outer, width]) in lanes.iter().zip(side_borders(lanes, sign, base, into)) {
         let [own_inner, own_outer] = own_heights(lane, into);
@@ -162,7 +164,7 @@ pub fn side_heights(road: &Road, lanes: &[Lane], sign: f64, (s, into): (f64, f64
         let toward = if fault("toward") { -1.0 } else { sign };
         let heights = match level {
             true if fault("level group") => [last + own_inner, last - (sign * width * tangent - own_outer)],
-            true => [last + own_inner, (last - (sign * width) * tangent) + own_outer],
+            true => [last + own_inner, (last - (turned * width) * tangent) + own_outer],
             false => [own_inner + height(road, s, inner, toward), own_outer + height(road, s, outer, toward)],
         };
         last = heights[1];

@@ -134,7 +134,13 @@ impl On {
     }
 
     fn lane(&self, section: usize, id: i32, s: f64) -> Option<Across> {
-        self.oracle.across(section, s).into_iter().find(|lane| lane.id() == id)
+        let lanes = if fault("bank for tangent") {
+            let [.., bank, _] = self.oracle.station(s);
+            self.oracle.across_by(section, s, bank)
+        } else {
+            self.oracle.across(section, s)
+        };
+        lanes.into_iter().find(|lane| lane.id() == id)
     }
 
     fn lane_surface(&self, id: i32, s: f64, t: f64) -> Result<([f64; 3], f64), u32> {
