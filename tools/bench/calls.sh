@@ -7,6 +7,7 @@
 set -euo pipefail
 cd "$(dirname "$0")/../.."
 bench=tools/target/release/bench
+command -v valgrind > /dev/null || { echo "calls.sh: valgrind is not here" >&2; exit 1; }
 function=$1
 shift
 seen=$(mktemp)

@@ -6,7 +6,7 @@ use lib.Ieee.{Float, of_bits, of_int, add, sub, mul, div, le, lt, eq, neg}
 use Rattle.std.specs.Float.{nan}
 use Rattle.float_laws.specs.Binary64.{f64, zero64}
 use Rattle.arithmetic_sine.specs.Floor.{floor_of, quarter_of}
-use Rattle.arithmetic_sine.specs.Sine.{tan_of, sine_of, cosine_of, in_sine_range, sine_by, cosine_by, turn, turns, rest, sine_kernel, cosine_kernel, horner, quotient, factorial}
+use Rattle.arithmetic_sine.specs.Sine.{half, one, tan_of, sine_of, cosine_of, in_sine_range, sine_by, cosine_by, turn, turns, rest, sine_kernel, cosine_kernel, horner, quotient, factorial}
 use Rattle.records_lent.specs.Lists.{any_below, last_that}
 use Rattle.records_cubic.specs.declared.cubics.Cubic.{Cubic}
 use Rattle.records.specs.declared.points.GeomShape.TheVariants.{Line}
@@ -20,12 +20,6 @@ use Rattle.lanes_heights.specs.Heights.{level_up_to, height_after, heights_at, a
 use Rattle.lanes_heights.specs.HeightAcross.{height_within}
 use Rattle.surface_points.specs.SurfaceHeights.{stands_off, surface_height}
 use Rattle.heights_laws.specs.OneTangent.{bankless}
-
-abbrev half : Float
-half = f64 0x3fe0_0000_0000_0000
-
-abbrev one : Float
-one = f64 0x3ff0_0000_0000_0000
 
 abbrev three_halves : Float
 three_halves = f64 0x3ff8_0000_0000_0000
@@ -90,7 +84,7 @@ pub at-station :
 unfolding of_bits of_int add sub mul div le lt eq neg floor_of quarter_of tan_of sine_of cosine_of in_sine_range sine_by cosine_by turn turns rest sine_kernel cosine_kernel horner quotient factorial any_below last_that active_in value_in last_start height_of height_toward shape_of cross_height flat_across has_cross_section width_of outer_after borders_at beyond_on lane_at level_up_to height_after heights_at across_at section_raised height_within stands_off surface_height
 at-station = (refl, refl, refl)
 
--- something stands off where a lane is level, and nothing where none is, in heights too; level holds from its lane outward
+-- something stands off where a lane is level, and nothing where none is and none has heights; level holds from its lane outward
 pub with-and-without :
     (stands_off (road [] level) 0 ≡ true)
     × (stands_off (road [] tilted) 0 ≡ false)
