@@ -133,9 +133,13 @@ geom_limited road i =
     let g = geom_at road i in
     on_road road g.s && sized greatest_place g.x && sized greatest_place g.y && sized greatest_heading g.hdg && geom_length_ok g.length && shape_limited g.shape && unused_zero road i
 
+-- where a section ends: "next section's start or the road length"
+abbrev pub section_end : Road → ℕ → Float
+section_end road i = cond (ltb (i + 1) (length road.sections)) (section_of road (i + 1)).start road.length
+
 -- "the section's extent .. (next section's start or the road length, less its own)"
 unfoldable pub section_extent : Road → ℕ → Float
-section_extent road i = cond (ltb (i + 1) (length road.sections)) (section_of road (i + 1)).start road.length ⊖ (section_of road i).start
+section_extent road i = section_end road i ⊖ (section_of road i).start
 
 -- "Lane heights: size ≤ 2"; a lane list's starts have no range, so they have to be finite and no more
 unfoldable pub height_limited : HeightDef → Bool

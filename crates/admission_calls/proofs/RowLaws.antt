@@ -20,6 +20,11 @@ module _ {A B : Type 0} where
   first-refused [] ss x b {n} e = let z : ◌≡◌ {A = ℕ} 0 1 = cc in absurd (omega arith)
   first-refused (r ∷ rs) ss x b {n} e = refused-one r.passes (number_of r.refusal) n (checked rs (value x)) (checked (rs ++ ss) b) (first-refused rs ss x b) e
 
+  -- where no rows come after them, too
+  pub rows-refused : (rs : List Row) (x : A) (b : Answer B) {n : ℕ} → ◌≡◌ {A = Answer A} (refused n) (checked rs (value x)) → ◌≡◌ {A = Answer B} (refused n) (checked rs b)
+  rows-refused [] x b {n} e = let z : ◌≡◌ {A = ℕ} 0 1 = cc in absurd (omega arith)
+  rows-refused (r ∷ rs) x b {n} e = refused-one r.passes (number_of r.refusal) n (checked rs (value x)) (checked rs b) (rows-refused rs x b) e
+
 module _ {A : Type 0} where
   passed-one : (p : Bool) (m : ℕ) (y : A) (a : Answer A) {P : Type 0} → (value y ≡ a → P) → value y ≡ cond p a (refused m) → (p ≡ true) × P
   passed-one true m y a f e = (refl, f e)
@@ -30,4 +35,11 @@ pub first-passed : {A B : Type 0} (rs ss : List Row) (x : A) (b : Answer B) {y :
 first-passed [] ss x b {y} e = (cc, refl)
 first-passed (r ∷ rs) ss x b {y} e =
     let p = passed-one r.passes (number_of r.refusal) y (checked rs (value x)) (first-passed rs ss x b) e in
+    (p.1.0, rw p.0 p.1.1)
+
+-- where no rows come after them, the answer is what is left
+pub rows-passed : {A B : Type 0} (rs : List Row) (x : A) (b : Answer B) {y : A} → value y ≡ checked rs (value x) → (y ≡ x) × (checked rs b ≡ b)
+rows-passed [] x b {y} e = (cc, refl)
+rows-passed (r ∷ rs) x b {y} e =
+    let p = passed-one r.passes (number_of r.refusal) y (checked rs (value x)) (rows-passed rs x b) e in
     (p.1.0, rw p.0 p.1.1)

@@ -3,4 +3,4 @@
 
 mod sections;
 
-pub use sections::{section_extent, sections_limited};
+pub use sections::{section_end, section_extent, sections_limited};

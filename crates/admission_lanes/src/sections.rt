@@ -2,7 +2,7 @@
 ghost use Rattle.std.specs.Prelude.{◌≡◌, cond, ℕ, length, get_or};
 ghost use Rattle.records_lent.specs.Lists.{all_below};
 ghost use Rattle.records.specs.Roads.{no_lane};
-ghost use Rattle.admission.specs.Limits.{greatest_width, greatest_border, section_extent, height_limited, heights_limited, lane_limited, section_limited};
+ghost use Rattle.admission.specs.Limits.{greatest_width, greatest_border, section_end, section_extent, height_limited, heights_limited, lane_limited, section_limited};
 
 use admission::on_road;
 use admission_bounds::cubics_within;
@@ -17,17 +17,23 @@ const GREATEST_WIDTH: f64 = 8.0;
 
 const GREATEST_BORDER: f64 = 36.0;
 
-// How far a section reaches: to the next one's start, the last to the road's end. NaN where there is no section.
+// Where a section ends: at the next one's start, the last, or one that is not there, at the road's end.
+pub fn section_end(road: &LentRoad, i: usize) -> f64
+    ensures { result ≡ section_end road.now i }
+{
+    if i < section_count(road).saturating_sub(1) {
+        section_start(road, i + 1)
+    } else {
+        road.length()
+    }
+}
+
+// How far a section reaches. NaN where there is no section.
 #[tactic(auto, unfolding(admission::specs::Limits::section_extent))]
 pub fn section_extent(road: &LentRoad, i: usize) -> f64
     ensures { result ≡ section_extent road.now i }
 {
-    let end = if i < section_count(road).saturating_sub(1) {
-        section_start(road, i + 1)
-    } else {
-        road.length()
-    };
-    end - section_start(road, i)
+    section_end(road, i) - section_start(road, i)
 }
 
 #[tactic(auto, using(arithmetic_ranges::proofs::FiniteLaws::finite_is), unfolding(admission::specs::Limits::height_limited))]

@@ -1,4 +1,4 @@
--- Document 02, point 2: "Points, borders and their sizes are unaffected by spans." Two admitted roads that differ in marks alone are answered alike by every call that gives values. Read `MarksUnseen` first, at the end. A call that is added later, takes a road and does not go by marks has its line there.
+-- Document 02, point 2: "Points, borders and their sizes are unaffected by spans." Two admitted roads that differ in marks alone are answered alike by every call that gives values, but for `dots`, which goes by them. Read `MarksUnseen` first, at the end. A call that is added later, takes a road and does not go by marks has its line there.
 use Rattle.std.specs.Prelude.{ℕ, ◌≡◌, true, List, [], map, ℤ, Float}
 use Rattle.records.specs.Roads.{Road, Section, road_of}
 use Rattle.admission.specs.Admission.{admitted}

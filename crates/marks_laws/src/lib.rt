@@ -1,2 +1,2 @@
-// The theorem that no answer depends on marks; there is no code here.
+// The theorem that of all calls on a road `dots` alone depends on marks; there is no code here.
 #![tactic(auto)]

@@ -3,14 +3,14 @@ use Prim.Native.Nat.{ℕ, zero, suc, ◌+◌, ◌-◌, ◌*◌, ◌<◌}
 use native.Mathlib.Omega.{arith}
 use native.Mathlib.Numerals.{add-one}
 use mathlib.Core.Path.{◌≡◌, refl, sym, ap, ◌∙◌}
-use mathlib.Core.List.{List, [], ◌∷◌, ◌++◌, append_assoc}
+use mathlib.Core.List.{List, [], ◌∷◌, ◌++◌}
 use borrow.Author.Tests.{lt-ltb}
 use lib.ListN.{length, take, drop, length-append}
-use lib.Seq.{take_at, drop_at, drop-drop}
 use lib.Ieee.{Float}
 use Rattle.records.specs.declared.points.Point.{Point}
 use Rattle.coordinates.specs.declared.vectors.Vector.{Vector}
 use Rattle.coordinates.specs.Vectors.{sum_of, unit_of}
+use Rattle.tracks.proofs.StoreLaws.{part_written}
 use Rattle.tracks.specs.Tangents.{incoming_of, outgoing_of, tangent_of, tangent_numbers}
 
 module _ (p : ℕ → Point) (n : ℕ) where
@@ -38,10 +38,6 @@ module _ (p : ℕ → Point) (n : ℕ) where
   -- one point more: the three numbers of its part of the list
   pub written_next : (old list : List Float) (k : ℕ) {t : Vector} {ys : List Float} → t ≡ tangent_of p n k → ys ≡ t.x ∷ t.y ∷ t.z ∷ [] → list ≡ tangent_numbers p n k ++ drop (k * 3) old
       → take (k * 3) list ++ (ys ++ drop (k * 3 + 3 - k * 3) (drop (k * 3) list)) ≡ tangent_numbers p n (k + 1) ++ drop ((k + 1) * 3) old
-  written_next old list k e g f =
-      let i = k * 3 in
-      let q = tangent_numbers p n k in
-      let t = tangent_of p n k in
-      let m : i + (i + 3 - i) ≡ (k + 1) * 3 = omega arith in
-      let l = numbers-length k in
-      rw (f, take_at q (drop i old) i l, drop_at q (drop i old) i l, g, e, drop-drop (i + 3 - i) i old, m, numbers-suc k) (sym (append_assoc q (t.x ∷ t.y ∷ t.z ∷ []) (drop ((k + 1) * 3) old)))
+  written_next old list k {t} {ys} e g f =
+      part_written (tangent_numbers p n k) old list ys k (numbers-length k) f
+      ∙ ap (λ (r : List Float). r ++ drop ((k + 1) * 3) old) (ap (λ (r : List Float). tangent_numbers p n k ++ r) (g ∙ rw e refl) ∙ sym (numbers-suc k))

@@ -16,10 +16,14 @@ unfoldable pub leading_from : (ℕ → Float) → Float → ℕ → ℕ → ℕ
 leading_from c s j zero = 0
 leading_from c s j (suc k) = cond (le (c j) s) (suc (leading_from c s (suc j) k)) 0
 
--- the segment that holds s: that number less one, at least 0, at most the last segment
+-- the last segment whose start, of n starts c 0 .. c (n - 1), is at most s: that number less one, at least 0, at most the last segment
+abbrev pub segment_in : (ℕ → Float) → ℕ → Float → ℕ
+segment_in c n s = min (leading_from c s 0 n - 1) (n - 2)
+
+-- the segment that holds s, by the arc lengths
 unfoldable pub segment_of : (ℕ → Point) → ℕ → Float → ℕ
 unfolding leading_from length_to
-segment_of p n s = min (leading_from (length_to p) s 0 n - 1) (n - 2)
+segment_of p n s = segment_in (length_to p) n s
 
 -- 1e-6, the f32 nearest to it
 abbrev pub least_span : Float

@@ -11,3 +11,4 @@ mod tangents;
 pub use lines::Track;
 pub use poses::{Spot, TrackPose};
 pub use projections::Projection;
+pub use segments::Segment;

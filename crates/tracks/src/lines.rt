@@ -56,7 +56,7 @@ impl<'a> Track<'a> {
 
     // Segment i, from point i to the next. No track has as many points as a usize counts: past the last number the one after it is itself, and both points are NaNs.
     #[tactic(auto, using(crate::proofs::NextPoints::segment_is))]
-    pub(crate) fn segment(&self, i: usize) -> Segment
+    pub fn segment(&self, i: usize) -> Segment
         ensures { result ≡ segment_at (point_at self.now) i }
     {
         Segment {

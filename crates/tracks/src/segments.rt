@@ -21,7 +21,7 @@ impl Segment {
     }
 
     // How far apart its ends are.
-    pub(crate) fn length(self) -> f32
+    pub fn length(self) -> f32
         ensures { result ≡ distance_of self.from self.to }
     {
         self.way().length()

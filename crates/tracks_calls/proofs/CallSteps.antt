@@ -28,7 +28,7 @@ use Rattle.tracks_calls.specs.TrackCalls.{track_counted, all_inside, point_insid
 
 -- ---- a track is refused by one of the rows, or passes both
 
-data Refused (a b : Bool) (n : ℕ) : Type 0 where
+pub data Refused (a b : Bool) (n : ℕ) : Type 0 where
   by_count : n ≡ 13 → a ≡ false → Refused a b n
   by_range : n ≡ 14 → a ≡ true → b ≡ false → Refused a b n
 
@@ -36,7 +36,7 @@ pass : {A : Type 0} (v : Answer A) (a b : Bool) → a ≡ true → b ≡ true �
 pass v a b e f = rw (e, f)
 
 module _ (xs : List Float) where
-  abbrev counted : Bool
+  abbrev pub counted : Bool
   counted = track_counted (length xs)
 
   abbrev number : Answer (List Float) → ℕ
@@ -52,7 +52,7 @@ module _ (xs : List Float) where
   numbers xs (refused n) = xs
 
   module _ {r : Result (List Float) Refusal} (h : answered r ≡ track_call xs) where
-    why : {e : Refusal} → r ≡ Err e → Refused counted (all_inside xs) (number_of e)
+    pub why : {e : Refusal} → r ≡ Err e → Refused counted (all_inside xs) (number_of e)
     unfolding track_call
     why {e} k = go counted (all_inside xs) refl refl (rw k at h)
       where

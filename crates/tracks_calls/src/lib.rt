@@ -5,3 +5,4 @@ mod calls;
 mod rows;
 
 pub use calls::{pose_at, project, tangents};
+pub use rows::checked_track;

@@ -48,7 +48,7 @@ pub(crate) fn point_inside(p: Point) -> bool
 }
 
 // The track of a slice that passes both rows.
-pub(crate) fn checked_track(points: &[f32]) -> Result<Track<'_>, Refusal>
+pub fn checked_track(points: &[f32]) -> Result<Track<'_>, Refusal>
     ensures { answered result ≡ track_call points.now }
 {
     if !counted(points) {

@@ -1,0 +1,4 @@
+pub mod LeadingSteps
+pub mod AlongSteps
+pub mod WalkSteps
+pub mod ListSteps

@@ -1,0 +1,14 @@
+pub mod Segments
+pub mod Orders
+pub mod FractionInto
+pub mod StationOn
+pub mod NeverBack
+pub mod LineLength
+pub mod Multiples
+pub mod KeptLists
+pub mod DotsKept
+pub mod WorkedDots
+pub mod LineFits
+pub mod InSection
+pub mod DotsAnswered
+pub mod WorkedCall

@@ -1,0 +1,3 @@
+pub mod NeverBack
+pub mod DotsKept
+pub mod DotsAnswered
