@@ -46,6 +46,7 @@ example() {
 
 example gcc examples/c/example.c examples/stdout
 example gcc examples/c/by_hand.c examples/c/by_hand.stdout
+example gcc examples/c/dots.c examples/c/dots.stdout
 example gcc examples/c/track.c examples/c/track.stdout
 example g++ examples/cpp/example.cpp examples/stdout
 example cargo examples/rust/Cargo.toml examples/stdout

@@ -1,4 +1,4 @@
-/* Riftkettle: road surface points and poses for marking carts; track lines. Metres and radians.
+/* Riftkettle: road surface points and poses for marking carts; dots at equal spacing; track lines. Metres and radians.
  *
  * What the words mean (s, t, heading, curvature, base, lanes, heights, tracks), each number's unit and limit, and worked examples:
  * docs/ROAD.md.
@@ -27,9 +27,9 @@
 extern "C" {
 #endif
 
-#define RIFTKETTLE_VERSION "2.0.0"
+#define RIFTKETTLE_VERSION "2.1.0"
 #define RIFTKETTLE_VERSION_MAJOR 2
-#define RIFTKETTLE_VERSION_MINOR 0
+#define RIFTKETTLE_VERSION_MINOR 1
 #define RIFTKETTLE_VERSION_PATCH 0
 
 /* ---- refusals: the numbers of documents 01 and 02. Which call answers which: docs/ROAD.md, "Refusals" */
@@ -43,11 +43,14 @@ extern "C" {
 #define RIFTKETTLE_REFUSED_STATION 7       /* s is outside 0..length; the guess is not finite */
 #define RIFTKETTLE_REFUSED_OFFSET 8        /* t is outside -80..80 */
 #define RIFTKETTLE_REFUSED_TARGET 9        /* x or y is outside -2,000,000..2,000,000 */
-#define RIFTKETTLE_REFUSED_LANE 10         /* the section at s has no lane of that id */
+#define RIFTKETTLE_REFUSED_LANE 10         /* the section at s, or the section named, has no lane of that id */
 #define RIFTKETTLE_REFUSED_BORDER_SPACE 11 /* the lent list is shorter than the section's lanes */
 #define RIFTKETTLE_REFUSED_COUNT_RANGE 12  /* the value is outside -80..80 */
 #define RIFTKETTLE_REFUSED_TRACK_COUNT 13  /* the track is not 2 to 512 points of three f32, or the lent list is shorter than it */
 #define RIFTKETTLE_REFUSED_TRACK_RANGE 14  /* a coordinate of the track or of the point is outside -2,000,000..2,000,000 */
+#define RIFTKETTLE_REFUSED_SPACING 15      /* the spacing is outside 0.1..100 */
+#define RIFTKETTLE_REFUSED_STATION_LIST 16 /* the stations are not 2 to 512 rising ones of the section, or their line is no track */
+#define RIFTKETTLE_REFUSED_DOT_SPACE 17    /* the lent list is shorter than the dots kept, or the line has over 65,536 multiples */
 
 /* ---- a road in lent memory
  *
@@ -100,7 +103,7 @@ extern "C" {
                                       outward, then the right ones, as riftkettle_borders lists them; its kind (1..255). A place that
                                       the section does not have is 3, and so is a start that is less than that of an earlier line on
                                       the same lane; a kind, start or end outside is 4. Sections that share a range are each tested
-                                      with their own lanes and extent. No value depends on marks. */
+                                      with their own lanes and extent. Of all calls riftkettle_dots alone goes by marks. */
 
 /* Elements a line: of a table of cubics (elev, bank, offset, tshift, extent, shape, cubic), of the others in `numbers`, and of those
  * in `words`. A table of one element a line is not listed. */
@@ -121,6 +124,8 @@ extern "C" {
 #define RIFTKETTLE_SAMPLES 8000    /* 2,000 samples */
 #define RIFTKETTLE_BORDER_STRIDE 3 /* a lane: t of its inner border, t of its outer border, its width */
 #define RIFTKETTLE_BORDERS 36      /* 12 lanes */
+#define RIFTKETTLE_STATIONS 512    /* the stations of a line to dot */
+#define RIFTKETTLE_DOTS 65536      /* the dots of a line */
 #define RIFTKETTLE_POINT_STRIDE 3  /* a point of a track, or its tangent: x, y, z, as f32 */
 #define RIFTKETTLE_TRACK 1536      /* 512 points */
 
@@ -217,6 +222,24 @@ uint32_t riftkettle_lane_surface(const uint16_t *words, size_t n, const double *
  * end. Refusals: 3, 4, 5, 6; 7 where the guess is not finite; 9 where x or y is outside -2,000,000..2,000,000. */
 uint32_t riftkettle_locate(const uint16_t *words, size_t n, const double *numbers, size_t m, const double *samples, size_t k, double x,
                            double y, double guess, double pair[2], uint32_t *moves, uint32_t *met);
+
+/* The dots of a lane: stations at equal spacing along its outer border, where marks of kind 1 cover it. The section is named by its
+ * number, from 0. Its stations are lent: 2 to 512, each above the one before, none before the section's start nor past its end, the
+ * next one's start or the road's length; they need not begin or end there. At each stands the point of the lane's surface at its outer
+ * border, as f32; at the section's end too the lane is that of the section named. The line runs straight from point to point, and f32
+ * lengths along it, in space, count from the first.
+ * A dot lies at each multiple 0, spacing, 2 * spacing, .., one f32 product each, that is at most the line's length. It is a station
+ * and divides the way between the stations of its segment's ends as the multiple divides that between their lengths. Kept are the dots
+ * that a mark of kind 1 on the lane covers. Writes them in order from list[0] on and their number to *dots; what lies past them stays as it was. No dot
+ * lies more than 0.000000001 m below the one before it. RIFTKETTLE_DOTS numbers are enough for every line. The call takes 6 KiB of
+ * stack more than the others.
+ * Refusals: 3, 4, 5, 6; 10 where the road has no section of that number, or the section no lane of that id, as for 0; 15 where the
+ * spacing is outside 0.1f..100; 16 where the stations are others, or a coordinate of the line is outside -2,000,000..2,000,000, as it
+ * may be with samples of another road; 17 where over 65,536 multiples, kept or not, are at most the line's length, or r is less than
+ * the dots kept. */
+uint32_t riftkettle_dots(const uint16_t *words, size_t n, const double *numbers, size_t m, const double *samples, size_t k,
+                         size_t section, int32_t lane, float spacing, const double *stations, size_t q, double *list, size_t r,
+                         size_t *dots);
 
 /* ---- calls on a track line: each checks it whole
  *

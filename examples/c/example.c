@@ -5,7 +5,7 @@
  *
  * JOB is a job text (docs/JOB-TEXT.md); examples/jobs/lanes_width.job, from the repository's root, if none is named. examples/run.sh
  * builds and runs this, and the same in C++ and Rust; all write what examples/stdout holds. by_hand.c lays a road itself;
- * track.c measures dots against a line of surface points. */
+ * dots.c spaces dots along a lane, track.c measures dots against a line of surface points. */
 #include <inttypes.h>
 #include <stdio.h>
 #include <string.h>
@@ -33,12 +33,13 @@ static int usual_environment(void) {
 
 /* Ends the line if the call refused. */
 static int refused(uint32_t refusal) {
-  static const char *const names[] = {"Form",   "Capacity", "Structure", "Range",       "SampleBudget", "SampleSpace", "Station",
-                                      "Offset", "Target",   "Lane",      "BorderSpace", "CountRange",   "TrackCount",  "TrackRange"};
+  static const char *const names[] = {"Form",       "Capacity",   "Structure", "Range",       "SampleBudget", "SampleSpace",
+                                      "Station",    "Offset",     "Target",    "Lane",        "BorderSpace",  "CountRange",
+                                      "TrackCount", "TrackRange", "Spacing",   "StationList", "DotSpace"};
   if (refusal == 0) {
     return 0;
   }
-  printf("refused %" PRIu32 " (%s)\n", refusal, refusal <= 14 ? names[refusal - 1] : "unknown");
+  printf("refused %" PRIu32 " (%s)\n", refusal, refusal <= 17 ? names[refusal - 1] : "unknown");
   return 1;
 }
 

@@ -50,9 +50,9 @@ bool usual_environment() {
 
 // Ends the line if the call refused.
 bool refused(std::uint32_t refusal) {
-  static constexpr std::array<const char *, 14> names = {"Form",        "Capacity",   "Structure",  "Range",     "SampleBudget",
-                                                         "SampleSpace", "Station",    "Offset",     "Target",    "Lane",
-                                                         "BorderSpace", "CountRange", "TrackCount", "TrackRange"};
+  static constexpr std::array<const char *, 17> names = {
+      "Form", "Capacity",    "Structure",  "Range",      "SampleBudget", "SampleSpace", "Station",     "Offset",  "Target",
+      "Lane", "BorderSpace", "CountRange", "TrackCount", "TrackRange",   "Spacing",     "StationList", "DotSpace"};
   if (refusal == 0) {
     return false;
   }

@@ -14,7 +14,7 @@ pub struct Lent<'a> {
     pub numbers: &'a [f64],
 }
 
-/// What a return code says: 0 is an answer, 1 to 14 a refusal. Any other is no code of this version, so nothing that the call wrote can
+/// What a return code says: 0 is an answer, 1 to 17 a refusal. Any other is no code of this version, so nothing that the call wrote can
 /// be trusted.
 pub(crate) fn answered(code: u32) -> Result<(), Refusal> {
     match Refusal::from_number(code) {
@@ -334,4 +334,63 @@ pub fn locate(road: Lent<'_>, samples: &[f64], x: f64, y: f64, guess: f64) -> Re
     answered(code)?;
     let [s, t] = pair;
     Ok(Located { s, t, moves, met: met == 1 })
+}
+
+/// The dots of a lane: stations at equal spacing along its outer border, where marks of kind 1 cover it. Writes them into `list` in order
+/// from `list[0]` on and answers how many. What lies past them stays as it was. [`DOTS`](crate::layout::DOTS) numbers are enough for
+/// every line.
+///
+/// The section is named by its number, from 0. `stations` are 2 to 512 of it, each above the one before, none before the section's start
+/// nor past its end; they need not begin or end there. At each stands the point of the lane's surface at its outer border, as f32, and
+/// the line runs straight from point to point; f32 lengths along it, in space, count from the first. A dot lies at each multiple
+/// `0`, `spacing`, `2 * spacing`, .. that is at most the line's length. It is a station and divides the way between the stations of its
+/// segment's ends as the multiple divides that between their lengths. Kept are the dots that a mark of kind 1 on the lane covers. No dot
+/// lies more than 0.000000001 m below the one before it.
+///
+/// ```
+/// // lane 1 of the first section, 60 m long, is marked from 0 to 20 and from 40 to 60
+/// let mut road = Box::new(riftkettle::Road::new());
+/// road.read(&std::fs::read("../../examples/jobs/marks.job").unwrap())?;
+/// let stations: Vec<f64> = (0..=60).map(f64::from).collect();
+/// let mut list = [0.0; 20];
+/// let dots = riftkettle::dots(road.lent(), road.samples(), 0, 1, 5.0, &stations, &mut list)?;
+/// assert_eq!(list[..dots], [0.0, 5.0, 10.0, 15.0, 40.0, 45.0, 50.0, 55.0]);
+/// # Ok::<(), riftkettle::Refusal>(())
+/// ```
+///
+/// Refuses also [`Refusal::SampleSpace`]; [`Refusal::Lane`] where there is no such section or no such lane of it; [`Refusal::Spacing`]
+/// outside 0.1..100; [`Refusal::StationList`] where the stations are others, or a coordinate of the line is outside
+/// -2,000,000..2,000,000, as it may be with samples of another road; [`Refusal::DotSpace`] where over 65,536 multiples, kept or not, are
+/// at most the line's length, or the list is shorter than the dots kept.
+pub fn dots(
+    road: Lent<'_>,
+    samples: &[f64],
+    section: usize,
+    lane: i32,
+    spacing: f32,
+    stations: &[f64],
+    list: &mut [f64],
+) -> Result<usize, Refusal> {
+    let Lent { words, numbers } = road;
+    let mut dots = 0;
+    // SAFETY: pointers and lengths are those of slices; what is written is borrowed mutably, so it overlaps nothing.
+    let code = unsafe {
+        ffi::riftkettle_dots(
+            words.as_ptr(),
+            words.len(),
+            numbers.as_ptr(),
+            numbers.len(),
+            samples.as_ptr(),
+            samples.len(),
+            section,
+            lane,
+            spacing,
+            stations.as_ptr(),
+            stations.len(),
+            list.as_mut_ptr(),
+            list.len(),
+            &mut dots,
+        )
+    };
+    answered(code).map(|()| dots)
 }

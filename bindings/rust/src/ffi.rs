@@ -110,6 +110,22 @@ unsafe extern "C" {
         moves: *mut u32,
         met: *mut u32,
     ) -> u32;
+    pub fn riftkettle_dots(
+        words: *const u16,
+        n: usize,
+        numbers: *const f64,
+        m: usize,
+        samples: *const f64,
+        k: usize,
+        section: usize,
+        lane: i32,
+        spacing: f32,
+        stations: *const f64,
+        q: usize,
+        list: *mut f64,
+        r: usize,
+        dots: *mut usize,
+    ) -> u32;
 
     pub fn riftkettle_track_tangents(points: *const f32, n: usize, list: *mut f32, k: usize) -> u32;
     pub fn riftkettle_track_pose(points: *const f32, n: usize, s: f32, pose: *mut [f32; 6]) -> u32;

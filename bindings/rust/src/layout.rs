@@ -4,9 +4,9 @@
 // `include/riftkettle.h` says what each is.
 #![allow(missing_docs)]
 
-pub const VERSION: &str = "2.0.0";
+pub const VERSION: &str = "2.1.0";
 pub const VERSION_MAJOR: u32 = 2;
-pub const VERSION_MINOR: u32 = 0;
+pub const VERSION_MINOR: u32 = 1;
 pub const VERSION_PATCH: u32 = 0;
 
 // ---- a road: elements of the two slices
@@ -61,6 +61,8 @@ pub const SAMPLE_STRIDE: usize = 4;
 pub const SAMPLES: usize = 8000;
 pub const BORDER_STRIDE: usize = 3;
 pub const BORDERS: usize = 36;
+pub const STATIONS: usize = 512;
+pub const DOTS: usize = 65536;
 pub const POINT_STRIDE: usize = 3;
 pub const TRACK: usize = 1536;
 

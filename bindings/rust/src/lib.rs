@@ -46,7 +46,7 @@ mod tracks;
 
 pub use answers::{Axes, Border, Borders, Located, Pose, Projection, Station, SurfacePoint, TrackPose};
 pub use calls::{
-    Lent, admit, axes, borders, cos, counts, hypot, lane_named, lane_surface, left_lanes, locate, narrow, pose, read, root,
+    Lent, admit, axes, borders, cos, counts, dots, hypot, lane_named, lane_surface, left_lanes, locate, narrow, pose, read, root,
     root32, samples, sin, station, surface, tan,
 };
 pub use environment::environment;

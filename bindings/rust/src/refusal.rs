@@ -23,7 +23,7 @@ pub enum Refusal {
     Offset = 8,
     /// `x` or `y` is outside -2,000,000..2,000,000.
     Target = 9,
-    /// The section at `s` has no lane of that id.
+    /// The section at `s`, or the section named, has no lane of that id.
     Lane = 10,
     /// The lent list is shorter than the section's lanes.
     BorderSpace = 11,
@@ -33,6 +33,12 @@ pub enum Refusal {
     TrackCount = 13,
     /// A coordinate of the track or of the point is outside -2,000,000..2,000,000.
     TrackRange = 14,
+    /// The spacing is outside 0.1..100.
+    Spacing = 15,
+    /// The stations are not 2 to 512 rising ones of the section, or their line is no track.
+    StationList = 16,
+    /// The lent list is shorter than the dots kept, or the line has over 65,536 multiples.
+    DotSpace = 17,
 }
 
 impl Refusal {
@@ -52,9 +58,12 @@ impl Refusal {
         Self::CountRange,
         Self::TrackCount,
         Self::TrackRange,
+        Self::Spacing,
+        Self::StationList,
+        Self::DotSpace,
     ];
 
-    /// Its number in the C interface, 1 to 14.
+    /// Its number in the C interface, 1 to 17.
     pub const fn number(self) -> u32 {
         self as u32
     }
@@ -62,7 +71,7 @@ impl Refusal {
     /// The refusal of that number.
     pub const fn from_number(number: u32) -> Option<Self> {
         match number {
-            1..=14 => Some(Self::ALL[number as usize - 1]),
+            1..=17 => Some(Self::ALL[number as usize - 1]),
             _ => None,
         }
     }
@@ -79,11 +88,14 @@ impl Refusal {
             Self::Station => "s is outside 0..length; the guess is not finite",
             Self::Offset => "t is outside -80..80",
             Self::Target => "x or y is outside -2,000,000..2,000,000",
-            Self::Lane => "the section at s has no lane of that id",
+            Self::Lane => "the section at s, or the section named, has no lane of that id",
             Self::BorderSpace => "the lent list is shorter than the section's lanes",
             Self::CountRange => "the value is outside -80..80",
             Self::TrackCount => "the track is not 2 to 512 points of three f32, or the lent list is shorter than it",
             Self::TrackRange => "a coordinate of the track or of the point is outside -2,000,000..2,000,000",
+            Self::Spacing => "the spacing is outside 0.1..100",
+            Self::StationList => "the stations are not 2 to 512 rising ones of the section, or their line is no track",
+            Self::DotSpace => "the lent list is shorter than the dots kept, or the line has over 65,536 multiples",
         }
     }
 }

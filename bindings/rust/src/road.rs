@@ -152,6 +152,11 @@ impl Road {
     pub fn locate(&self, x: f64, y: f64, guess: f64) -> Result<Located, Refusal> {
         calls::locate(self.lent(), self.samples(), x, y, guess)
     }
+
+    /// [`dots`](crate::dots), into a list of the caller's: they may be 65,536.
+    pub fn dots(&self, section: usize, lane: i32, spacing: f32, stations: &[f64], list: &mut [f64]) -> Result<usize, Refusal> {
+        calls::dots(self.lent(), self.samples(), section, lane, spacing, stations, list)
+    }
 }
 
 impl Default for Road {

@@ -99,6 +99,12 @@ fn ask_all(road: Lent<'_>, made: &[f64], refused: &mut BTreeSet<u32>) {
             same(told(borders(road, s, &mut list[..k])), raw::borders(road, s, &mut raw_list[..k]));
             assert_eq!((list.bits(), list[k..].bits()), (raw_list.bits(), [MARK; 3].bits()));
         }
+        for (section, lane, spacing, last) in [(0, 1, 2.5, s), (0, -1, 0.1, 1.0), (1, 2, 100.0, s), (9, 1, s as f32, 1.0)] {
+            let (mut list, mut raw_list) = ([MARK; 40], [MARK; 40]);
+            let answer = told(dots(road, made, section, lane, spacing, &[0.0, last], &mut list[..36]));
+            same(answer, raw::dots(road, made, (section, lane), spacing, &[0.0, last], &mut raw_list[..36]));
+            assert_eq!((list.bits(), list[36..].bits()), (raw_list.bits(), [MARK; 4].bits()));
+        }
         let left = left_lanes(road, s); // answers for any slices
         assert!(borders(road, s, &mut [0.0; BORDERS]).map_or(true, |lanes| left <= lanes));
     }
@@ -130,7 +136,7 @@ fn calls_on_the_sample_jobs() {
             ask_all(road.lent(), &[f64::NAN; SAMPLES], &mut refused);
         }
     }
-    assert_eq!(refused, BTreeSet::from([3, 6, 7, 8, 9, 10, 11]));
+    assert_eq!(refused, BTreeSet::from([3, 6, 7, 8, 9, 10, 11, 16]));
 }
 
 /// A road of one spiral, from straight to the curvature `k1`.
@@ -174,6 +180,8 @@ fn every_refusal() {
     let (long, sharp) = (spiral(900.0, 0.001), spiral(2.0, 1.5));
     let (mut w, mut f, mut u) = marked();
     let mut reading = |text: &[u8]| read(text, &mut w, &mut f, &mut u).unwrap_err();
+    let marks = road_of(&job("marks"));
+    let dot = |spacing, stations: &[f64], list: &mut [f64]| marks.dots(0, 1, spacing, stations, list).unwrap_err();
     let refused = [
         reading(&text[1..]),
         reading(&[b'\n'; TEXT + 1]),
@@ -189,6 +197,9 @@ fn every_refusal() {
         counts(-80.5).unwrap_err(),
         track_pose(&[0.0; 3], 0.0).unwrap_err(),
         track_pose(&[f32::NAN; 6], 0.0).unwrap_err(),
+        dot(0.05, &[], &mut []),
+        dot(1.0, &[5.0], &mut []),
+        dot(1.0, &[5.0, 8.0], &mut [0.0; 3]),
     ];
     assert_eq!(refused, Refusal::ALL);
 }

@@ -126,7 +126,7 @@ fn refusals_have_the_numbers_and_words() {
         assert_eq!(Refusal::from_number(number.parse().unwrap()), Some(refusal));
         assert_eq!(refusal.number().to_string(), number);
     }
-    assert_eq!([0, 15, u32::MAX].map(Refusal::from_number), [None; 3]);
+    assert_eq!([0, 18, u32::MAX].map(Refusal::from_number), [None; 3]);
 }
 
 #[test]

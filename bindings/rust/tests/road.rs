@@ -26,6 +26,11 @@ fn same_answers(road: &Road) {
                 assert_eq!(told(road.lane_surface(id, s, t)), told(lane_surface(lent, made, id, s, t)));
             }
         }
+        for (section, lane) in [(0, 1), (1, -1), (2, 1)] {
+            let (stations, mut list, mut own) = ([0.0, s], [0.0; 9], [0.0; 9]);
+            let answer = dots(lent, made, section, lane, 12.5, &stations, &mut list);
+            assert_eq!((road.dots(section, lane, 12.5, &stations, &mut own), own), (answer, list));
+        }
         let mut list = [0.0; BORDERS];
         let lanes = borders(lent, s, &mut list);
         assert_eq!(road.borders(s).map(|b| b.bits()), lanes.map(|n| list[..3 * n].bits()));

@@ -229,6 +229,22 @@ pub mod raw {
         left(code, ([MARK; 2], 99, 99), answer)
     }
 
+    pub fn dots(
+        road: Lent<'_>,
+        samples: &[f64],
+        (section, lane): (usize, i32),
+        spacing: f32,
+        stations: &[f64],
+        list: &mut [f64],
+    ) -> Told {
+        let before = list.bits();
+        let mut dots = 99_usize;
+        let (asked, (to, r)) = ((stations.as_ptr(), stations.len()), (list.as_mut_ptr(), list.len()));
+        let code = on_samples!(riftkettle_dots(road, samples, section, lane, spacing, asked.0, asked.1, to, r, &mut dots));
+        assert!(code == 0 || list.bits() == before);
+        left(code, 99, dots)
+    }
+
     /// No number: the list shows what was written.
     pub fn track_tangents(points: &[f32], list: &mut [f32]) -> Told {
         let before = list.bits();
