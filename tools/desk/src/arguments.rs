@@ -1,6 +1,6 @@
 //! What the subcommands share: their arguments, the FILE that they read, and how they end.
 use crate::decimal;
-use riftkettle::Refusal;
+use riftkettle::{Refusal, Road};
 use std::io::{self, Read, Write};
 use std::process::ExitCode;
 use std::{fs, str::FromStr};
@@ -41,7 +41,7 @@ impl From<io::Error> for Failure {
     }
 }
 
-/// One FILE, and options that have a value: `--name value` or `--name=value`, in any order, each at most once.
+/// One FILE, words after it, and options that have a value: `--name value` or `--name=value`, in any order, each at most once.
 #[derive(Debug)]
 pub struct Arguments<'a> {
     pub file: &'a str,
@@ -51,13 +51,21 @@ pub struct Arguments<'a> {
 impl<'a> Arguments<'a> {
     /// What follows the subcommand's name. The known options are named with their dashes.
     pub fn of(arguments: &'a [String], known: &[&str]) -> Result<Self, Failure> {
-        let (mut file, mut options) = (None, Vec::new());
+        Self::with_words(arguments, [], known).map(|(arguments, _)| arguments)
+    }
+
+    /// Likewise, with the words after FILE, which are known by their names. A word may be a number below 0.
+    pub fn with_words<const N: usize>(
+        arguments: &'a [String],
+        names: [&str; N],
+        known: &[&str],
+    ) -> Result<(Self, [&'a str; N]), Failure> {
+        let (mut words, mut options) = (Vec::new(), Vec::new());
+        let is_word = |argument: &str| !argument.starts_with('-') || argument == "-" || N > 0 && argument.parse::<f64>().is_ok();
         let mut rest = arguments.iter().map(String::as_str);
         while let Some(argument) = rest.next() {
-            if argument == "-" || !argument.starts_with('-') {
-                if file.replace(argument).is_some() {
-                    return Err(Failure::of_arguments(format!("one FILE is read, `{argument}` is one more")));
-                }
+            if is_word(argument) {
+                words.push(argument);
                 continue;
             }
             let (name, value) = argument.split_once('=').map_or((argument, None), |(name, value)| (name, Some(value)));
@@ -73,8 +81,17 @@ impl<'a> Arguments<'a> {
             }
             options.push((name, value));
         }
-        let file = file.ok_or_else(|| Failure::of_arguments("a FILE is needed (`-` is standard input)"))?;
-        Ok(Self { file, options })
+        let Some((file, rest)) = words.split_first() else {
+            return Err(Failure::of_arguments("a FILE is needed (`-` is standard input)"));
+        };
+        match rest.try_into() {
+            Ok(words) => Ok((Self { file, options }, words)),
+            Err(_) => Err(Failure::of_arguments(match rest.get(N) {
+                Some(more) if N == 0 => format!("one FILE is read, `{more}` is one more"),
+                Some(more) => format!("after FILE come {}; `{more}` is one more", names.join(", ")),
+                None => format!("{} is needed", names[rest.len()]),
+            })),
+        }
     }
 
     /// An option's value, if it is given.
@@ -97,6 +114,15 @@ impl<'a> Arguments<'a> {
             file => fs::read(file),
         };
         read.map_err(|error| Failure::of_arguments(format!("cannot read {}: {error}", self.file_name())))
+    }
+
+    /// The road of the job text that FILE is.
+    pub fn road(&self) -> Result<Box<Road>, Failure> {
+        let (job, mut road) = (self.read()?, Box::new(Road::new()));
+        match road.read(&job) {
+            Ok(()) => Ok(road),
+            Err(refusal) => Err(Failure::of_refusal(self.file_name(), self.file, &job, refusal)),
+        }
     }
 
     /// FILE as messages name it.

@@ -3,6 +3,7 @@
 //! Every point, border, height and angle in it is an answer of the library. What lies in the road as data (kinds, starts, counts)
 //! is read from its memory.
 mod across;
+mod dotted;
 mod graph;
 mod ground;
 mod jumps;
@@ -31,11 +32,13 @@ use std::path::Path;
 use std::process::ExitCode;
 
 use crate::arguments::{self, Arguments, Failure};
+use crate::dots::Dotting;
+use dotted::Dotted;
 use progress::Progress;
 use subject::Subject;
 
 pub const HELP: &str = "\
-desk draw JOB [--at S] [--out FILE]
+desk draw JOB [--at S] [--dots SECTION,LANE,SPACING] [--out FILE]
 
 Draws the road of a job text as a picture (SVG, A4 or A3 landscape), to standard output or to FILE. JOB
 `-` is standard input.
@@ -46,14 +49,15 @@ Draws the road of a job text as a picture (SVG, A4 or A3 landscape), to standard
 - Elevation and bank of the reference line along s.
 - The cross section at S: that of --at, else of the first want on the road, else the middle of the road;
   the marks that cover their lane there stand on its outer border.
+- With --dots the dots of a lane, those that `desk dots` writes, as spots on the plan.
 - The wants, with their points or the numbers of their refusals, and the jumps of the reference line:
   over 1 mm away, up or down, 0.05 degrees of heading or 0.1 of bank; and where s runs over 1 mm past a
   geometry's length, or ends before it. What jumps is drawn as a step or a gap, never as a slope.
 
 Every point, border, height and angle is the library's answer. The plan's are those of the same road
 moved to the origin, since points are f32 numbers, which far from it are centimetres apart; the wants'
-are those of the road as it is. Status 0; 1 for a refused job; 2 for wrong arguments or a file that
-cannot be read.
+and the stations of dots are those of the road as it is. Status 0; 1 for a refused job; 2 for wrong
+arguments or a file that cannot be read.
 ";
 
 /// Draws the job and answers the exit status.
@@ -62,13 +66,21 @@ pub fn run(arguments: &[String]) -> ExitCode {
 }
 
 fn draw(arguments: &[String]) -> Result<(), Failure> {
-    let arguments = Arguments::of(arguments, &["--at", "--out"])?;
+    let arguments = Arguments::of(arguments, &["--at", "--dots", "--out"])?;
     let at: Option<f64> = arguments.parsed("--at", "a number")?;
-    let picture = drawn(arguments.file, &arguments.read()?, at, Progress::new())?;
+    let dots = arguments.value("--dots").map(dotting).transpose()?;
+    let picture = drawn(arguments.file, &arguments.read()?, (at, dots), Progress::new())?;
     match arguments.value("--out") {
         Some(path) => write_file(path, arguments.file, &picture),
         None => arguments::write(&picture),
     }
+}
+
+/// SECTION,LANE,SPACING.
+fn dotting(value: &str) -> Result<Dotting, Failure> {
+    let words: Vec<&str> = value.split(',').collect();
+    let wrong = || Failure::of_arguments(format!("`--dots` needs SECTION,LANE,SPACING, not `{value}`"));
+    Dotting::of(words.try_into().map_err(|_| wrong())?)
 }
 
 /// The picture never takes the job's place.
@@ -83,17 +95,18 @@ fn write_file(path: &str, job: &str, picture: &str) -> Result<(), Failure> {
 
 /// The picture of a job text that was read from that file, cut across there or at the usual place.
 pub fn picture(file: &str, text: &[u8], at: Option<f64>) -> Result<String, Failure> {
-    drawn(file, text, at, Progress::silent())
+    drawn(file, text, (at, None), Progress::silent())
 }
 
-fn drawn(file: &str, text: &[u8], at: Option<f64>, mut progress: Progress) -> Result<String, Failure> {
+fn drawn(file: &str, text: &[u8], (at, dots): (Option<f64>, Option<Dotting>), mut progress: Progress) -> Result<String, Failure> {
     let name = shown_name(file);
     let subject = Subject::read(&name, text).map_err(|refusal| Failure::of_refusal(&name, file, text, refusal))?;
     let at = at.unwrap_or_else(|| picture::default_at(&subject.wants(), subject.length()));
     if !(0.0..=subject.length()).contains(&at) {
         return Err(Failure::of_arguments(format!("`--at` {at} is off the road: s is 0 to {}", subject.length())));
     }
-    Ok(picture::draw(&subject, at, &mut progress))
+    let dotted = dots.map(|asked| Dotted::of(&subject, asked)).transpose()?;
+    Ok(picture::draw(&subject, at, dotted.as_ref(), &mut progress))
 }
 
 /// The file's name without its folders.

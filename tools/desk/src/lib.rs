@@ -3,6 +3,7 @@
 pub mod arguments;
 pub mod check;
 pub mod decimal;
+pub mod dots;
 pub mod draw;
 pub mod grid;
 pub mod joints;

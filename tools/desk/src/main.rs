@@ -1,5 +1,5 @@
-// desk: a job explained, drawn, in decimals, as points. `desk help` lists the subcommands.
-use desk::{arguments, check, decimal, draw, points};
+// desk: a job explained, drawn, in decimals, as points and dots. `desk help` lists the subcommands.
+use desk::{arguments, check, decimal, dots, draw, points};
 use std::process::ExitCode;
 
 struct Subcommand {
@@ -10,7 +10,7 @@ struct Subcommand {
     run: fn(&[String]) -> ExitCode,
 }
 
-const SUBCOMMANDS: [Subcommand; 5] = [
+const SUBCOMMANDS: [Subcommand; 6] = [
     Subcommand {
         name: "check",
         usage: "JOB",
@@ -20,7 +20,7 @@ const SUBCOMMANDS: [Subcommand; 5] = [
     },
     Subcommand {
         name: "draw",
-        usage: "JOB [--at S] [--out FILE]",
+        usage: "JOB [--at S] [--dots SECTION,LANE,SPACING] [--out FILE]",
         what: "the road as a picture (SVG): plan, elevation and bank, the cross section at S",
         help: draw::HELP,
         run: draw::run,
@@ -45,6 +45,13 @@ const SUBCOMMANDS: [Subcommand; 5] = [
         what: "surface points along a lane's border, as CSV",
         help: points::HELP,
         run: points::run,
+    },
+    Subcommand {
+        name: "dots",
+        usage: "JOB SECTION LANE SPACING",
+        what: "dots at equal spacing along a lane's outer border where marks of kind 1 cover it, as CSV",
+        help: dots::HELP,
+        run: dots::run,
     },
 ];
 

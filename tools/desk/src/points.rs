@@ -32,7 +32,7 @@ error. A long run says there how far it is, if that is a terminal and the CSV go
 /// The most points.
 const MOST: f64 = 10_000_000.0;
 /// Metres: stations nearer to the end are left out for it. The rounding of s is far below.
-const NEAR: f64 = 1e-9;
+pub const NEAR: f64 = 1e-9;
 
 pub fn run(arguments: &[String]) -> ExitCode {
     arguments::run("points", HELP, arguments, points)
@@ -43,7 +43,7 @@ fn points(arguments: &[String]) -> Result<(), Failure> {
     // What is wrong whatever the road is, is told before the job is read.
     let (every, lane) = (every(&arguments)?, lane(&arguments)?);
     let border = Border::of(&arguments)?;
-    let road = road(&arguments)?;
+    let road = arguments.road()?;
     has_lane(road.lent(), lane)?;
     let line = Line { road: &road, lane, border };
     line.write(&Stations::of(&arguments, every, road.length())?)
@@ -76,7 +76,7 @@ fn lane(arguments: &Arguments) -> Result<i32, Failure> {
 }
 
 #[derive(Clone, Copy)]
-enum Border {
+pub enum Border {
     Inner,
     Outer,
     Middle,
@@ -102,14 +102,6 @@ impl Border {
 }
 
 // ---- the road
-
-fn road(arguments: &Arguments) -> Result<Box<Road>, Failure> {
-    let (job, mut road) = (arguments.read()?, Box::new(Road::new()));
-    match road.read(&job) {
-        Ok(()) => Ok(road),
-        Err(refusal) => Err(Failure::of_refusal(arguments.file_name(), arguments.file, &job, refusal)),
-    }
-}
 
 /// Whether a section of the road has the lane, by how many each has on the left and on the right.
 fn has_lane(road: Lent, lane: i32) -> Result<(), Failure> {
@@ -163,10 +155,28 @@ impl Stations {
 // ---- points
 
 /// A border of a lane, along the road.
-struct Line<'a> {
-    road: &'a Road,
-    lane: i32,
-    border: Border,
+pub struct Line<'a> {
+    pub road: &'a Road,
+    pub lane: i32,
+    pub border: Border,
+}
+
+/// A point of it.
+pub struct Placed {
+    pub t: f64,
+    pub point: SurfacePoint,
+}
+
+/// The names of a point's cells.
+pub const NAMES: &str = "s,t,x,y,z,heading";
+
+impl Placed {
+    /// x, y and z as f64, so that whoever reads f64 numbers has the same.
+    pub fn cells(&self, s: f64) -> String {
+        let (t, SurfacePoint { x, y, z, heading }) = (self.t, self.point);
+        let [x, y, z] = [x, y, z].map(f64::from);
+        format!("{s:?},{t:?},{x:?},{y:?},{z:?},{heading:?}")
+    }
 }
 
 impl Line<'_> {
@@ -174,15 +184,13 @@ impl Line<'_> {
         let mut out = BufWriter::with_capacity(1 << 16, io::stdout().lock());
         let (mut progress, mut left_out, mut count) = (Progress::new(), LeftOut::default(), 0);
         let mut farthest = Farthest::default();
-        writeln!(out, "s,t,x,y,z,heading")?;
+        writeln!(out, "{NAMES}")?;
         for s in stations.each() {
             count += 1;
             match self.point(s)? {
-                Some((t, point)) => {
-                    // As f64, so that whoever reads f64 numbers has the same.
-                    let [x, y, z] = [point.x, point.y, point.z].map(f64::from);
-                    writeln!(out, "{s:?},{t:?},{x:?},{y:?},{z:?},{:?}", point.heading)?;
-                    farthest.add(x, y);
+                Some(placed) => {
+                    writeln!(out, "{}", placed.cells(s))?;
+                    farthest.add(placed.point.x.into(), placed.point.y.into());
                 }
                 None => left_out.add(count, s),
             }
@@ -197,13 +205,13 @@ impl Line<'_> {
         Ok(())
     }
 
-    /// t and the point of a station, if its section has the lane.
-    fn point(&self, s: f64) -> Result<Option<(f64, SurfacePoint)>, Failure> {
+    /// The point of a station, if its section has the lane.
+    pub fn point(&self, s: f64) -> Result<Option<Placed>, Failure> {
         let refused = |refusal| Failure::of_content(format!("at s = {s:?}: {refusal}"));
         let borders = self.road.borders(s).map_err(refused)?;
         let Some(border) = borders.iter().find(|border| border.id == self.lane) else { return Ok(None) };
         let t = self.border.t(border);
-        Ok(Some((t, self.road.lane_surface(self.lane, s, t).map_err(refused)?)))
+        Ok(Some(Placed { t, point: self.road.lane_surface(self.lane, s, t).map_err(refused)? }))
     }
 }
 

@@ -388,6 +388,38 @@ fn failed(arguments: &[&str], input: &[u8]) -> (i32, String) {
 }
 
 #[test]
+fn dots_are_spots_where_they_are_asked_for() {
+    let drawn = |dots: &str| {
+        let output = desk(&["-", "--dots", dots], &sample("marks.job"));
+        assert_eq!((output.status.code(), output.stderr.as_slice()), (Some(0), &b""[..]));
+        let svg = String::from_utf8(output.stdout).unwrap();
+        well_formed(&svg);
+        svg
+    };
+    // lane 1 is marked by kind 1 from 0 to 20 and from 40 to 60; its border lies at 3.5
+    let svg = drawn("0,1,5");
+    assert!(svg.contains(">8 dots every 5 m: section 0, lane 1<"));
+    let (x0, x100, y0) = level_stroke(&strokes(&svg, "ref line")[0]);
+    let metre = (x100 - x0) / 100.0;
+    let spots = strokes(&svg, "spot");
+    let placed = |spot: &str| {
+        let (x, y) = spot.split_once(',').unwrap();
+        [x.parse::<f64>().unwrap() - x0, y0 - y.parse::<f64>().unwrap()].map(|m| (m / metre * 10.0).round() / 10.0)
+    };
+    // the plan's, then the legend's
+    assert_eq!(spots.len(), 2);
+    let places: Vec<[f64; 2]> = spots[0].trim_end_matches("h0").split("h0").map(|spot| placed(&spot[1..])).collect();
+    assert_eq!(places, [0.0, 5.0, 10.0, 15.0, 40.0, 45.0, 50.0, 55.0].map(|s| [s, 3.5]));
+    // kind 2 is not dotted
+    assert!(drawn("1,-1,0.5").contains(">0 dots every 0.5 m: section 1, lane -1<"));
+    assert_eq!(strokes(&drawn("1,-1,0.5"), "spot").len(), 1);
+    // spots that would cover each other are one
+    assert!(drawn("1,1,0.1").contains(">400 dots every 0.1 m: section 1, lane 1<"));
+    assert!(strokes(&drawn("1,1,0.1"), "spot")[0].matches('M').count() < 250);
+    assert!(!picture("j", &sample("marks.job"), None).unwrap().contains("spot"));
+}
+
+#[test]
 fn standard_input_is_drawn_quietly() {
     let output = desk(&["-"], &sample("m1.job"));
     assert_eq!((output.status.code(), output.stderr.as_slice()), (Some(0), &b""[..]));
@@ -417,6 +449,11 @@ fn bad_arguments_have_status_2() {
         (&["-", "--at", "10.5"], "10.5"),
         (&["-", "--at=-1"], "-1"),
         (&["-", "--at"], "--at"),
+        (&["-", "--dots", "0,1"], "SECTION,LANE,SPACING"),
+        (&["-", "--dots", "0,1,1,1"], "SECTION,LANE,SPACING"),
+        (&["-", "--dots", "0,x,1"], "`x`"),
+        (&["-", "--dots=1,1,1"], "no section 1: 0 is the only one (refusal 10)"),
+        (&["-", "--dots=0,1,1"], "no lane 1"),
         (&["no/such.job"], "no/such.job"),
         (&[], "FILE"),
         (&["-", "--out", "no/such/folder.svg"], "no/such/folder.svg"),

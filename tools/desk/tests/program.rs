@@ -12,7 +12,7 @@ fn desk(arguments: &str) -> (i32, String, String) {
 fn every_subcommand_has_its_help() {
     let (status, whole, _) = desk("help");
     assert!(status == 0 && whole == desk("--help").1 && whole == desk("-h").1);
-    for name in ["check", "draw", "decimal", "hex", "points"] {
+    for name in ["check", "draw", "decimal", "hex", "points", "dots"] {
         let (status, help, err) = desk(&format!("help {name}"));
         assert_eq!((status, err.as_str()), (0, ""));
         assert!(help.starts_with(&format!("desk {name} ")) && help == desk(&format!("{name} --help")).1);

@@ -1,5 +1,6 @@
 //! The whole picture: what stands where on the paper.
 use super::across::Across;
+use super::dotted::Dotted;
 use super::ground::kind;
 use super::jumps;
 use super::plan::Scene;
@@ -8,7 +9,7 @@ use super::profile;
 use super::progress::Progress;
 use super::sampled::sample;
 use super::scale::short;
-use super::style::{HEIGHT, PAINT_STYLE, STYLE, WIDTH};
+use super::style::{HEIGHT, PAINT_STYLE, SPOT_STYLE, STYLE, WIDTH};
 use super::subject::{Subject, Want};
 use super::svg::{Anchor, Svg};
 use super::table::Column;
@@ -49,18 +50,23 @@ pub fn summary(subject: &Subject) -> String {
 }
 
 /// The picture of the road, cut across at `at`.
-pub fn draw(subject: &Subject, at: f64, progress: &mut Progress) -> String {
+pub fn draw(subject: &Subject, at: f64, dotted: Option<&Dotted>, progress: &mut Progress) -> String {
     let wants = subject.wants();
     let sampled = sample(subject, 0.0, subject.length(), progress);
     let jumps = jumps::of(subject, &sampled);
-    let style = if subject.paint.is_none() { STYLE.into() } else { format!("{STYLE}{PAINT_STYLE}") };
+    let (paint, spot) = (!subject.paint.is_none(), dotted.is_some());
+    let style =
+        [(true, STYLE), (paint, PAINT_STYLE), (spot, SPOT_STYLE)].map(|(has, style)| if has { style } else { "" }).concat();
     let mut svg = Svg::new(WIDTH, HEIGHT, &format!("{}: {}", subject.name, summary(subject)), &style);
     title(&mut svg, subject);
-    let scene = Scene { subject, wants: &wants, jumps: &jumps, at };
+    let scene = Scene { subject, wants: &wants, jumps: &jumps, dotted, at };
     let view = scene.plan(&mut svg, PLAN, &sampled);
     let mut column = Column { svg: &mut svg, panel: COLUMN, down: 0.0 };
     column.legend();
     column.paint(&subject.paint);
+    if let Some(dotted) = dotted {
+        column.dots(dotted);
+    }
     column.wants(&wants, if subject.length() < 1.0 { 5 } else { 3 });
     column.notes(&jumps, sampled.coarse, &subject.paint);
     profile::draw(&mut svg, PROFILE, subject, &sampled, at);

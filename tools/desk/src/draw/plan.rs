@@ -1,4 +1,5 @@
 //! The panels of the plan: the whole road, and the road around the cross section where the whole is too small for its lanes.
+use super::dotted::Dotted;
 use super::ground::Ground;
 use super::jumps::Jump;
 use super::labels::Labels;
@@ -26,6 +27,7 @@ pub struct Scene<'a> {
     pub subject: &'a Subject,
     pub wants: &'a [Want],
     pub jumps: &'a [Jump],
+    pub dotted: Option<&'a Dotted>,
     pub at: f64,
 }
 
@@ -69,6 +71,9 @@ impl Scene<'_> {
         let ground = Ground { subject: self.subject, sampled, view };
         svg.clipped(frame);
         ground.draw(svg, self.jumps);
+        if let Some(dotted) = self.dotted {
+            ground.dots(svg, dotted);
+        }
         Names { ground: &ground, labels: Labels::new(frame.inside(2.0)), at_name }.draw(svg, self.at, self.wants);
         svg.close();
         svg.rect("frame", frame);

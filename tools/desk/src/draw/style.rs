@@ -35,6 +35,10 @@ pub const PAINT_STYLE: &str = "\
 .p6{stroke:#37474f}\
 .p7{stroke:#8e24aa}";
 
+/// The width of a dot, and its look, which only a picture with dots has.
+pub const SPOT: f64 = 2.6;
+pub const SPOT_STYLE: &str = ".spot{stroke:#111;stroke-width:2.6;stroke-linecap:round}";
+
 pub const STYLE: &str = "\
 @page{size:landscape;margin:8mm}\
 text{font-family:sans-serif;font-size:11px;fill:#222}\

@@ -5,6 +5,8 @@ use second::model;
 
 use super::paint::Paint;
 use super::plane::{Point, Rect};
+use crate::arguments::Failure;
+use crate::dots::{Dotting, Extent};
 use crate::joints::{self, Joint};
 
 /// A record is in use from this much before its start.
@@ -112,6 +114,11 @@ impl Subject {
 
     pub fn geometry(&self, s: f64) -> usize {
         in_use(self.model.geoms.iter().map(|g| g.s), s)
+    }
+
+    /// The dots of a lane, on the road as it is, and its section's extent.
+    pub fn dots(&self, asked: Dotting) -> Result<(Vec<f64>, Extent), Failure> {
+        Ok((asked.dots(&self.asked)?, Extent::of(&self.asked, asked.section)))
     }
 
     /// The odd joints of geometries, x and y from the picture's origin.

@@ -1,4 +1,5 @@
 //! The column beside the plan: legend, wants, and what else is worth knowing.
+use super::dotted::Dotted;
 use super::jumps::Jump;
 use super::paint::Paint;
 use super::plane::{Point, Rect};
@@ -83,6 +84,14 @@ impl Column<'_> {
             }
         }
         self.down += if paint.is_none() { 0.0 } else { 8.0 };
+    }
+
+    /// The dots that were asked for, below the colours of paint.
+    pub fn dots(&mut self, dotted: &Dotted) {
+        let at = self.row();
+        self.svg.dots("spot", &[0.0, 0.5, 1.0].map(|part| at.moved(SAMPLE * part, -4.0)));
+        self.svg.words("label", Anchor::Start, at.moved(WORDS, 0.0), &dotted.words());
+        self.down += 8.0;
     }
 
     /// The place of an entry of the legend: two columns of six.
