@@ -1,6 +1,6 @@
 #!/usr/bin/env bash
-# How often a call of each case of tools/bench/src/surface.rs calls the functions whose names end in FUNCTION, by valgrind, which sees those
-# that the compiler left as functions: `sin_cos`, the sine pair, is one on both sides.
+# How often a call of each case of tools/bench/src/surface.rs and dots.rs calls the functions whose names end in FUNCTION, by valgrind,
+# which sees those that the compiler left as functions: `sin_cos`, the sine pair, is one on both sides.
 # Run after tools/bench/run.sh, which builds the program.
 #
 #     tools/bench/calls.sh FUNCTION [CASE ..]
@@ -30,10 +30,11 @@ mapfile -t names < <("$bench" 0 0 0)
 echo '| What | ours | Rust with stand-ins |'
 echo '|---|---|---|'
 for case in ${@:-${!names[@]}}; do
+  read -r made what <<< "${names[case]}"
   a=()
   for side in 0 2; do
-    more=$((($(calls "$case" $side 3) - $(calls "$case" $side 1)) * 100 / 512))
+    more=$((($(calls "$case" $side 3) - $(calls "$case" $side 1)) * 100 / (2 * made)))
     a+=("$((more / 100)).$(printf '%02d' $((more % 100)))")
   done
-  echo "| ${names[case]} | ${a[0]} | ${a[1]} |"
+  echo "| $what | ${a[0]} | ${a[1]} |"
 done

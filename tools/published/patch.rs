@@ -89,8 +89,8 @@ const ROAD: &[Change] = &[
     change("            (s, t) = (next, t + dt);", 1, "            (s, t) = (next, t + dt); crate::stand_ins::count_move();"),
 ];
 
-// 02, Point 1: the f32 root is the f32 nearest the exact root, and "the Rust side uses it too". Nothing that road.rs calls takes a
-// root here, so one copy serves both files.
+// 02, Point 1: the f32 root is the f32 nearest the exact root, and "the Rust side uses it too". Of road.rs only `along` and
+// `station_at` take a root here, which Point 4 asks for with that one, so one copy serves both files.
 const COORDS: &[Change] =
     &[change("        self.length_squared().sqrt()", 1, "        crate::stand_ins::root32(self.length_squared())")];
 

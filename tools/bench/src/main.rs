@@ -16,7 +16,9 @@ use second::reader;
 use second::texts;
 use std::hint::black_box;
 
+mod dots;
 mod lanes;
+mod sides;
 mod surface;
 mod tracks;
 
@@ -127,17 +129,27 @@ fn poses(what: &str, shape: Shape, length: f64, stations: &[f64]) {
     row(what, times);
 }
 
-/// Without words all tables; with `surface` or `tracks` that of the surface layer or of tracks; with three numbers one side of one case
-/// of the surface layer, for counts.sh.
+/// Without words all tables; with `surface`, `dots` or `tracks` that of the surface layer, of dots or of tracks; with three numbers one
+/// side of one case of the surface layer or of dots, for counts.sh.
 fn main() {
     let words: Vec<String> = std::env::args().skip(1).collect();
     let number = |i: usize| words[i].parse().expect("a whole number");
     match words.len() {
         0 => tables(),
-        3 => surface::one(number(0), number(1), number(2)),
+        3 => one(number(0), number(1), number(2)),
         _ if words[0] == "tracks" => tracks::tracks(),
+        _ if words[0] == "dots" => dots::dots(),
         _ => surface::surface(),
     }
+}
+
+fn one(case: usize, side: usize, times: usize) {
+    let mut cases = surface::cases();
+    // these take a while to make
+    if times == 0 || case >= cases.len() {
+        cases.extend(dots::cases());
+    }
+    sides::one(&cases, case, side, times);
 }
 
 fn tables() {
@@ -192,6 +204,7 @@ fn tables() {
 
     lanes::lanes(&stations);
     surface::surface();
+    dots::dots();
     tracks::tracks();
 
     println!(

@@ -1,7 +1,7 @@
 // Station, axes, surface, lane surface and locate: each call whole, the check of its road and arguments, and the call less that
 // check; against the Rust with document 01's stand-ins, and against the Rust with its own library functions.
 use crate::lanes::twelve_lanes;
-use crate::{ROUNDS, lay, median, one_geometry, time};
+use crate::{lay, one_geometry, sides};
 use archive::riftkettle as ours;
 use published::oracle::Oracle;
 use published::own::oracle::Oracle as Own;
@@ -95,10 +95,19 @@ macro_rules! rust {
 rust!(with_stand_ins, Oracle);
 rust!(with_its_own, Own);
 
-/// What is measured of a case: the call, its checks, the Rust with the stand-ins, the Rust with its own functions.
-const SIDES: usize = 4;
+impl sides::Case for Case {
+    fn what(&self) -> &str {
+        &self.what
+    }
 
-impl Case {
+    fn calls(&self) -> usize {
+        self.asked.len()
+    }
+
+    fn runs(&self) -> usize {
+        6
+    }
+
     fn run(&self, side: usize) {
         let refused = self.call.refused();
         for &asked in black_box(&self.asked) {
@@ -109,21 +118,6 @@ impl Case {
                 _ => with_its_own(black_box(&self.own), self.call, asked),
             }
         }
-    }
-
-    /// The sides in turn within each round.
-    fn rows(&self) {
-        let round = |_| -> [f64; SIDES] { std::array::from_fn(|side| time(&mut || self.run(side), self.asked.len(), 6)) };
-        let rounds: Vec<[f64; SIDES]> = (0..ROUNDS).map(round).collect();
-        let of = |f: fn(&[f64; SIDES]) -> f64| median(rounds.iter().map(f).collect());
-        let (theirs, own) = (of(|r| r[2]), of(|r| r[3]));
-        let row = |what: &str, ns: f64, ratio: f64, own_ratio: f64| {
-            println!("| {what} | {ns:.1} | {theirs:.1} | {ratio:.2} | {own:.1} | {own_ratio:.2} |");
-        };
-        row(&format!("{}, the call whole", self.what), of(|r| r[0]), of(|r| r[0] / r[2]), of(|r| r[0] / r[3]));
-        println!("| the check of that road and place | {:.1} | | | | |", of(|r| r[1]));
-        let less = format!("{}: the call less the check", self.what);
-        row(&less, of(|r| r[0] - r[1]), of(|r| (r[0] - r[1]) / r[2]), of(|r| (r[0] - r[1]) / r[3]));
     }
 }
 
@@ -155,7 +149,7 @@ fn bare_lanes() -> Road {
 }
 
 /// Every table: the same lanes, one of them level, on a line, an arc and a spiral, with a cross section of four strips.
-fn every_table() -> Road {
+pub fn every_table() -> Road {
     let mut road = raised();
     let geom = |s, x, y, hdg, length, shape| Geom { s, x, y, hdg, length, shape };
     road.geoms = vec![
@@ -171,7 +165,7 @@ fn every_table() -> Road {
     road
 }
 
-fn cases() -> Vec<Case> {
+pub fn cases() -> Vec<Box<dyn sides::Case>> {
     let mut rng = Rng::new(2, "bench of the surface");
     let shape = |shape| one_geometry(shape, 400.0);
     let (line, arc, spiral) = (shape(Shape::Line), shape(Shape::Arc(0.004)), shape(Shape::Spiral(0.0, 0.004)));
@@ -199,22 +193,10 @@ fn cases() -> Vec<Case> {
         ("lane surface on 12 lanes, nothing raised", Call::LaneSurface, &bare),
         ("locate on 12 lanes, nothing raised", Call::Locate, &bare),
     ]
-    .map(|(what, call, road)| Case::new(what, call, road, &mut rng))
+    .map(|(what, call, road)| -> Box<dyn sides::Case> { Box::new(Case::new(what, call, road, &mut rng)) })
     .into()
 }
 
 pub fn surface() {
-    println!(
-        "\n| What | ours, ns | Rust with stand-ins, ns | ratio | Rust with its own functions, ns | ratio |\n|---|---|---|---|---|---|"
-    );
-    cases().iter().for_each(Case::rows);
-}
-
-/// One side of one case, its 256 calls made a number of times, for a tool that counts instructions. None: the names of all cases.
-pub fn one(case: usize, side: usize, times: usize) {
-    let all = cases();
-    match times {
-        0 => all.iter().for_each(|c| println!("{}", c.what)),
-        _ => (0..times).for_each(|_| all[case].run(side)),
-    }
+    sides::table(&cases());
 }

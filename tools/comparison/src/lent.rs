@@ -35,7 +35,20 @@ fn any_road(rng: &mut Rng) -> (Road, Memory) {
 
 impl Lent {
     pub fn new(rng: &mut Rng) -> Self {
-        let (road, m) = any_road(rng);
+        let drawn = any_road(rng);
+        Self::of(rng, drawn)
+    }
+
+    /// A road to dot, with lanes.
+    pub fn dotted(rng: &mut Rng) -> Self {
+        let mut drawn = generate::dotted(rng);
+        while drawn.0.lanes().next().is_none() {
+            drawn = generate::dotted(rng);
+        }
+        Self::of(rng, drawn)
+    }
+
+    pub fn of(rng: &mut Rng, (road, m): (Road, Memory)) -> Self {
         let oracle = Oracle::new(&road);
         let mut samples = oracle.samples();
         let needed = samples.len();
@@ -44,18 +57,18 @@ impl Lent {
     }
 
     /// With samples that were not made from the road: to be asked within `by_count`.
-    pub fn foreign(rng: &mut Rng) -> Self {
-        let mut new = Self::new(rng);
+    pub fn foreign(rng: &mut Rng, draw: fn(&mut Rng) -> Self) -> Self {
+        let mut new = draw(rng);
         while new.needed == 0 {
-            new = Self::new(rng);
+            new = draw(rng);
         }
         make_foreign(rng, &mut new.samples[..new.needed]);
         Self { oracle: Oracle::with_samples(&new.road, &new.samples), own: false, ..new }
     }
 
     /// A road near a limit, perhaps refused. Its oracle is of the road before.
-    pub fn near_limit(rng: &mut Rng) -> Self {
-        let new = Self::new(rng);
+    pub fn near_limit(rng: &mut Rng, draw: fn(&mut Rng) -> Self) -> Self {
+        let new = draw(rng);
         let (m, _) = limits::around_a_limit(rng, &new.m);
         let number = admission::admit(&m.words, &m.numbers);
         Self { m, refused: (number != 0).then_some(number), ..new }

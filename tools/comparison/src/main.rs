@@ -5,6 +5,7 @@
 // Each comparison below is a function for one random input; a new one is such a function and a line in COMPARISONS. The last line
 // says how many results were compared and how many differ. A seed gives the same run everywhere.
 mod demands;
+mod dots;
 mod lanes;
 mod lent;
 mod locates;
@@ -74,6 +75,10 @@ const COMPARISONS: &[Comparison] = &[
     ("track pose", 3_000, 300_000, tracks::pose),
     ("track project", 3_000, 300_000, tracks::project),
     ("tracks refused", 6_000, 240_000, tracks::refusals),
+    ("dots placed", 1_000, 24_000, dots::placed),
+    ("dots many", 32, 2_000, dots::many),
+    ("dots foreign", 60, 3_000, dots::foreign),
+    ("dots refused", 600, 20_000, dots::refused),
 ];
 
 // ---- arithmetic

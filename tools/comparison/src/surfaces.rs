@@ -161,7 +161,7 @@ fn some_t(rng: &mut Rng) -> f64 {
 
 /// All five calls on samples that were not made from the road: the answers follow what the slice holds.
 pub fn foreign(rng: &mut Rng, tally: &mut Tally) {
-    let on = Lent::foreign(rng);
+    let on = Lent::foreign(rng, Lent::new);
     let before = on.copies();
     stand_ins::by_count(|| {
         for s in on.stations(rng, 8) {
@@ -179,7 +179,7 @@ pub fn foreign(rng: &mut Rng, tally: &mut Tally) {
 
 /// On a refused road every call answers the road's number in place of any later one.
 pub fn refused(rng: &mut Rng, tally: &mut Tally) {
-    let on = Lent::near_limit(rng);
+    let on = Lent::near_limit(rng, Lent::new);
     let before = on.copies();
     if on.refused.is_some() {
         on.station_rows(rng, tally);

@@ -1,11 +1,13 @@
 // Tests of the comparison's own parts, without the library: the stand-ins against the standard library within a tolerance, the
 // layout there and back, the generators, the second admission on document 01's own examples, and tracks on worked inputs.
+use published::dots::DottedLine;
 use published::oracle::{Oracle, Records};
 use published::second_program::output;
 use published::stand_ins;
 use published::tracks::Track;
 use second::admission::{admit, spiral_samples};
 use second::arguments::{exact_counts, exact_root};
+use second::dots::{self, Asked, Known};
 use second::exact::{Squares, between, equal, ordered, outward, placed, sized};
 use second::generate;
 use second::model::*;
@@ -461,5 +463,162 @@ fn made_tracks() {
     for ((name, _), n) in features.iter().zip(with) {
         println!("    {name:<20} {n}");
         assert!(n >= 20, "too few tracks with: {name}");
+    }
+}
+
+// ---- dots
+
+/// The dots of a known road, the same by the Rust and by the second text, or the row; with so much room.
+fn known_dots(known: &Known, spacing: f32, room: usize) -> Result<Vec<f64>, u32> {
+    let m = known.road.lay(&mut Rng::new(1, "known dots"), Style::default()).expect("it fits");
+    assert_eq!(admit(&m.words, &m.numbers), 0);
+    let line = DottedLine::new(&Oracle::new(&known.road), known.section, known.id, &known.stations);
+    let asked = Asked { section: known.section, id: known.id, spacing, stations: &known.stations, room };
+    let answer = dots::dots(&known.road, &asked, || line.numbers());
+    if answer != Err(10) && answer != Err(15) {
+        let place = dots::place(&known.road, known.section, known.id).expect("a lane");
+        let theirs = line.dots(&known.road.sections[known.section], place, spacing).filter(|dots| dots.len() <= room);
+        assert_eq!(answer, theirs.ok_or(17));
+    }
+    answer
+}
+
+/// Dots that are known: at the last station the lane is the given section's; the fraction is f32's; a station that lies below the one
+/// before it; the most multiples there may be; spans from start to just below end, of kind 1; no width; points all alike.
+#[test]
+fn worked_dots() {
+    let known = dots::known();
+    let found = |i: usize, spacing| known_dots(&known[i], spacing, 600);
+    // f32 has no fraction like 1/10: stations lie within a micrometre of the steps
+    let steps = |dots: Result<Vec<f64>, u32>, from: f64, by: f64| {
+        let dots = dots.expect("dots");
+        assert!(dots.iter().enumerate().all(|(k, s)| (s - (from + by * k as f64)).abs() < 1e-6), "{dots:?}");
+        dots.len()
+    };
+    assert_eq!((steps(found(0, 0.5), 0.0, 0.5), found(0, 5.0)), (10, Ok(vec![0.0])));
+    assert_eq!(steps(found(1, 0.5), 5.0, 0.5), 10);
+    assert_eq!(found(2, 0.5).expect("dots")[..2], [2.0, 2.500000014901161]);
+    let fallen = found(3, 8999.0 / 128.0).expect("dots");
+    assert!((fallen[128], fallen[129]) == (9000.0 + 2f64.powi(-38), 9000.0 + 2f64.powi(-39)) && fallen[128] > fallen[129]);
+    assert_eq!(known_dots(&known[4], 0.125, 65_536).map(|dots| dots.len()), Ok(65_536));
+    assert_eq!([known_dots(&known[4], 0.125, 65_535), known_dots(&known[5], 0.125, 70_000)], [Err(17), Err(17)]);
+    let spans = found(6, 0.5).expect("dots");
+    assert_eq!((steps(Ok(spans[..4].to_vec()), 1.0, 0.5), steps(Ok(spans[4..].to_vec()), 6.0, 0.5)), (4, 8));
+    assert_eq!((steps(found(7, 1.0), 0.0, 1.0), found(7, 8.0f32.next_up())), (9, Ok(vec![0.0])));
+    assert_eq!((steps(found(8, 1.0), 0.0, 1.0), found(9, 1.0), found(10, 1.0)), (20, Ok(vec![4.0]), Ok(vec![])));
+    assert_eq!((known_dots(&known[7], 1.0, 9).map(|dots| dots.len()), known_dots(&known[7], 1.0, 8)), (Ok(9), Err(17)));
+    for wrong in dots::WRONG.map(f32::from_bits) {
+        assert_eq!(known_dots(&known[7], wrong, 0), Err(15));
+    }
+    let limits = [dots::LEAST, dots::MOST];
+    assert!(limits == [0.1, 100.0] && limits.into_iter().all(|spacing| found(7, spacing).is_ok()));
+}
+
+/// Rows 10, 15, 16 and 17 in their order, and the lists that row 16 takes.
+#[test]
+fn rows_of_dots() {
+    let known = dots::known();
+    let row = |section, id, spacing, stations: &[f64], room| {
+        let asked = Asked { section, id, spacing, stations, room };
+        let points = || DottedLine::new(&Oracle::new(&known[0].road), section, id, stations).numbers();
+        dots::dots(&known[0].road, &asked, points).err()
+    };
+    let (nan, none) = (f32::NAN, &[0.0][..]);
+    for lane in [(0, 0), (0, 1), (0, -2), (2, -1), (usize::MAX, -1), (0, i32::MIN)] {
+        assert_eq!(row(lane.0, lane.1, nan, none, 0), Some(10));
+    }
+    assert_eq!([row(0, -1, nan, none, 0), row(0, -1, 1.0, none, 0), row(0, -1, 1.0, &[0.0, 5.0], 4)], [15, 16, 17].map(Some));
+    let outside = Asked { section: 0, id: -1, spacing: 1.0, stations: &[0.0, 5.0], room: 0 };
+    assert_eq!(dots::dots(&known[0].road, &outside, || vec![0.0, 0.0, 0.0, 2e6, 0.0, -2_000_000.125]), Err(16));
+    let many: Vec<f64> = (0..513).map(|k| f64::from(k) * 0.0078125).collect();
+    for (stations, right) in [
+        (&[0.0, 5.0][..], true),
+        (&[-0.0, 5.0], true),
+        (&[1.0, 1f64.next_up(), 4.0], true),
+        (&many[..512], true),
+        (&many, false),
+        (&[0.0], false),
+        (&[], false),
+        (&[-0.0, 0.0], false),
+        (&[1.0, 1.0], false),
+        (&[2.0, 1.0], false),
+        (&[-5e-324, 5.0], false),
+        (&[0.0, 5f64.next_up()], false),
+        (&[0.0, f64::NAN], false),
+        (&[0.0, f64::NAN, 5.0], false),
+        (&[f64::NEG_INFINITY, 5.0], false),
+    ] {
+        assert_eq!(row(0, -1, 1.0, stations, 600), (!right).then_some(16), "{stations:?}");
+    }
+    assert!(dots::listed(&[5.0, 10.0], dots::ends(&known[1].road, 1)) && !dots::listed(&[5.0, 10f64.next_up()], [5.0, 10.0]));
+}
+
+/// Of lines that are drawn: how many have each feature.
+#[test]
+fn made_dots() {
+    type Has = fn(&Road, usize, &Line) -> bool;
+    let rng = &mut Rng::new(1, "made dots");
+    let features: &[(&str, Has)] = &[
+        ("a section after", |r, i, l| i + 1 < r.sections.len() && l.stations.last() == r.sections.get(i + 1).map(|s| &s.start)),
+        ("a level lane", |r, i, _| r.sections[i].left.iter().chain(&r.sections[i].right).any(|lane| lane.level)),
+        ("lane heights", |r, i, _| r.sections[i].left.iter().chain(&r.sections[i].right).any(|lane| !lane.heights.is_empty())),
+        ("profiles", |r, _, _| !r.profiles.is_empty()),
+        ("a spiral", |r, _, _| r.spirals() > 0),
+        ("a start of -0", |_, _, l| l.stations[0].to_bits() == 1 << 63),
+        ("a repeated point", |_, _, l| l.sums.windows(2).any(|w| w[0] == w[1]) && l.length > 0.0),
+        ("all points alike", |_, _, l| l.length == 0.0),
+        ("all kept", |_, _, l| l.multiples > 1 && l.kept == l.multiples),
+        ("some kept", |_, _, l| 0 < l.kept && l.kept < l.multiples),
+        ("none kept", |_, _, l| l.kept == 0),
+        ("a multiple at the end", |_, _, l| l.multiples > 1 && l.multiple(l.multiples - 1) == l.length),
+        ("a multiple at a point", |_, _, l| {
+            let inner = &l.sums[1..l.sums.len() - 1];
+            (1..l.multiples).any(|k| inner.contains(&l.multiple(k)))
+        }),
+        ("over 20 stations", |_, _, l| l.stations.len() > 20),
+    ];
+    let mut with = vec![0; features.len()];
+    for _ in 0..4_000 {
+        let road = generate::dotted(rng).0;
+        let drawn = if road.lanes().next().is_some() { Line::drawn(rng, &road) } else { None };
+        if let Some((section, line)) = drawn {
+            features.iter().zip(&mut with).for_each(|((_, has), n)| *n += usize::from(has(&road, section, &line)));
+        }
+    }
+    println!("4000 lines to dot");
+    for ((name, _), n) in features.iter().zip(with) {
+        println!("    {name:<22} {n}");
+        assert!(n >= 40, "too few lines with: {name}");
+    }
+}
+
+/// A line that is drawn where its section has an extent, and how many of its multiples are kept.
+struct Line {
+    stations: Vec<f64>,
+    sums: Vec<f32>,
+    length: f32,
+    spacing: f32,
+    multiples: usize,
+    kept: usize,
+}
+
+impl Line {
+    fn drawn(rng: &mut Rng, road: &Road) -> Option<(usize, Self)> {
+        let (section, id) = dots::lane(rng, road);
+        let (stations, met) = dots::list(rng, road, section);
+        if !dots::listed(&stations, dots::ends(road, section)) {
+            return None;
+        }
+        let line = DottedLine::new(&Oracle::new(road), section, id, &stations);
+        let (sums, length) = (tracks::lengths(&line.numbers()), line.length());
+        assert_eq!(sums[sums.len() - 1], length);
+        let spacing = met.unwrap_or_else(|| dots::spacing(rng, length));
+        let place = dots::place(road, section, id).expect("a lane");
+        let kept = line.dots(&road.sections[section], place, spacing).map_or(0, |dots| dots.len());
+        Some((section, Self { multiples: line.multiples(spacing), stations, sums, length, spacing, kept }))
+    }
+
+    fn multiple(&self, k: usize) -> f32 {
+        k as f32 * self.spacing
     }
 }

@@ -31,6 +31,9 @@ macro_rules! riftkettle_functions {
             riftkettle_locate: locate(
                 m: Road, samples: [f64], x: f64, y: f64, guess: f64, pair: (mut [f64; 2]), moves: (mut u32), met: (mut u32)
             ) -> u32;
+            riftkettle_dots: dots(
+                m: Road, samples: [f64], section: usize, id: i32, spacing: f32, stations: [f64], list: [mut f64], count: (mut usize)
+            ) -> u32;
             riftkettle_read: read(
                 text: [u8], words: [mut u16], numbers: [mut f64], wants: [mut u64], count: (mut usize)
             ) -> u32;

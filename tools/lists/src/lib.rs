@@ -1,2 +1,3 @@
 //! What the makers of lists share.
 pub mod draft;
+pub mod laid;

@@ -14,6 +14,7 @@ mod road {
     include!(concat!(env!("OUT_DIR"), "/road.rs"));
 }
 
+pub mod dots;
 pub mod oracle;
 pub mod own;
 pub mod second_program;

@@ -136,6 +136,15 @@ impl Oracle {
         sides(section).into_iter().flat_map(side).map(|b| [b.inner, b.outer, b.width]).collect()
     }
 
+    /// The outer border at s of a lane of the section that is named, which need not be the one at s; none where it has no such lane.
+    pub fn outer(&self, section: usize, id: i32, s: f64) -> Option<f64> {
+        let (section, base) = (self.0.sections.get(section)?, self.0.base(s));
+        let [left, right] = sides(section);
+        let (lanes, sign) = if id > 0 { left } else { right };
+        let mut borders = road::side_borders(lanes, sign, base, s - section.start);
+        borders.nth((id.unsigned_abs() as usize).checked_sub(1)?).map(|b| b.outer)
+    }
+
     /// Writes the borders at s, three numbers a lane, and answers how many lanes there are. For the benchmark: no memory is made.
     pub fn list_borders(&self, s: f64, list: &mut [f64]) -> usize {
         let (section, base) = (self.0.section_at(s).expect("a road has a section"), self.0.base(s));

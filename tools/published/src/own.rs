@@ -13,7 +13,10 @@ mod road {
     include!(concat!(env!("OUT_DIR"), "/own_road.rs"));
 }
 
-// The oracle and the tracks a second time, over this module's road and line: their types are others.
+// The oracle, the tracks and the dots a second time, over this module's road and line: their types are others.
+#[allow(dead_code)]
+#[path = "dots.rs"]
+pub mod dots;
 #[allow(dead_code)]
 #[path = "oracle.rs"]
 pub mod oracle;

@@ -68,19 +68,48 @@ fn draft_across(rng: &mut Rng) -> Road {
 /// A road for its surface: what lies across it as above, over any reference line, with elevation and bank. On one in four nothing
 /// stands off the road's plane; some have lanes so thin that a fraction across them overflows.
 pub fn surfaced(rng: &mut Rng) -> (Road, Memory) {
+    laid(rng, draft_surfaced)
+}
+
+fn draft_surfaced(rng: &mut Rng) -> Road {
+    let mut road = draft_across(rng);
+    road.geoms = geoms(rng, road.length);
+    road.elev = steep_list(rng, road.length);
+    road.bank = road_list(rng, 64, road.length, 0.75);
+    if rng.one_in(4) {
+        lay_bare(&mut road);
+    }
+    if rng.one_in(12) {
+        make_thin(rng, &mut road);
+    }
+    road
+}
+
+/// A road to dot: as for its surface, or with nothing but straight lanes, and most of its marks of kind 1.
+pub fn dotted(rng: &mut Rng) -> (Road, Memory) {
     laid(rng, |rng| {
-        let mut road = draft_across(rng);
-        road.geoms = geoms(rng, road.length);
-        road.elev = steep_list(rng, road.length);
-        road.bank = road_list(rng, 64, road.length, 0.75);
-        if rng.one_in(4) {
-            lay_bare(&mut road);
-        }
-        if rng.one_in(12) {
-            make_thin(rng, &mut road);
-        }
+        let mut road = if rng.one_in(3) { draft_plain(rng) } else { draft_surfaced(rng) };
+        paint(rng, &mut road);
         road
     })
+}
+
+/// One line, in half of them along x from the origin, sections of lanes that keep their widths, and at most a slope.
+fn draft_plain(rng: &mut Rng) -> Road {
+    let length = length(rng);
+    let [x, hdg] = if rng.one_in(2) { [0.0; 2] } else { [rng.between(-3.0, 3.0) * 1e5, rng.between(-3.0, 3.0)] };
+    let mut sections = sections(rng, length);
+    for lane in sections.iter_mut().flat_map(|s| s.left.iter_mut().chain(&mut s.right)) {
+        *lane = Lane { extents: vec![Cubic { a: rng.from_to(0, 8) as f64 * 0.5, ..Cubic::default() }], ..Lane::default() };
+    }
+    let b = rng.pick(&[0.0, 0.75, 1.0]);
+    Road {
+        length,
+        geoms: vec![Geom { s: 0.0, x, y: 0.0, hdg, length, shape: Shape::Line }],
+        elev: if b > 0.0 { vec![Cubic { b, ..Cubic::default() }] } else { Vec::new() },
+        sections,
+        ..Road::default()
+    }
 }
 
 /// Puts the base at 0, and beside it lanes as wide as some subnormal number.
@@ -387,6 +416,28 @@ pub fn mark_anew(rng: &mut Rng, road: &mut Road) {
     for (section, end) in road.sections.iter_mut().zip(ends) {
         let (n, lanes) = (rng.from_to(0, 16), section.left.len() + section.right.len());
         section.marks = marks(rng, n, lanes, end - section.start);
+    }
+}
+
+/// Makes most marks of kind 1. On some roads the marks are others, or they begin and end by quarters of a metre; on most roads most
+/// lanes have one as long as their section, before their others.
+fn paint(rng: &mut Rng, road: &mut Road) {
+    if rng.one_in(2) {
+        mark_anew(rng, road);
+    }
+    let (whole, quarters) = (!rng.one_in(3), rng.one_in(3));
+    let ends: Vec<f64> = road.sections.iter().skip(1).map(|s| s.start).chain([road.length]).collect();
+    for (section, end) in road.sections.iter_mut().zip(ends) {
+        for mark in &mut section.marks {
+            mark.kind = if rng.one_in(4) { mark.kind } else { 1 };
+            let [start, end] = [mark.start, mark.end].map(|x| if quarters { (x * 4.0).floor() / 4.0 } else { x });
+            (mark.start, mark.end) = (start, end);
+        }
+        for lane in 0..section.left.len() + section.right.len() {
+            if whole && section.marks.len() < 16 && !rng.one_in(4) {
+                section.marks.insert(0, Mark { lane, kind: 1, start: 0.0, end: end - section.start });
+            }
+        }
     }
 }
 

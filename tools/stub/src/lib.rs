@@ -9,11 +9,13 @@ use second::model::*;
 use std::panic::{AssertUnwindSafe, catch_unwind};
 use std::sync::OnceLock;
 
+mod dots;
 mod lanes;
 mod probes;
 mod surfaces;
 mod tracks;
 
+use dots::dots;
 use lanes::{borders, lane_named};
 use surfaces::{axes, lane_surface, locate, station, surface};
 use tracks::{root32, track_pose, track_project, track_tangents};

@@ -6,21 +6,21 @@ use published::stand_ins::{self, cos, hypot, root, sin, sin_cos};
 use second::model::*;
 
 /// A road that is admitted, with as many samples as it needs.
-struct On {
-    road: Road,
-    oracle: Oracle,
+pub struct On {
+    pub road: Road,
+    pub oracle: Oracle,
 }
 
 /// A row of a call's arguments, and whether it refuses.
-type Row = (u32, bool);
+pub type Row = (u32, bool);
 
-fn first(rows: &[Row]) -> Result<(), u32> {
+pub fn first(rows: &[Row]) -> Result<(), u32> {
     rows.iter().find(|row| row.1).map_or(Ok(()), |row| Err(row.0))
 }
 
 impl On {
     /// Rows 3 to 6, then those of the arguments.
-    fn new((words, numbers): Lent, samples: &[f64], rows: &[Row]) -> Result<Self, u32> {
+    pub fn new((words, numbers): Lent, samples: &[f64], rows: &[Row]) -> Result<Self, u32> {
         if fault("road last") {
             first(rows)?;
         }
@@ -43,7 +43,7 @@ impl On {
 }
 
 /// Answers as a C function does: 0 and the answer written, or the number.
-fn answered<T>(answer: impl FnOnce() -> Result<T, u32>, write: impl FnOnce(T)) -> u32 {
+pub fn answered<T>(answer: impl FnOnce() -> Result<T, u32>, write: impl FnOnce(T)) -> u32 {
     let whole = || match answer() {
         Ok(value) => {
             write(value);

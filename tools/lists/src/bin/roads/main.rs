@@ -39,6 +39,7 @@ mod questions;
 mod roads;
 mod surfaces;
 
+use lists::laid::Laid;
 use published::oracle::Oracle;
 use second::admission;
 use second::model::{Memory, NUMBERS, Road, WORDS};
@@ -78,7 +79,7 @@ impl List {
     }
 
     /// How many lines the road takes.
-    pub fn changes(&self, road: &roads::Laid) -> usize {
+    pub fn changes(&self, road: &Laid) -> usize {
         let words = road.words.iter().filter(|&&(at, w)| self.memory.words[at] != w).count();
         words + road.numbers.iter().filter(|&&(at, x)| self.memory.numbers[at].to_bits() != x.to_bits()).count()
     }
@@ -98,7 +99,7 @@ impl List {
     }
 
     /// The road takes the place of the one before.
-    pub fn put(&mut self, road: &Road, laid: &roads::Laid) {
+    pub fn put(&mut self, road: &Road, laid: &Laid) {
         laid.words.iter().for_each(|&(at, w)| self.word(at, w));
         laid.numbers.iter().for_each(|&(at, x)| self.number(at, x));
         let refusal = admission::admit(&self.memory.words, &self.memory.numbers);

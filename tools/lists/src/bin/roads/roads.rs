@@ -1,25 +1,10 @@
 // The roads that are asked about: random admitted ones that take few lines.
 use crate::List;
+use lists::laid::{admitted, laid};
 use published::oracle::Oracle;
 use second::generate;
 use second::model::*;
 use second::random::Rng;
-
-/// The places of memory that a road names, and what it puts there.
-pub struct Laid {
-    pub words: Vec<(usize, u16)>,
-    pub numbers: Vec<(usize, f64)>,
-}
-
-/// A place that the road names holds the same whatever was there before: zeros or random bits.
-fn laid(rng: &mut Rng, road: &Road) -> Option<Laid> {
-    let style = Style { share: rng.one_in(2), gaps: false, garbage: false, longer: false };
-    let m = road.lay(rng, style)?;
-    let other = road.lay(rng, Style { garbage: true, ..style })?;
-    let words = (0..WORDS).filter(|&i| m.words[i] == other.words[i]);
-    let numbers = (0..NUMBERS).filter(|&i| m.numbers[i].to_bits() == other.numbers[i].to_bits());
-    Some(Laid { words: words.map(|i| (i, m.words[i])).collect(), numbers: numbers.map(|i| (i, m.numbers[i])).collect() })
-}
 
 /// The first of the drafts that is admitted and takes at most so many lines; it is put into the list.
 fn put(list: &mut List, rng: &mut Rng, most: usize, draft: impl Fn(&mut Rng) -> Option<Road>) -> Road {
@@ -31,11 +16,6 @@ fn put(list: &mut List, rng: &mut Rng, most: usize, draft: impl Fn(&mut Rng) -> 
             return road;
         }
     }
-}
-
-fn admitted(rng: &mut Rng, road: &Road) -> bool {
-    let memory = road.lay(rng, Style::default());
-    memory.is_some_and(|m| second::admission::admit(&m.words, &m.numbers) == 0)
 }
 
 /// A road with a reference line only, of a few geometries; half of them have spirals, some an arc at the limits of curvature.
