@@ -3,7 +3,7 @@ ghost use Rattle.std.specs.Prelude.{◌≡◌, ◌++◌, ◌*◌, ◌≤◌, ◌
 ghost use Rattle.refusals.specs.Answer.{answered, checked, value};
 ghost use Rattle.refusals.specs.LentLists.{list_left};
 ghost use Rattle.admission.specs.Admission.{pass};
-ghost use Rattle.dots_calls.specs.DotsCall.{lane_rank, spaced, dots_of, line_rows, dot_rows};
+ghost use Rattle.dots_calls.specs.DotsCall.{most_stations, lane_rank, spaced, dots_of, line_rows, dot_rows};
 
 use crate::lines::write_line;
 use crate::stations::{MOST_STATIONS, stations_listed};
@@ -50,7 +50,7 @@ fn dot_line(
     stations: &[f64],
     list: &mut [f64],
 ) -> Result<usize, Refusal>
-    requires { (length stations.now ≤ 512) × (place.k < 65536) }
+    requires { (length stations.now ≤ most_stations) × (place.k < 65536) }
     ensures result_value { answered result ≡ checked (line_rows lent.now.road lent.now.samples.now spacing stations.now place (length list.old)) (value (length (dots_of lent.now.road lent.now.samples.now spacing stations.now place))) }
     ensures list_after { list.new ≡ list_left (pass (line_rows lent.now.road lent.now.samples.now spacing stations.now place (length list.old))) (dots_of lent.now.road lent.now.samples.now spacing stations.now place) list.old }
 {

@@ -22,8 +22,8 @@ use Rattle.tracks_laws.proofs.ArcLengths.{distance-in}
 use Rattle.tracks_laws.proofs.Fractions.{length-in}
 use Rattle.admission_laws.specs.Fractions.{IsF64}
 use Rattle.dots.specs.Along.{one64, nth_station, segment_of_arc, along, fraction_into, station_on, station_at}
-use Rattle.dots_laws.specs.NeverBack.{NotBack, greatest_station, StationsRise, StationsKept, NeverBack}
-use Rattle.dots_laws.proofs.Segments.{segment_there, segment_rise, starts}
+use Rattle.dots_laws.specs.NeverBack.{NotBack, greatest_station, StationsRise, StationIn, StationsKept, NeverBack}
+use Rattle.dots_laws.proofs.Segments.{passed, stops, segment_there, segment_rise, starts}
 use Rattle.dots_laws.proofs.FractionInto.{into-in, into_rise}
 use Rattle.dots_laws.proofs.LineLength.{whole-fraction, along-last}
 use Rattle.dots_laws.proofs.StationOn.{Station, widened, greatest-real, le_not-back, span, span-plus, on-real, on_from, on-to, on-rise}
@@ -105,6 +105,21 @@ module _ (c : ℕ → Float) (n : ℕ) (two : 2 ≤ n) (fit : (i : ℕ) → IsF6
         let l = within arc in
         on-past (segment arc) l arc f (from-start arc h) (c (n - 1)) (station-in (n - 1) (omega arith)).value (no-fall (suc (segment arc)) (n - 1) (omega arith) (omega arith))
 
+    at-end : (arc : Float) → IsF32 arc → T (le zero32 arc) → NotBack (station_at p c n arc) (c (suc (segment arc)))
+    unfolding station_at
+    at-end arc f h = let l = within arc in on-past (segment arc) l arc f (from-start arc h) (c (suc (segment arc))) (station-in (suc (segment arc)) l).value (no-fall (suc (segment arc)) (suc (segment arc)) (omega arith) l)
+
+    at-segment : (arc : Float) → IsF32 arc → T (le zero32 arc) → StationIn p c n arc
+    at-segment arc f h =
+        record {
+          i = segment arc;
+          there = within arc;
+          short = λ j l. passed p arc 0 (n - 2) j (omega arith) l;
+          reaches = λ l. stops p arc 0 (n - 2) (omega arith);
+          from = (at-kept arc f h).1;
+          to = at-end arc f h;
+        }
+
     module _ (a b : Float) (f : IsF32 a) (g : IsF32 b) (h : T (le zero32 a)) (k : T (le a b)) where
       m : T (le zero32 b)
       m = float_trans zero32 a b h k
@@ -142,7 +157,7 @@ module _ (c : ℕ → Float) (n : ℕ) (two : 2 ≤ n) (fit : (i : ℕ) → IsF6
     whole-length = let e : suc (n - 2) ≡ n - 1 = omega arith in subst (λ (k : ℕ). along p c n (c k) ≡ length_to p k) e (length-at (n - 2) (omega arith))
 
     pub kept : StationsKept p c n
-    kept = record { line_length = whole-length; number = λ arc f h. (at-kept arc f h).0.finite; from = at-first; to = at-last; never_back = never-back }
+    kept = record { line_length = whole-length; number = λ arc f h. (at-kept arc f h).0.finite; segment = at-segment; from = at-first; to = at-last; never_back = never-back }
 
 pub never-back-law : NeverBack
 never-back-law xs stations fit numbers ok same listed =

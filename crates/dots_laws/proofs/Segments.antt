@@ -50,7 +50,7 @@ module _ (p : ℕ → Point) where
       go false false e f l r = r
 
   -- it ends before the arc length wherever a later one is taken
-  passed : (arc : Float) (i k j : ℕ) → i ≤ j → j < reached_from p arc i k → le arc (length_to p (suc j)) ≡ false
+  pub passed : (arc : Float) (i k j : ℕ) → i ≤ j → j < reached_from p arc i k → le arc (length_to p (suc j)) ≡ false
   unfolding reached_from
   passed arc i zero j h l = absurd (omega arith)
   passed arc i (suc k) j h l = go (le arc (length_to p (suc i))) refl l (passed arc (suc i) k j)
@@ -58,6 +58,19 @@ module _ (p : ℕ → Point) where
       go : (b : Bool) → le arc (length_to p (suc i)) ≡ b → j < cond b i (reached_from p arc (suc i) k) → (suc i ≤ j → j < reached_from p arc (suc i) k → le arc (length_to p (suc j)) ≡ false) → le arc (length_to p (suc j)) ≡ false
       go true e l r = absurd (omega arith)
       go false e l r = ⊎_elim (λ (m : i ≡ j). subst (λ (x : ℕ). le arc (length_to p (suc x)) ≡ false) m e) (λ (m : i < j). r m l) (eq-or-lt_of_le h)
+
+  -- and the one that is taken does not, where it is not the last
+  pub stops : (arc : Float) (i k : ℕ) → reached_from p arc i k < i + k → le arc (length_to p (suc (reached_from p arc i k))) ≡ true
+  unfolding reached_from
+  stops arc i zero h = absurd (omega arith)
+  stops arc i (suc k) h = go (le arc (length_to p (suc i))) refl h (stops arc (suc i) k)
+    where
+      next : ℕ
+      next = reached_from p arc (suc i) k
+
+      go : (b : Bool) → le arc (length_to p (suc i)) ≡ b → cond b i next < i + suc k → (next < suc i + k → le arc (length_to p (suc next)) ≡ true) → le arc (length_to p (suc (cond b i next))) ≡ true
+      go true e l r = e
+      go false e l r = r (omega arith)
 
   module _ (n : ℕ) where
     pub segment_there : (arc : Float) → segment_of_arc p n arc ≤ n - 2

@@ -9,6 +9,14 @@ pub struct Laid {
     pub numbers: Vec<(usize, f64)>,
 }
 
+impl Laid {
+    /// How many lines it takes to put the road into this memory: one for each place that holds something else.
+    pub fn changes(&self, memory: &Memory) -> usize {
+        let words = self.words.iter().filter(|&&(at, w)| memory.words[at] != w).count();
+        words + self.numbers.iter().filter(|&&(at, x)| memory.numbers[at].to_bits() != x.to_bits()).count()
+    }
+}
+
 /// A place that the road names holds the same whatever was there before: zeros or random bits.
 pub fn laid(rng: &mut Rng, road: &Road) -> Option<Laid> {
     let style = Style { share: rng.one_in(2), gaps: false, garbage: false, longer: false };

@@ -25,6 +25,7 @@ mod calls;
 mod roads;
 
 use lists::laid::Laid;
+use lists::pattern;
 use published::dots::DottedLine;
 use published::oracle::Oracle;
 use published::stand_ins;
@@ -56,17 +57,6 @@ pub struct List {
     kinds: BTreeMap<String, usize>,
 }
 
-/// The word that is written for a number of an answer.
-fn pattern(x: f64) -> u64 {
-    if x == 0.0 {
-        0
-    } else if x.is_nan() {
-        0x7ff8_0000_0000_0000
-    } else {
-        x.to_bits()
-    }
-}
-
 /// The word that stands for an id.
 fn id_word(id: i32) -> u64 {
     let id = i64::from(id);
@@ -89,12 +79,6 @@ impl List {
     }
 
     // ---- what is put in
-
-    /// How many lines the road takes.
-    fn changes(&self, road: &Laid) -> usize {
-        let words = road.words.iter().filter(|&&(at, w)| self.memory.words[at] != w).count();
-        words + road.numbers.iter().filter(|&&(at, x)| self.memory.numbers[at].to_bits() != x.to_bits()).count()
-    }
 
     pub fn word(&mut self, at: usize, w: u16) {
         if self.memory.words[at] != w {

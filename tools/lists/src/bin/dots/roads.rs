@@ -40,7 +40,7 @@ pub fn drawn(list: &mut List, rng: &mut Rng, with: With) -> Road {
         let road = generate::dotted(rng).0;
         let Some(laid) = laid(rng, &road) else { continue };
         let painted = road.sections.iter().any(|section| section.marks.iter().any(|mark| mark.kind == 1));
-        if painted && with.fits(&road) && list.changes(&laid) <= 130 && admitted(rng, &road) {
+        if painted && with.fits(&road) && laid.changes(&list.memory) <= 130 && admitted(rng, &road) {
             list.put(&road, &laid);
             return road;
         }

@@ -40,6 +40,7 @@ mod roads;
 mod surfaces;
 
 use lists::laid::Laid;
+use lists::pattern;
 use published::oracle::Oracle;
 use second::admission;
 use second::model::{Memory, NUMBERS, Road, WORDS};
@@ -62,26 +63,9 @@ pub struct List {
     marked: usize,
 }
 
-/// The word that is written for a number.
-fn pattern(x: f64) -> u64 {
-    if x == 0.0 {
-        0
-    } else if x.is_nan() {
-        0x7ff8_0000_0000_0000
-    } else {
-        x.to_bits()
-    }
-}
-
 impl List {
     fn line(&mut self, letter: char, a: u64, b: u64) {
         self.questions += &format!("{letter} {a:016x} {b:016x}\n");
-    }
-
-    /// How many lines the road takes.
-    pub fn changes(&self, road: &Laid) -> usize {
-        let words = road.words.iter().filter(|&&(at, w)| self.memory.words[at] != w).count();
-        words + road.numbers.iter().filter(|&&(at, x)| self.memory.numbers[at].to_bits() != x.to_bits()).count()
     }
 
     pub fn word(&mut self, at: usize, w: u16) {

@@ -11,7 +11,7 @@ fn put(list: &mut List, rng: &mut Rng, most: usize, draft: impl Fn(&mut Rng) -> 
     loop {
         let Some(road) = draft(rng) else { continue };
         let Some(laid) = laid(rng, &road) else { continue };
-        if list.changes(&laid) <= most && admitted(rng, &road) {
+        if laid.changes(&list.memory) <= most && admitted(rng, &road) {
             list.put(&road, &laid);
             return road;
         }
