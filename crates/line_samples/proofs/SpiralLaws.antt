@@ -8,6 +8,7 @@ use mathlib.Core.Bool.{Bool, true, false, not}
 use mathlib.Core.List.{List, [], ◌∷◌, ◌++◌}
 use mathlib.Core.Logic.{⊎_elim}
 use lib.Dec.{T, leb, leb→le, nleb→lt, ltb, ltb→lt, nltb→le}
+use borrow.Author.Tests.{le-leb, lt-leb}
 use lib.ListN.{length, get_or, length-append, get_or-append, get_or-eq_default}
 use lib.Seq.{get_or-append-add}
 use lib.Ieee.{Float, nan}
@@ -168,6 +169,21 @@ module _ (road : Road) where
 
   pub before-few : (i : ℕ) → length road.geoms < 65536 → samples_before road i < counted_end
   before-few i few = let d = before-done i (min i (length road.geoms)) refl in let l = before-le (min i (length road.geoms)) in omega arith
+
+  -- a loop over the geometries: a turn
+  pub before_more : (i : ℕ) {sum n : ℕ} {g : GeomRec} → sum ≡ samples_before road i → g ≡ geom_at road i → n ≡ sample_count g → sum + n ≡ samples_before road (i + 1)
+  before_more i e f h = rw (e, h, f, add-one) (sym (before-next i))
+
+  -- a loop that leaves with the sample that is one too many, or counts them all
+  pub fit-over : (k most : ℕ) {sum : ℕ} → k < length road.geoms → sum ≡ samples_before road (k + 1) → most < sum → false ≡ leb (samples_needed road) most
+  unfolding samples_needed
+  fit-over k most h e l =
+      let a : k + 1 ≤ length road.geoms = omega arith in
+      let m = before-mono (k + 1) (length road.geoms) a in
+      sym (lt-leb (samples_before road (length road.geoms)) most (omega arith))
+
+  pub fit_all : (k most : ℕ) {sum : ℕ} → length road.geoms ≤ k → sum ≡ samples_before road k → sum ≤ most → true ≡ leb (samples_needed road) most
+  fit_all k most h e l = let p = before-past k h in sym (le-leb (samples_needed road) most (omega arith))
 
 -- ---- the samples
 

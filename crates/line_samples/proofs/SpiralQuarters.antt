@@ -6,16 +6,17 @@ use native.Mathlib.Numerals.{add-one}
 use native.Mathlib.Omega.{arith}
 use mathlib.Core.Path.{◌≡◌, refl, sym, ap, ◌∙◌, subst}
 use mathlib.Core.Logic.{◌⊎◌, inl, inr}
-use mathlib.Core.Bool.{Bool, true, false, cond}
+use mathlib.Core.List.{[], ◌∷◌}
+use mathlib.Core.Bool.{Bool, true, false, not, cond}
 use lib.Dec.{T, lit≤, lit<}
 use borrow.Author.Tests.{le-leb}
 use lib.Pow.{pow_pos}
 use lib.IntN.{pos, negsuc}
-use lib.Ieee.{Float, nan, inf, fin, Format, binary32, binary64, prec, emax, low, round, of_int, of_bits, add, sub, mul, lt, le, eq, fits, in_float}
+use lib.Ieee.{Float, nan, inf, fin, Format, binary32, binary64, prec, emax, low, round, of_int, of_bits, add, sub, mul, lt, le, eq, fits, is_nan, in_float}
 use lib.Ieee.Bits.{is_true}
 use lib.Ieee.Fits.{round-fits, sub-fits, and_r}
 use lib.Ieee.Scale.{finite}
-use Rattle.float_laws.specs.Binary64.{◌⊕◌, ◌⊖◌}
+use Rattle.float_laws.specs.Binary64.{◌⊕◌, ◌⊖◌, f64, zero64}
 use Rattle.float_laws.proofs.Units.{rnd, rnd-exact, rnd-zero, rnd-le}
 use Rattle.float_laws.proofs.Value.{sign, mag, pl, mi, Real, mag_is, one_side, mag_of, under, le→units, lt→units, units→lt, sign-plus}
 use Rattle.float_laws.proofs.Operation.{sub-Is, mul-Is, round-has}
@@ -23,8 +24,10 @@ use Rattle.float_laws.proofs.Exact.{fixed, self-Is, is_le}
 use Rattle.float_laws.proofs.Size.{add-fin}
 use Rattle.float_laws.proofs.Same.{same-value}
 use Rattle.float_laws.proofs.Whole.{Steps, Whole, steps-rnd, steps-under, steps-add}
-use Rattle.float_laws.proofs.Checker.{good-real}
-use Rattle.line_samples.specs.Quarters.{quarters, greatest_estimated, QuartersBelow}
+use Rattle.float_laws.proofs.Interval.{in-of_le, least, most}
+use Rattle.float_laws.proofs.Checker.{Ex, var, con, plus, times, eval, iv, ival, add_i, mul_i, con_i, covers, check, checked, good-real}
+use Rattle.arithmetic_sine.proofs.FloorCases.{real-no_nan}
+use Rattle.line_samples.specs.Quarters.{quarters, least_estimated, greatest_estimated, QuartersBelow}
 use Rattle.line_samples.specs.Samples.{end_margin, goes_on, whole_step, step_at, steps_from, most_samples, most_steps, spiral_steps}
 use Rattle.line_samples.proofs.SpiralLaws.{steps-start, steps_next}
 
@@ -228,6 +231,21 @@ steps_from_lem len n fit h = go h.1
     go : (n ≡ 0) ⊎ (T (lt (quarters n) last) × T (le last greatest_estimated)) → spiral_steps len ≡ n + steps_from (most_steps - n) (goes_on len (quarters n)) len (quarters n)
     go (inl z) = rw z (from_zero len)
     go (inr t) = up_to len n fit h.0 (known (quarters n) last t.0 t.1) t.0 n (le_refl n)
+
+-- ---- the code's sum, x * 4 + (2 ^ 52 - 1) for x in 1..10,000, is a number
+abbrev sum : Ex
+sum = plus (times (var 0) (con (f64 0x4010_0000_0000_0000))) (con (f64 0x432f_ffff_ffff_fffe))
+
+sum-checks : T (check binary64 (iv least_estimated greatest_estimated ∷ []) sum zero64 (f64 0x4340_0000_0000_0000))
+unfolding check ival covers add_i mul_i con_i add mul le lt fits of_bits least most
+sum-checks = tt
+
+pub sum_number : (x : Float) → T (fits binary64 x) → T (le least_estimated x) → T (le x greatest_estimated) → T (not (is_nan (add binary64 (mul binary64 x (f64 0x4010_0000_0000_0000)) (f64 0x432f_ffff_ffff_fffe))))
+unfolding eval fits of_bits
+sum_number x h a b =
+    real-no_nan binary64 (eval binary64 (x ∷ []) sum)
+    (checked binary64 (iv least_estimated greatest_estimated ∷ []) (x ∷ []) sum zero64 (f64 0x4340_0000_0000_0000) (good-real binary64 zero64 tt) (good-real binary64 (f64 0x4340_0000_0000_0000) tt) sum-checks
+    (in-of_le binary64 least_estimated greatest_estimated x (good-real binary64 least_estimated tt) (good-real binary64 greatest_estimated tt) h a b, tt)).value
 
 -- a count of steps as an f64
 pub number_fits : (n : ℕ) → n ≤ most_samples → T (in_float binary64 (pos n))

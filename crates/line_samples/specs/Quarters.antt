@@ -9,7 +9,10 @@ use Rattle.line_samples.specs.Samples.{whole_step, most_samples}
 abbrev pub quarters : ℕ → Float
 quarters n = of_int binary64 (pos n) ⊗ whole_step
 
--- 10,000: up to it the steps are estimated, beyond all are counted
+-- 1 and 10,000: between them the steps are estimated, elsewhere all are counted
+abbrev pub least_estimated : Float
+least_estimated = f64 0x3ff0_0000_0000_0000
+
 abbrev pub greatest_estimated : Float
 greatest_estimated = f64 0x40c3_8800_0000_0000
 

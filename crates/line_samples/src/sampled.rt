@@ -4,6 +4,6 @@ use records::LentRoad;
 
 #[derive(Drop)]
 pub struct SampledRoad<'a> {
-    pub road: LentRoad<'a>,
+    pub road: LentRoad<'a, 'a>,
     pub samples: &'a [f64],
 }

@@ -1,12 +1,12 @@
 // A spiral has no elementary form, so it is baked to samples by the midpoint rule: its start, then one a step of 0.25 m, the last shorter.
-ghost use Rattle.std.specs.Prelude.{◌≡◌, ◌<◌, ◌≤◌, leb};
-ghost use Rattle.line_samples.specs.Quarters.{QuartersBelow};
+ghost use Rattle.std.specs.Prelude.{◌≡◌, ◌<◌, ◌≤◌, T, leb};
+ghost use Rattle.std.specs.Float.Ieee.{le};
+ghost use Rattle.line_samples.specs.Quarters.{least_estimated, greatest_estimated, QuartersBelow};
 ghost use Rattle.line_samples.specs.Samples.{most_samples, most_steps, most_counted, counted_end, step_at, spiral_steps, sample_count, samples_before, samples_needed, first_sample, next_sample, turn_rate, heading_at};
 
 use crate::points::{SAMPLE_STRIDE, Sample, Spiral};
 use records::{GeomRec, GeomShape, LentRoad};
 use records_geometry::geom;
-use std::num::saturating_f64_to_usize;
 
 // The length of every step but the last.
 const WHOLE_STEP: f64 = 0.25;
@@ -26,7 +26,9 @@ pub const SAMPLES_NEEDED: usize = MOST_SAMPLES * SAMPLE_STRIDE;
 // One step more than the samples that a road may need, so as to see that it is over.
 const MOST_STEPS: usize = MOST_SAMPLES + 1;
 
-// The steps of a longer spiral are counted one by one: no admitted road has one.
+// Between these lengths the steps are estimated. Those of a shorter spiral are few, and a longer one is in no admitted road.
+const LEAST_ESTIMATED: f64 = 1.0;
+
 const GREATEST_ESTIMATED: f64 = 10000.0;
 
 // The length of the step from u on.
@@ -36,14 +38,20 @@ fn step_at(length: f64, u: f64) -> f64
     (length - u).min(WHOLE_STEP)
 }
 
-// Steps of 0.25 that surely end below x, at most 2,000: 4 x less 1 is an estimate, all of them or all but one, and the test makes sure of it.
+// About how many steps of 0.25 fit below x: the low bits of a sum that is rounded to a whole number, 4 x less 1. A cast that saturates costs several times as much.
+fn estimate(x: f64) -> usize
+    requires { T (le least_estimated x) × T (le x greatest_estimated) }
+    ensures { result < 65536 }
+{
+    (f64::to_bits(x * 4.0 + 4503599627370495.0) % 65536) as usize
+}
+
+// Steps of 0.25 that surely end below x, at most 2,000, and all but one or two of them: the test makes sure of it.
 fn quarters_below(x: f64) -> usize
     ensures { QuartersBelow x result }
 {
-    if x <= GREATEST_ESTIMATED {
-        let n = saturating_f64_to_usize(x * 4.0)
-            .saturating_sub(1)
-            .min(MOST_SAMPLES);
+    if LEAST_ESTIMATED <= x && x <= GREATEST_ESTIMATED {
+        let n = estimate(x).min(MOST_SAMPLES);
         if n as f64 * WHOLE_STEP < x {
             return n;
         }
@@ -99,11 +107,18 @@ pub fn samples_needed(road: &LentRoad) -> usize
     samples_before(road, road.geom_count())
 }
 
-// Whether a road needs at most 2,000 samples.
+// Whether a road needs at most 2,000 samples. It stops counting at the first geometry that passes this.
 pub fn samples_fit(road: &LentRoad) -> bool
     ensures { result ≡ leb (samples_needed road.now) most_samples }
 {
-    samples_needed(road) <= MOST_SAMPLES
+    let mut needed = 0;
+    for i in 0..road.geom_count() {
+        needed += sample_count(geom(road, i));
+        if MOST_SAMPLES < needed {
+            return false;
+        }
+    }
+    true
 }
 
 impl Spiral {
