@@ -1,16 +1,16 @@
 -- The tangents' numbers written into a list.
-use Prim.Native.Nat.{ℕ, zero, suc, ◌+◌, ◌-◌, ◌*◌, ◌<◌}
+use Prim.Native.Nat.{ℕ, zero, suc, ◌+◌, ◌*◌, ◌≤◌, ◌<◌}
 use native.Mathlib.Omega.{arith}
 use native.Mathlib.Numerals.{add-one}
-use mathlib.Core.Path.{◌≡◌, refl, sym, ap, ◌∙◌}
+use mathlib.Core.Path.{◌≡◌, refl, ◌∙◌}
 use mathlib.Core.List.{List, [], ◌∷◌, ◌++◌}
 use borrow.Author.Tests.{lt-ltb}
-use lib.ListN.{length, take, drop, length-append}
+use lib.ListN.{length, drop, set, length-append}
 use lib.Ieee.{Float}
 use Rattle.records.specs.declared.points.Point.{Point}
 use Rattle.coordinates.specs.declared.vectors.Vector.{Vector}
 use Rattle.coordinates.specs.Vectors.{sum_of, unit_of}
-use Rattle.tracks.proofs.StoreLaws.{part_written}
+use Rattle.tracks.proofs.StoreLaws.{three-stores}
 use Rattle.tracks.specs.Tangents.{incoming_of, outgoing_of, tangent_of, tangent_numbers}
 
 module _ (p : ℕ → Point) (n : ℕ) where
@@ -31,13 +31,11 @@ module _ (p : ℕ → Point) (n : ℕ) where
   numbers-length zero = refl
   numbers-length (suc k) = length-append (tangent_numbers p n k) ((tangent_of p n k).x ∷ (tangent_of p n k).y ∷ (tangent_of p n k).z ∷ []) ∙ (let e = numbers-length k in omega arith)
 
-  numbers-suc : (k : ℕ) → tangent_numbers p n (k + 1) ≡ tangent_numbers p n k ++ ((tangent_of p n k).x ∷ (tangent_of p n k).y ∷ (tangent_of p n k).z ∷ [])
+  -- one point more: its three numbers stored
+  pub written_next : (old list : List Float) (k : ℕ) {t : Vector} → t ≡ tangent_of p n k → k * 3 + 3 ≤ length old → list ≡ tangent_numbers p n k ++ drop (k * 3) old
+      → set (set (set list (k * 3) t.x) (k * 3 + 1) t.y) (k * 3 + 2) t.z ≡ tangent_numbers p n (k + 1) ++ drop ((k + 1) * 3) old
   unfolding tangent_numbers
-  numbers-suc k = ap (tangent_numbers p n) (add-one k)
-
-  -- one point more: the three numbers of its part of the list
-  pub written_next : (old list : List Float) (k : ℕ) {t : Vector} {ys : List Float} → t ≡ tangent_of p n k → ys ≡ t.x ∷ t.y ∷ t.z ∷ [] → list ≡ tangent_numbers p n k ++ drop (k * 3) old
-      → take (k * 3) list ++ (ys ++ drop (k * 3 + 3 - k * 3) (drop (k * 3) list)) ≡ tangent_numbers p n (k + 1) ++ drop ((k + 1) * 3) old
-  written_next old list k {t} {ys} e g f =
-      part_written (tangent_numbers p n k) old list ys k (numbers-length k) f
-      ∙ ap (λ (r : List Float). r ++ drop ((k + 1) * 3) old) (ap (λ (r : List Float). tangent_numbers p n k ++ r) (g ∙ rw e refl) ∙ sym (numbers-suc k))
+  written_next old list k e h f =
+      let i : (k + 1) * 3 ≡ k * 3 + 3 = omega arith in
+      let t = tangent_of p n k in
+      rw (i, add-one k, f, e) (three-stores (tangent_numbers p n k) old (k * 3) t.x t.y t.z (numbers-length k) h)
