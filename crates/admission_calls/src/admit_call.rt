@@ -12,7 +12,7 @@ use records::LentRoad;
 use refusals::Refusal;
 
 // The road that the slices hold; rows 3, 4 and 5, in this order. Every call that takes a road begins with it.
-pub fn admit<'a>(words: &'a [u16], numbers: &'a [f64]) -> Result<LentRoad<'a>, Refusal>
+pub fn admit<'w, 'a>(words: &'w [u16], numbers: &'a [f64]) -> Result<LentRoad<'w, 'a>, Refusal>
     ensures { answered result ≡ checked (road_rows words.now numbers.now) (value (road_of words.now numbers.now)) }
 {
     let road = LentRoad::new(words, numbers);

@@ -18,8 +18,8 @@ const DOTTED_KIND: usize = 1;
 
 // A line along a lane of a section, with a road station for each of its points, and how far apart its dots are. The lane is named by its rank in the section, left ones outward, then right ones, as a mark names it.
 #[derive(Drop)]
-pub struct DotLine<'r, 'a> {
-    pub road: &'r LentRoad<'a>,
+pub struct DotLine<'r, 'w, 'a> {
+    pub road: &'r LentRoad<'w, 'a>,
     pub section: usize,
     pub rank: usize,
     pub points: &'r Track<'r>,
@@ -27,7 +27,7 @@ pub struct DotLine<'r, 'a> {
     pub spacing: f32,
 }
 
-impl<'r, 'a> DotLine<'r, 'a> {
+impl<'r, 'w, 'a> DotLine<'r, 'w, 'a> {
     // How many multiples of the spacing the line has, up to one over the most.
     fn multiple_count(&self) -> usize
         ensures value { result ≡ multiples_on (point_at self.now.points.now) (nth_station self.now.stations.now) (length self.now.stations.now) self.now.spacing }

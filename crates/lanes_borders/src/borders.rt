@@ -33,7 +33,7 @@ pub fn section_lanes(road: &LentRoad, section: usize) -> usize
     lane_count(road, section, false) + lane_count(road, section, true)
 }
 
-impl<'a> SideAt<'a> {
+impl<'w, 'a> SideAt<'w, 'a> {
     // A border lane's width: from its inner border to the active record's t, 0 where none is active.
     fn border_width(&self, lane: &LentLane, inner: f64) -> f64
         ensures { result ≡ border_width lane.now self.now.sign inner self.now.into (active_in lane.now.extents self.now.into) }

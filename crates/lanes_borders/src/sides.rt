@@ -13,15 +13,15 @@ use records_sections::section_start;
 // A side of a section at a station: its lanes, how many metres into the section the station is, which way the lanes stack, and the t of the center,
 // from which they do.
 #[derive(Drop)]
-pub struct SideAt<'a> {
-    pub lanes: LentSide<'a>,
+pub struct SideAt<'w, 'a> {
+    pub lanes: LentSide<'w, 'a>,
     pub into: f64,
     pub sign: f64,
     pub base: f64,
 }
 
-impl<'a> SideAt<'a> {
-    pub fn new(road: &LentRoad<'a>, section: usize, right: bool, s: f64) -> SideAt<'a>
+impl<'w, 'a> SideAt<'w, 'a> {
+    pub fn new(road: &LentRoad<'w, 'a>, section: usize, right: bool, s: f64) -> SideAt<'w, 'a>
         ensures { result ≡ side_at road.now section right s }
     {
         SideAt {
@@ -33,7 +33,7 @@ impl<'a> SideAt<'a> {
     }
 
     // Both sides, the left one first: the center and the section's start are read once.
-    pub fn both(road: &LentRoad<'a>, section: usize, s: f64) -> (SideAt<'a>, SideAt<'a>)
+    pub fn both(road: &LentRoad<'w, 'a>, section: usize, s: f64) -> (SideAt<'w, 'a>, SideAt<'w, 'a>)
         ensures left { result.0 ≡ side_at road.now section false s }
         ensures right { result.1 ≡ side_at road.now section true s }
     {

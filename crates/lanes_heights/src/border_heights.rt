@@ -35,14 +35,14 @@ fn across_of(b: LaneBorders, h: BorderHeights) -> Across
 
 // One side of a section at the station s of a road.
 #[derive(Clone, Copy)]
-struct SideHeights<'r, 'a> {
-    road: &'r LentRoad<'a>,
-    side: &'r SideAt<'a>,
+struct SideHeights<'r, 'w, 'a> {
+    road: &'r LentRoad<'w, 'a>,
+    side: &'r SideAt<'w, 'a>,
     s: f64,
     tangent: f64,
 }
 
-impl<'r, 'a> SideHeights<'r, 'a> {
+impl<'r, 'w, 'a> SideHeights<'r, 'w, 'a> {
     // A level lane's heights, on top of the height at which its inner neighbour ends.
     fn level_heights(&self, own: BorderHeights, foot: f64, width: f64) -> BorderHeights
         ensures { result ≡ level_heights own foot self.now.side.now.sign width self.now.tangent }

@@ -45,8 +45,8 @@ fn strip_height(strip: &LentStrip, s: f64, dt: f64) -> f64
 // One side of the cross section at a station: its strips, and which way it goes.
 #[derive(Drop)]
 struct CrossSide<'a> {
-    inner: LentStrip<'a>,
-    outer: Option<LentStrip<'a>>,
+    inner: LentStrip<'a, 'a>,
+    outer: Option<LentStrip<'a, 'a>>,
     sign: f64,
     s: f64,
 }

@@ -12,13 +12,13 @@ use records_lent::{number, word};
 use std::marker::Model;
 
 // A contract sees the road that the slices stand for.
-#[derive(Drop)]
-pub struct LentRoad<'a> {
-    pub words: &'a [u16],
+#[derive(Clone, Drop)]
+pub struct LentRoad<'w, 'a> {
+    pub words: &'w [u16],
     pub numbers: &'a [f64],
 }
 
-impl<'a> Model for LentRoad<'a> {
+impl<'w, 'a> Model for LentRoad<'w, 'a> {
     ghost use Rattle.records.specs.Roads.{Road, road_of};
 
     ghost Value = { Road };
@@ -33,8 +33,8 @@ fn flat<'a>(words: &[u16], numbers: &'a [f64], base: usize, count_at: usize) -> 
     Cubics::of_table(numbers, base, 0, word(words, count_at))
 }
 
-impl<'a> LentRoad<'a> {
-    pub fn new(words: &'a [u16], numbers: &'a [f64]) -> LentRoad<'a>
+impl<'w, 'a> LentRoad<'w, 'a> {
+    pub fn new(words: &'w [u16], numbers: &'a [f64]) -> LentRoad<'w, 'a>
         ensures { result ≡ road_of words.now numbers.now }
     {
         LentRoad { words, numbers }

@@ -10,7 +10,7 @@ use records_lent::{Lines, word};
 use records_sections::lane_count;
 
 // A side's lanes, from the center outward.
-pub type LentSide<'a> = Lines<'a, &'a [f64], LentLane<'a>>;
+pub type LentSide<'w, 'a> = Lines<'w, &'a [f64], LentLane<'a>>;
 
 // The line of the lane table where a side's lanes begin. It takes the words: a road's model has lanes by section and side, and no lines.
 fn side_line(words: &[u16], section: usize, right: bool) -> usize
@@ -29,7 +29,7 @@ fn side_line(words: &[u16], section: usize, right: bool) -> usize
 }
 
 // The lanes of a section right of the center, or left of it.
-pub fn side_lanes<'a>(road: &LentRoad<'a>, section: usize, right: bool) -> LentSide<'a>
+pub fn side_lanes<'w, 'a>(road: &LentRoad<'w, 'a>, section: usize, right: bool) -> LentSide<'w, 'a>
     ensures { result ≡ cond right (section_of road.now section).right (section_of road.now section).left }
 {
     let first = side_line(road.words, section, right);
@@ -38,7 +38,7 @@ pub fn side_lanes<'a>(road: &LentRoad<'a>, section: usize, right: bool) -> LentS
 }
 
 // The lane at a place, one without extents and heights where there is none.
-pub fn lane<'a>(road: &LentRoad<'a>, place: LanePlace) -> LentLane<'a>
+pub fn lane<'a>(road: &LentRoad<'_, 'a>, place: LanePlace) -> LentLane<'a>
     ensures { result ≡ lane_of road.now place.section place.right place.k }
 {
     side_lanes(road, place.section, place.right).get(place.k)

@@ -1,5 +1,5 @@
 // Lines of a table in lent words and numbers, one after another.
-ghost use Rattle.std.specs.Prelude.{◌≡◌, ◌+◌, ◌<◌, ◌^◌, ℕ, List, length, get_or};
+ghost use Rattle.std.specs.Prelude.{◌≡◌, ◌+◌, ◌-◌, ◌<◌, ◌^◌, ℕ, List, length, get_or, min};
 ghost use Rattle.std.specs.Iterator.{YieldsFirst, item_count};
 ghost use Rattle.records_lent.specs.Lists.{tabulate};
 
@@ -43,9 +43,10 @@ impl<'a, N: Copy, T: Line<N>> Model for Lines<'a, N, T> {
 }
 
 impl<'a, N: Copy, T: Line<N>> Lines<'a, N, T> {
-    // They end where the numbers of lines do, in 32 bits, if they come so far: no table has so many.
+    // They are fewer where their end would be no number in 32 bits: no table has so many.
     pub fn new(words: &'a [u16], numbers: N, first: u32, count: u16) -> Self
-        ensures { first + count < 2 ^ 32 → result ≡ tabulate (λ (k : ℕ). T.at words.now numbers (first + k)) count }
+        ensures lines { result ≡ tabulate (λ (k : ℕ). T.at words.now numbers (first + k)) (min count (2 ^ 32 - 1 - first)) }
+        ensures whole { first + count < 2 ^ 32 → result ≡ tabulate (λ (k : ℕ). T.at words.now numbers (first + k)) count }
     {
         Lines {
             words,

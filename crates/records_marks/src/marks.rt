@@ -9,10 +9,10 @@ use records_lent::{Lines, raw_word};
 use records_sections::{section_count, section_start};
 
 // Marks one after another in the mark table.
-pub type LentMarks<'a> = Lines<'a, &'a [f64], Mark>;
+pub type LentMarks<'w, 'a> = Lines<'w, &'a [f64], Mark>;
 
 // The marks of a section.
-pub fn section_marks<'a>(road: &LentRoad<'a>, section: usize) -> LentMarks<'a>
+pub fn section_marks<'w, 'a>(road: &LentRoad<'w, 'a>, section: usize) -> LentMarks<'w, 'a>
     ensures { result ≡ (section_of road.now section).marks }
 {
     if section < section_count(road) {

@@ -28,7 +28,7 @@ pub(crate) fn no_cubics<'a>() -> Cubics<'a>
     Cubics::new(&[])
 }
 
-pub fn shapes<'a>(road: &LentRoad<'a>, i: usize) -> Cubics<'a>
+pub fn shapes<'a>(road: &LentRoad<'_, 'a>, i: usize) -> Cubics<'a>
     ensures { result ≡ (profile_at road.now i).shapes }
 {
     if i < profile_count(road) {

@@ -15,14 +15,14 @@ use std::marker::Model;
 
 // A strip that is there: whether it stands on the inner one's edge, and its columns, which are found by its line when they are asked for.
 #[derive(Drop)]
-pub struct LentStrip<'a> {
+pub struct LentStrip<'w, 'a> {
     pub relative: bool,
-    words: &'a [u16],
+    words: &'w [u16],
     numbers: &'a [f64],
     line: usize,
 }
 
-impl<'a> Model for LentStrip<'a> {
+impl<'w, 'a> Model for LentStrip<'w, 'a> {
     ghost use Rattle.std.specs.Prelude.{◌<◌};
     ghost use Rattle.records.specs.Roads.{StripDef};
     ghost use Rattle.records_shapes.specs.Strips.{strip_def_in};
@@ -34,7 +34,7 @@ impl<'a> Model for LentStrip<'a> {
     ghost invariant = { λ strip. strip.line < 4 };
 }
 
-impl<'a> LentStrip<'a> {
+impl<'w, 'a> LentStrip<'w, 'a> {
     // The cubics of a column: the width is the first, a term the one after its power. None past the last.
     pub fn column(&self, column: usize) -> Cubics<'a>
         ensures { result ≡ column_by self.now column }
@@ -63,7 +63,7 @@ impl<'a> LentStrip<'a> {
 }
 
 // The i-th strip (left inner, left outer, right inner, right outer), if it is there.
-pub fn strip<'a>(road: &LentRoad<'a>, i: usize) -> Option<LentStrip<'a>>
+pub fn strip<'w, 'a>(road: &LentRoad<'w, 'a>, i: usize) -> Option<LentStrip<'w, 'a>>
     ensures { strip_of result ≡ strip_at road.now i }
 {
     let words = road.words;

@@ -6,5 +6,5 @@ use Rattle.records_lanes.proofs.sides.side_lanes.Goals as goal
 pub returns : goal.returns
 returns c =
     let r = c.road.inside in
-    rw (c.new.ensures (omega (arith, c.side_line-first.ensures.small, c.lane_count-count.ensures.small)), c.side_line-first.ensures.value, c.lane_count-count.ensures.value, ← c.road.view_is)
+    rw (c.new.ensures.whole (omega (arith, c.side_line-first.ensures.small, c.lane_count-count.ensures.small)), c.side_line-first.ensures.value, c.lane_count-count.ensures.value, ← c.road.view_is)
     (side_table r.words.now r.numbers.now c.args.section c.args.right)

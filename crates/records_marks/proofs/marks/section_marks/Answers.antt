@@ -9,11 +9,11 @@ pub returns-then-section-section_count : goal.returns-then-section-section_count
 returns-then-section-section_count c =
     let r = c.road.inside in
     let n = section_count_read r.words.now r.numbers.now c.section_count.ensures.value c.road.view_is in
-    rw (← c.road.view_is) (c.new.ensures (omega (arith, c.from.ensures, c.raw_word-first.type_inv, c.raw_word-count.type_inv)) ∙ marks_in r.words.now r.numbers.now c.args.section (omega arith) (c.from.ensures ∙ c.raw_word-first.ensures) c.raw_word-count.ensures)
+    rw (← c.road.view_is) (c.new.ensures.whole (omega (arith, c.from.ensures, c.raw_word-first.type_inv, c.raw_word-count.type_inv)) ∙ marks_in r.words.now r.numbers.now c.args.section (omega arith) (c.from.ensures ∙ c.raw_word-first.ensures) c.raw_word-count.ensures)
 
 pub returns-else-section-section_count : goal.returns-else-section-section_count
 unfolding tabulate
 returns-else-section-section_count c =
     let r = c.road.inside in
     let n = section_count_read r.words.now r.numbers.now c.section_count.ensures.value c.road.view_is in
-    rw (← c.road.view_is) (c.new-else-section-section_count.ensures (omega arith) ∙ marks-past r.words.now r.numbers.now c.args.section (omega arith))
+    rw (← c.road.view_is) (c.new-else-section-section_count.ensures.whole (omega arith) ∙ marks-past r.words.now r.numbers.now c.args.section (omega arith))
