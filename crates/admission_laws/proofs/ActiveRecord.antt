@@ -1,14 +1,14 @@
--- What it says that a record is the active one: it is there, its start is reached, and the next one's is not. By induction along the scan.
-use Prim.Native.Nat.{ℕ, zero, suc, ◌+◌, ◌<◌}
+-- What it says that a record is the active one: it is there, its start is reached, and the next one's is not. By induction along the scan. And starts past the limit, or past a list's end, decide nothing.
+use Prim.Native.Nat.{ℕ, zero, suc, ◌+◌, ◌*◌, ◌≤◌, ◌<◌}
 use native.Mathlib.Omega.{arith}
 use mathlib.Core.Path.{◌≡◌, refl, sym, ap, ◌∙◌, subst}
 use mathlib.Core.Bool.{Bool, true, false, not, cond}
 use mathlib.Core.List.{List}
 use mathlib.Core.Logic.{⊎_elim}
 use native.Mathlib.Nat.{eq-or-lt_of_le, le_of_suc-le-suc, not-suc-le-zero}
-use lib.ListN.{length}
+use lib.ListN.{length, get_or, get_or-eq_default}
 use lib.Dec.{T}
-use lib.Ieee.{Float, le}
+use lib.Ieee.{Float, nan, le}
 use Rattle.records_cubic.specs.declared.cubics.Cubic.{Cubic}
 use Rattle.std.specs.declared.option.Option.{Option}
 use Rattle.std.specs.declared.option.Option.TheVariants.{Some, None}
@@ -78,3 +78,29 @@ module _ (start : ℕ → Float) (limit : Float) where
 pub active-at : (cs : List Cubic) (s : Float) (i : ℕ) → active_in cs s ≡ Some i → Active (λ k. (cubic_at cs k).start) (active_up_to s) (length cs) i
 unfolding active_in
 active-at cs s i e = found_at (λ k. (cubic_at cs k).start) (active_up_to s) (length cs) i e
+
+-- ---- starts that decide nothing
+
+-- those past the limit, from the m-th on
+past-none :
+    (f : ℕ → Float) (limit : Float) (m n : ℕ) → m ≤ n → ((i : ℕ) → m ≤ i → i < n → le (f i) limit ≡ false)
+    → last_start f limit m ≡ last_start f limit n
+unfolding last_start last_that
+past-none f limit m zero h k = let e : m ≡ 0 = omega arith in rw e
+past-none f limit m (suc n) h k =
+    ⊎_elim
+    (λ (e : m ≡ suc n). ap (last_start f limit) e)
+    (λ (l : m < suc n). past-none f limit m n (omega arith) (λ i a b. k i a (omega arith)) ∙ (let e = k n (omega arith) (omega arith) in rw e))
+    (eq-or-lt_of_le h)
+
+nan-past : (limit : Float) → le nan limit ≡ false
+unfolding le
+nan-past limit = refl
+
+-- of a table in a list, those past the list's end
+pub past_end :
+    (xs : List Float) (base stride : ℕ) (limit : Float) (m n : ℕ) → m ≤ n → ((i : ℕ) → m ≤ i → i < n → length xs ≤ base + i * stride)
+    → last_start (λ (i : ℕ). get_or xs (base + i * stride) nan) limit m ≡ last_start (λ (i : ℕ). get_or xs (base + i * stride) nan) limit n
+past_end xs base stride limit m n h k =
+    past-none (λ (i : ℕ). get_or xs (base + i * stride) nan) limit m n h
+    (λ i l u. ap (λ (x : Float). le x limit) (get_or-eq_default xs nan (k i l u)) ∙ nan-past limit)

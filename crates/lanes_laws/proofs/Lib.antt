@@ -3,6 +3,7 @@ pub mod StationBounds
 pub mod StripBounds
 pub mod LateralBounds
 pub mod AdmittedRoad
+pub mod WidthsKept
 pub mod BordersKept
 pub mod LaneSizesKept
 pub mod RoadHeights

@@ -1,20 +1,21 @@
--- How large a cross section's height can be: past the inner strip's width the sum of two strips'.
--- The idea: where the outer strip counts, the inner one's edge lies between the ridge and t, so each strip is asked for no farther out than t. Over the format where no definition is named.
+-- How large a cross section's height can be: a strip's by Horner's rule over the sizes of its terms, and past the inner strip's width the sum of two strips'.
+-- The idea of the second: where the outer strip counts, the inner one's edge lies between the ridge and t, so each strip is asked for no farther out than t. Over the format where no definition is named.
 use mathlib.Core.Path.{◌≡◌, refl, sym, subst}
 use mathlib.Core.Logic.{◌⊎◌, inl, inr}
-use Prim.Native.Nat.{ℕ, ◌+◌, ◌≤◌, ◌<◌, zero-le}
-use native.Mathlib.Nat.{le_trans, le_of_eq}
+use Prim.Native.Nat.{ℕ, ◌+◌, ◌*◌, ◌^◌, ◌≤◌, ◌<◌, zero-le}
+use native.Mathlib.Nat.{le_trans, le_of_eq, mul-le-mul_right}
 use native.Mathlib.Omega.{arith}
 use mathlib.Core.Bool.{Bool, true, false, cond}
 use lib.Dec.{T}
 use lib.Pow.{pow_pos}
-use lib.Ieee.{Float, nan, inf, fin, Format, binary64, lt, sub, mul, fits, of_bits}
+use lib.Ieee.{Float, nan, inf, fin, Format, binary64, low, lt, le, add, sub, mul, fits, of_bits}
 use lib.Ieee.Fits.{add-fits}
 use lib.Ieee.Scale.{finite, overflow}
 use Rattle.float_laws.specs.Binary64.{◌⊕◌, ◌⊖◌, ◌⊗◌, zero64}
+use Rattle.float_laws.proofs.Units.{rnd-zero}
 use Rattle.float_laws.proofs.Value.{mag, pl, mi, Real, mag_is, one_side, under, lt→units}
-use Rattle.float_laws.proofs.Operation.{sub-Is}
-use Rattle.float_laws.proofs.Size.{Within, is-bounded, add-within, le_of-within, within-mono, nn, nn-of_le}
+use Rattle.float_laws.proofs.Operation.{differ-le, mul-differ, add-Is, sub-Is, mul-Is}
+use Rattle.float_laws.proofs.Size.{Within, is-bounded, add-within, mul-within, le_of-within, within-mono, add-fin, mul-fin, nn, nn-of_le, add-nn, mul-nn, fin-of_le}
 use Rattle.float_laws.proofs.Exact.{fixed, add-grow-l}
 use Rattle.float_laws.proofs.Checker.{good-real}
 use Rattle.std.specs.declared.option.Option.{Option}
@@ -23,15 +24,73 @@ use Rattle.records_cubic.specs.Cubics.{cubic_at, eval_at}
 use Rattle.records.specs.Active.{active_in, value_in}
 use Rattle.records.specs.Roads.{Road, Strip, StripDef, absent, present, strip_at}
 use Rattle.arithmetic_ranges.specs.Ranges.{width_or_zero}
-use Rattle.lanes.specs.Lateral.{strip_height, outer_height, past_width, by_width, by_side, is_left, cross_by, cross_height}
+use Rattle.lanes.specs.Lateral.{term_at, strip_height, outer_height, past_width, by_width, by_side, is_left, cross_by, cross_height}
 use Rattle.lanes.specs.Sides.{sign_of}
 use Rattle.lanes_borders.proofs.Outward.{fore, back, SideSign, turned}
 use Rattle.lanes_borders.proofs.BorderLaws.{sign-whole}
 use Rattle.lanes_laws.proofs.StationBounds.{zero-within}
 
+-- ---- a strip by its terms
+
+-- nothing times x is nothing, and nothing more than y is no larger than y
+zero-times : (f : Format) (z x : Float) → Real f z → mag f z ≤ 0 → Real f x → Real f (mul f z x) × (mag f (mul f z x) ≤ 0)
+zero-times f z x rz h rx =
+    let L = 2 ^ low f in
+    let d = differ-le _ _ _ (mul-differ f z x) in
+    let g : mag f z * mag f x ≤ 0 = le_trans (mul-le-mul_right (mag f x) h) (let o : 0 * mag f x ≤ 0 = omega arith in o) in
+    let e = rnd-zero f L (pow_pos (low f)) in
+    let u = under f z rz in
+    let b = is-bounded f (mul f z x) _ _ L 0 (pow_pos (low f)) (mul-Is f z x rz rx) (le_trans d.0 g) (le_trans d.1 g) (subst (λ (k : ℕ). k < overflow f) (sym e) (let o : 0 < overflow f = omega arith in o)) in
+    (b.0, le_trans b.1 (le_of_eq e))
+
+nothing-more : (f : Format) (x y A : Float) → Real f x → mag f x ≤ 0 → Within f y A → Within f (add f x y) A
+nothing-more f x y A r z w =
+    let m = mag_is f x in
+    let n = mag_is f y in
+    let e = fixed f y w.value in
+    let b = is-bounded f (add f x y) (pl f x + pl f y) (mi f x + mi f y) 1 (mag f y) (pow_pos 0) (add-Is f x y r w.value) (omega arith) (omega arith) (subst (λ (k : ℕ). k < overflow f) (sym e) (under f y w.value)) in
+    record { value = b.0; bound = w.bound; plus = w.plus; le = le_trans b.1 (le_trans (le_of_eq e) w.le) }
+
+-- the sum of the terms' sizes, dt at most R
+abbrev pub horner : Float → Float → Float → Float → Float → Float
+horner c3 c2 c1 c0 R = ((c3 ⊗ R ⊕ c2) ⊗ R ⊕ c1) ⊗ R ⊕ c0
+
 zero-real : Real binary64 zero64 × (mag binary64 zero64 ≤ 0)
 unfolding of_bits fits mag
 zero-real = (good-real binary64 zero64 tt, zero-le)
+
+-- a strip whose terms are within T3, T2, T1 and T0, dt across it
+pub strip-within :
+    (d : StripDef) (s dt T3 T2 T1 T0 R : Float) → Within binary64 (term_at d s 3) T3 → Within binary64 (term_at d s 2) T2 → Within binary64 (term_at d s 1) T1 → Within binary64 (term_at d s 0) T0
+    → Within binary64 dt R → T (finite (horner T3 T2 T1 T0 R)) → Within binary64 (strip_height d s dt) (horner T3 T2 T1 T0 R)
+unfolding strip_height
+strip-within d s dt T3 T2 T1 T0 R w3 w2 w1 w0 wd t =
+    let z = zero-times binary64 zero64 dt zero-real.0 zero-real.1 wd.value in
+    let t1 = (add-fin binary64 _ T0 t).0 in
+    let t2 = (mul-fin binary64 _ R t1).0 in
+    let t3 = (add-fin binary64 _ T1 t2).0 in
+    let t4 = (mul-fin binary64 _ R t3).0 in
+    let t5 = (add-fin binary64 _ T2 t4).0 in
+    let h3 = nothing-more binary64 (zero64 ⊗ dt) (term_at d s 3) T3 z.0 z.1 w3 in
+    let h2 = add-within binary64 _ _ _ _ (mul-within binary64 _ _ _ _ h3 wd t5) w2 t4 in
+    let h1 = add-within binary64 _ _ _ _ (mul-within binary64 _ _ _ _ h2 wd t3) w1 t2 in
+    add-within binary64 _ _ _ _ (mul-within binary64 _ _ _ _ h1 wd t1) w0 t
+
+-- what bounds a strip's term, or how far out it is asked for, has no minus
+pub nn-of : (x A : Float) → Within binary64 x A → T (nn A)
+nn-of x A w = let l = le_of-within binary64 x A w in nn-of_le binary64 x A w.value.fits w.bound.fits l.0 l.1
+
+-- the same by the test of admission: that sum is at most H
+pub strip-admitted :
+    (d : StripDef) (s dt T3 T2 T1 T0 R H : Float) → Within binary64 (term_at d s 3) T3 → Within binary64 (term_at d s 2) T2 → Within binary64 (term_at d s 1) T1 → Within binary64 (term_at d s 0) T0
+    → Within binary64 dt R → Real binary64 H → T (le (horner T3 T2 T1 T0 R) H) → Within binary64 (strip_height d s dt) H
+strip-admitted d s dt T3 T2 T1 T0 R H w3 w2 w1 w0 wd r h =
+    let times : (x : Float) → T (nn x) → T (nn (x ⊗ R)) = λ x n. mul-nn binary64 x R n (nn-of dt R wd) in
+    let n2 = add-nn binary64 _ _ (times T3 (nn-of _ _ w3)) (nn-of _ _ w2) in
+    let n1 = add-nn binary64 _ _ (times (T3 ⊗ R ⊕ T2) n2) (nn-of _ _ w1) in
+    let n0 = add-nn binary64 _ _ (times ((T3 ⊗ R ⊕ T2) ⊗ R ⊕ T1) n1) (nn-of _ _ w0) in
+    let t = fin-of_le (horner T3 T2 T1 T0 R) H n0 r.finite h in
+    within-mono binary64 (strip_height d s dt) (horner T3 T2 T1 T0 R) H (strip-within d s dt T3 T2 T1 T0 R w3 w2 w1 w0 wd t) r h
 
 -- ---- the edge o * w between 0 and t, and the way from it to t, where o is 1 or -1
 module _ (f : Format) where
@@ -94,10 +153,6 @@ width-real v y g t = go (lt zero64 v) (λ h. h)
     go false h k = (zero-real.0, zero-parts.1)
 
 -- ---- the cross section
--- what bounds a strip's term, or how far out it is asked for, has no minus
-pub nn-of : (x A : Float) → Within binary64 x A → T (nn A)
-nn-of x A w = let l = le_of-within binary64 x A w in nn-of_le binary64 x A w.value.fits w.bound.fits l.0 l.1
-
 -- the strip d is within H at s, as far out as R
 abbrev pub StripWithin : Float → Float → Float → StripDef → Type 0
 StripWithin s R H d = (dt : Float) → Within binary64 dt R → Within binary64 (strip_height d s dt) H

@@ -53,6 +53,8 @@ pub const SIDES: usize = GEOM_KINDS + 3;
 
 pub const TERMS: usize = GEOM_KINDS + 4;
 
+pub const LIST_COUNT: usize = TABLE_COUNT + 5;
+
 // What a column holds, by its number: an f64, a whole number, or a word of a list: a geometry's kind; an extent's; the words 0 and 1; a side; a term.
 #[derive(Clone, Copy, Debug, PartialEq, Eq)]
 pub enum Kind {
@@ -69,6 +71,13 @@ pub enum Kind {
 pub const NUMBERS: usize = 0;
 
 pub const WHOLES: usize = 1;
+
+// The same two, and the first list of keywords, as bytes.
+pub const NUMBER: u8 = NUMBERS as u8;
+
+pub const WHOLE: u8 = WHOLES as u8;
+
+pub const SHAPE_KINDS: u8 = GEOM_KINDS as u8;
 
 // The number of a kind: the list of its words, `NUMBERS` or `WHOLES` where it has none. Those two are also the lists of two tables' column
 // names: no column holds such a name, so as a kind's number each has one meaning.
