@@ -1,12 +1,14 @@
 // Lines of the list, in turn: each changes the road or what is lent of it, or asks.
 //
 // tools/lists/src/bin/admission/main.rs says what each letter means.
+ghost use Rattle.std.specs.Prelude.{◌≡◌, length};
+
 use crate::calls::Call;
 use line_samples::{SAMPLE_STRIDE, SAMPLES_NEEDED};
+use program_input::read_full;
 use reader_hex::of_bits;
 use records::layout::{NUMBERS_NEEDED, WORDS_NEEDED};
 use std::io;
-use std::io::Read;
 use test_support::{Counts, LINE_LENGTH, Line, line_of, put};
 
 // What is lent may be a little more than a road needs.
@@ -15,6 +17,16 @@ const WORDS_ROOM: usize = WORDS_NEEDED + 3;
 const NUMBERS_ROOM: usize = NUMBERS_NEEDED + 3;
 
 const SAMPLES_ROOM: usize = SAMPLES_NEEDED + SAMPLE_STRIDE;
+
+// No whole number of lines, so that a list which is too long shows a broken line.
+const LIST_ROOM: usize = 400_000;
+
+// A function, whose clause says the length alone: a proof that knows the zeros too goes through each of them.
+fn list_space() -> [u8; LIST_ROOM]
+    ensures { 400000 ≡ length result }
+{
+    [0; LIST_ROOM]
+}
 
 #[derive(Clone, Copy)]
 struct Road {
@@ -130,11 +142,11 @@ impl Replay {
 
 // Bytes after the last whole line are a line that breaks the form.
 // test_support/src/lines.rt says why the list is read and split here.
-pub(crate) fn run(rt: &(impl Input + Print + Alloc)) -> io::Result<()> {
-    let mut list = Vec::new(rt.alloc());
-    rt.reader().read_to_end(&mut list)?;
+pub(crate) fn run(rt: &(impl Input + Print)) -> io::Result<()> {
+    let mut list = list_space();
+    let n = read_full(&mut rt.reader(), &mut list);
     let mut replay = Replay::new();
-    for line in list.chunks(LINE_LENGTH) {
+    for line in list[..n].chunks(LINE_LENGTH) {
         replay.apply(rt, line_of(line))?;
     }
     println!(rt;

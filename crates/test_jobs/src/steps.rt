@@ -7,9 +7,12 @@
 //     l w n   the next case lends w words and n numbers
 //     r v k   the case numbered k is run, with v wants lent; then the text is empty
 use crate::cases::{Lent, case_of};
-use std::io::Read;
+use program_input::read_full;
 use std::{io, mem};
 use test_support::{LINE_LENGTH, Line, Text, extend, line_of};
+
+// So many lines are read at a time: a list has no limit, and what is written for a block is written before the next one is read.
+const BLOCK_LENGTH: usize = 1024 * LINE_LENGTH;
 
 #[derive(Drop)]
 struct Replay {
@@ -76,12 +79,18 @@ impl Replay {
 
 // Bytes after the last whole line are a line that breaks the form.
 // test_support/src/lines.rt says why the list is read and split here.
-pub(crate) fn run(rt: &(impl Input + Print + Alloc)) -> io::Result<()> {
-    let mut list = Vec::new(rt.alloc());
-    rt.reader().read_to_end(&mut list)?;
+pub(crate) fn run(rt: &(impl Input + Print)) -> io::Result<()> {
+    let mut block = [0; BLOCK_LENGTH];
     let mut replay = Replay::new();
-    for line in list.chunks(LINE_LENGTH) {
-        replay.apply(rt, line_of(line))?;
+    // A proved loop has to end, and nothing says that the input does: the turns are more than any run takes.
+    for _ in 0..u64::MAX {
+        let n = read_full(&mut rt.reader(), &mut block);
+        for line in block[..n].chunks(LINE_LENGTH) {
+            replay.apply(rt, line_of(line))?;
+        }
+        if n < BLOCK_LENGTH {
+            break;
+        }
     }
     println!(rt; "{} cases, {} broken lines", replay.cases, replay.broken)
 }

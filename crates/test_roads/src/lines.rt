@@ -1,15 +1,27 @@
 // Lines of the list, in turn: each puts a word or a number into memory, sets what calls share, or asks.
 //
 // tools/lists/src/bin/roads/main.rs says what each letter means.
+ghost use Rattle.std.specs.Prelude.{◌≡◌, length};
+
 use crate::answers::{Fill, Question, lent_number};
 use crate::calls::Call;
 use crate::patterns::pattern;
 use line_samples::SAMPLES_NEEDED;
+use program_input::read_full;
 use reader_hex::of_bits;
 use records::layout::{NUMBERS_NEEDED, WORDS_NEEDED};
 use std::io;
-use std::io::Read;
 use test_support::{LINE_LENGTH, Line, line_of, put};
+
+// Room for 18,000 lines; what a longer list has past them is not read.
+const LIST_ROOM: usize = 648_000;
+
+// A function, whose clause says the length alone: a proof that knows the zeros too goes through each of them.
+fn list_space() -> [u8; LIST_ROOM]
+    ensures { 648000 ≡ length result }
+{
+    [0; LIST_ROOM]
+}
 
 #[derive(Drop)]
 struct Replay {
@@ -108,12 +120,13 @@ impl Replay {
     }
 }
 
-// Every whole line of the list. test_support/src/lines.rt says why the list is read and split here.
-pub(crate) fn run(rt: &(impl Input + Print + Alloc)) -> io::Result<()> {
-    let mut list = Vec::new(rt.alloc());
-    rt.reader().read_to_end(&mut list)?;
+// Every whole line of the list.
+// test_support/src/lines.rt says why the list is read and split here.
+pub(crate) fn run(rt: &(impl Input + Print)) -> io::Result<()> {
+    let mut list = list_space();
+    let n = read_full(&mut rt.reader(), &mut list);
     let mut replay = Replay::new();
-    for bytes in list.chunks_exact(LINE_LENGTH) {
+    for bytes in list[..n].chunks_exact(LINE_LENGTH) {
         let known = match line_of(bytes) {
             Some(line) => replay.apply(rt, line)?,
             None => false,

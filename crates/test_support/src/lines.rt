@@ -3,7 +3,7 @@
 // A letter is made a program's own enum by a function `named`, no `TryFrom`: its error would say no more than `None` does, and callers only ask
 // whether there is a call of that letter.
 //
-// Each program reads its list and splits it into lines by itself: where two do it alike, it is std's `read_to_end` and `chunks`, a line each.
+// Each program reads its list and splits it into lines by itself: where two do it alike, it is `read_full` and `chunks`, a line each.
 ghost use Rattle.std.specs.Prelude.{◌≡◌};
 ghost use Rattle.test_support.specs.Lines.{line_of};
 

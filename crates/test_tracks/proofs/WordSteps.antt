@@ -1,5 +1,5 @@
 -- The words of a line, one more a turn; and the number of eight digits fits 32 bits.
-use Rattle.std.proofs.Common.{◌≡◌, ℕ, zero, suc, ◌+◌, ◌*◌, ◌/◌, ◌%◌, ◌^◌, ◌<◌, Bool, true, false, cond, ◌&&◌, List, length, ◌++◌, [], ◌∷◌, refl, sym, ap, ◌∙◌, arith, ne_eqb, eq-eqb}
+use Rattle.std.proofs.Common.{◌≡◌, ℕ, zero, suc, ◌+◌, ◌*◌, ◌/◌, ◌%◌, ◌^◌, ◌<◌, ◌≤◌, Bool, true, false, cond, ◌&&◌, List, length, ◌++◌, [], ◌∷◌, refl, sym, ap, ◌∙◌, arith, ne_eqb, eq-eqb, leb-true}
 use borrow.Author.Tests.{ltb-true, ltb-false}
 use Rattle.std.specs.declared.option.Option.{Option}
 use Rattle.std.specs.declared.option.Option.TheVariants.{None, Some}
@@ -63,6 +63,9 @@ module _ (line : List ℕ) where
   pub all_words : {xs : List ℕ} → eqb (length line % 9) 1 && leb (length line / 9) most_words ≡ true → Some xs ≡ first_words line (length line / 9) → Some xs ≡ words_in line
   unfolding words_in
   all_words e h = rw (e, ← h)
+
+  pub few_words : eqb (length line % 9) 1 && leb (length line / 9) most_words ≡ true → length line / 9 ≤ 1600
+  few_words e = leb-true (length line / 9) most_words (and-snd (eqb (length line % 9) 1) (leb (length line / 9) most_words) e)
 
   pub no_line : eqb (length line % 9) 1 && leb (length line / 9) most_words ≡ false → None ≡ words_in line
   unfolding words_in

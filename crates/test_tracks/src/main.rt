@@ -12,7 +12,7 @@ mod words;
 use std::io;
 
 fn main(rt: HostRuntime) -> io::Result<()> {
-    let tally = lines::run(&rt, rt.alloc())?;
+    let tally = lines::run(&rt);
     println!(rt; "tangents {}", tally.tangents)?;
     println!(rt; "pose {}", tally.pose)?;
     println!(rt; "project {}", tally.project)?;

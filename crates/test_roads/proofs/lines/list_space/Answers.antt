@@ -1,0 +1,7 @@
+-- One value, so many times.
+use Rattle.std.proofs.Common.{ℕ, sym}
+use lib.ListN.{length-replicate}
+use Rattle.test_roads.proofs.lines.list_space.Goals as goal
+
+pub returns : goal.returns
+returns c = sym (length-replicate {A = ℕ} 648000 0)
