@@ -1,14 +1,14 @@
 -- The rounding of a count. In units, `nearest_away` is the k with k ≤ |x| + 1/2 < k + 1; the sum with 2 ^ 52 gives a nearest n, which is that k but where x is n + 1/2.
 -- The product lies within 800,000, where the library's rounding and its cast are the definition's too. The only laws that know the tie rule are `away-is`, `case-half`, `case-keeps` and `rounded_is`. Assumes nothing.
 use mathlib.Core.Path.{◌≡◌, refl, sym, ap, ◌∙◌, subst}
-use Prim.Native.Nat.{ℕ, zero, suc, ◌+◌, ◌-◌, ◌*◌, ◌/◌, ◌^◌, ◌≤◌, ◌<◌}
-use native.Mathlib.Nat.{le_trans, le_of_eq, lt_of_le_of_lt, le_of_suc-le-suc, lt_of_not-le, mul-le-mul_right, mul-lt-mul_of_pos_right, lt_of_mul-lt-mul_right, le_of_mul-le-mul_right, div-lt_iff_lt-mul, div-eq_of_lt-le, zero-mul, suc-mul, lt_irrefl}
+use Prim.Native.Nat.{ℕ, zero, suc, ◌+◌, ◌-◌, ◌*◌, ◌^◌, ◌≤◌, ◌<◌}
+use native.Mathlib.Nat.{le_trans, le_of_eq, lt_of_le_of_lt, le_of_suc-le-suc, lt_of_not-le, mul-le-mul_right, mul-lt-mul_of_pos_right, lt_of_mul-lt-mul_right, le_of_mul-le-mul_right, div-lt_iff_lt-mul, zero-mul, suc-mul, lt_irrefl}
 use native.Mathlib.Omega.{arith}
 use mathlib.Core.Bool.{Bool, true, false, not}
 use lib.Dec.{T, lit≤, lit<, le→leb, lt→ltb, T_not}
 use lib.Pow.{pow_pos}
 use lib.IntN.{ℤ, pos, negsuc, neg_ℤ, nat_abs, ◌-ℤ◌, +ℤ_idl}
-use lib.Ieee.{Float, nan, inf, fin, Format, binary32, binary64, prec, low, up, down, hid, add, sub, neg, mul, lt, le, fits, is_nan, to_bits, of_bits, of_int, in_float, to_signed, round}
+use lib.Ieee.{Float, nan, inf, fin, Format, binary32, binary64, prec, low, up, down, hid, add, neg, mul, lt, le, fits, is_nan, to_bits, of_bits, of_int, in_float, to_signed, round}
 use lib.Ieee.Positive.{num, den, den_pos}
 use lib.Ieee.Scale.{finite}
 use lib.Ieee.Fits.{add-fits, and_l, and_r}
@@ -23,19 +23,15 @@ use Rattle.float_laws.proofs.Value.{mag, pl, mi, Real, mag_is, units_of, le→un
 use Rattle.float_laws.proofs.Interval.{nil, nil-real, nil-pl, nil-mi, finite-between, from_zero}
 use Rattle.float_laws.proofs.Size.{Within, within-of_le, le_of-within, mul-within}
 use Rattle.float_laws.proofs.Whole.{Steps, Whole, Nearest, nearest-is, twice_hid, steps-add}
+use Rattle.arithmetic_sine.proofs.FloorLaws.{cut-plus, nearby}
+use Rattle.arithmetic_sine.proofs.FloorCases.{real-no_nan}
 use Rattle.refusals.specs.Answer.{value, refused}
 use Rattle.arithmetic_ranges.specs.Ranges.{in_range}
 use Rattle.arithmetic_counts.specs.Count.{nearest_away, nearest_whole, greatest_counted, counts_per_metre, counts_call}
 use Rattle.arithmetic_counts.specs.CountSizes.{CountSizes}
 use Rattle.arithmetic_counts.proofs.WholeReach.{reach-plus}
 
--- ---- the definition, in units: the whole part of num / d, which is M / U
-cut-plus : (num d M U k : ℕ) → 0 < U → num * U ≡ M * d → 0 < d → k * U ≤ M → M < k * U + U → num / d ≡ k
-cut-plus num d M U k u e D h l =
-    let a : k * d * U ≤ num * U = let b = mul-le-mul_right d h in omega arith in
-    let c : num * U < (k + 1) * d * U = let b = mul-lt-mul_of_pos_right l D in omega arith in
-    div-eq_of_lt-le d (le_of_mul-le-mul_right a u) (lt_of_mul-lt-mul_right U c)
-
+-- ---- the definition, in units
 pub away-is : (f : Format) (x : Float) (k : ℕ) → Real f x → k * (2 * 2 ^ low f) ≤ 2 * mag f x + 2 ^ low f → 2 * mag f x + 2 ^ low f < k * (2 * 2 ^ low f) + 2 * 2 ^ low f → nearest_away (num x) (den x) ≡ k
 unfolding nearest_away
 away-is f x k r h l =
@@ -66,15 +62,6 @@ away-le f x a r h =
     under n d M U a e h = omega arith
 
 -- ---- the code: n = (x + c) - c with c = hid f, and n + 1/2 against x
-abbrev nearby : Format → Float → Float → Float
-nearby f x c = sub f (add f x c) c
-
-real-no_nan : (f : Format) (x : Float) → Real f x → T (not (is_nan x))
-unfolding is_nan
-real-no_nan f nan r = r.finite
-real-no_nan f (inf s) r = tt
-real-no_nan f (fin s m e) r = tt
-
 abbrev pub half : Float
 half = fin false 1 (negsuc 0)
 

@@ -37,7 +37,7 @@ use Rattle.lanes_laws.proofs.WholeSizes.{AtMost, at_most-of, at_most-more, at_mo
 -- ---- the constants
 
 -- 36 and 80
-abbrev widest : Float
+abbrev pub widest : Float
 widest = f64 0x405d_0000_0000_0000
 
 -- 840
@@ -107,7 +107,7 @@ raised-within w h = go (lt zero64 w)
     go false = zero-widest
 
 -- a width lane's is at most 8, a border lane's 36 and 80
-width-most : (lane : Lane) (right : Bool) (inner s : Float) → ExtentWithin lane s → Within binary64 inner eighty → Within binary64 (width_of lane (sign_of right) inner s) widest
+pub width-most : (lane : Lane) (right : Bool) (inner s : Float) → ExtentWithin lane s → Within binary64 inner eighty → Within binary64 (width_of lane (sign_of right) inner s) widest
 unfolding width_of
 width-most lane right inner s e w = by_kind lane.border e.width e.border
   where

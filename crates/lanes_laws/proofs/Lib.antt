@@ -3,12 +3,12 @@ pub mod StationBounds
 pub mod StripBounds
 pub mod LateralBounds
 pub mod AdmittedRoad
-pub mod WidthsKept
 pub mod BordersKept
 pub mod LaneSizesKept
 pub mod RoadHeights
 pub mod WholeSizes
 pub mod BorderHeights
+pub mod WidthsKept
 pub mod Quotients
 pub mod LaneHeights
 pub mod HeightsKept
